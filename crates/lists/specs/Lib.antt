@@ -1,0 +1,3 @@
+-- The shared definitions on lists. Their laws stand in proofs/.
+pub mod Lists
+pub mod Parts

@@ -1,0 +1,128 @@
+-- Sets in rank order. Under a rank table that is a permutation, `ordered` keeps what a set is: its members, its length,
+-- whether it is empty, and whether it is contained in another. All sets here have items below T.
+use Prim.Native.Nat.{ℕ, _<_}
+use mathlib.Core.Path.{_≡_, refl, sym, ap, subst, _∙_}
+use mathlib.Core.List.{List, [], _∷_}
+use mathlib.Core.Bool.{Bool, true, false, not, _&&_}
+use native.Mathlib.Omega.{arith}
+use lib.Dec.{eqb, ltb, leb}
+use lib.ListN.{length, getD}
+use borrow.Author.Tests.{eqb-true, eq-eqb, ltb-true, lt-ltb, not-true}
+use Rattle.lists.specs.Lists.{one, all, any, count, memb, subset, distinct, upto, rising}
+use Rattle.lists.proofs.Bools.{and-left, and-right, and-both, true-false, same-test, refuted}
+use Rattle.lists.proofs.Membership.{memb-head, memb-nil}
+use Rattle.lists.proofs.Throughout.{all-elim, any-intro, any-elim, subset-elim, subset-intro, all-weaken}
+use Rattle.lists.proofs.Counting.{count-none, count-or, count-distinct}
+use Rattle.lists.proofs.Filtering.{length-keep, keep-none, memb-keep}
+use Rattle.lists.proofs.Ranges.{memb-upto}
+use Rattle.lists.proofs.Rising.{rising-keep, rising-range, rising-distinct}
+use Rattle.sets.specs.Limits.{maxSetLength}
+use Rattle.sets.specs.Collections.{setsOf, goodItems, firstBad}
+use Rattle.sets.specs.Ordered.{isPermutation, ordered}
+use Rattle.sets.specs.declared.Verdict.the-variants.{Good}
+use Rattle.sets.proofs.Good.{all-good}
+use Rattle.sets.proofs.Permutation.{permutation-below, permutation-injective}
+
+-- whether every item of a set is below T
+abbrev pub below : ℕ → List ℕ → Bool
+below T set = all (λ i. ltb i T) set
+
+-- the items of a collection without a bad set are below T
+pub items-below : (T : ℕ) (ends items : List ℕ) → firstBad T ends items ≡ Good → all (below T) (setsOf ends items) ≡ true
+items-below T ends items good =
+    all-weaken (goodItems T) (below T) (setsOf ends items)
+    (λ set passes.
+    and-left (below T set) (rising set) (and-right (leb (length set) maxSetLength) (below T set && rising set) passes))
+    (all-good T ends items good)
+
+-- no table or set at all is asked for: the ranks of a set rise, and are those below T that an item has
+pub ordered-rising : (T : ℕ) (ranks set : List ℕ) → rising (ordered T ranks set) ≡ true
+unfolding ordered
+ordered-rising T ranks set = rising-keep _ (upto T) (rising-range 0 T)
+
+pub memb-ordered : (T : ℕ) (ranks set : List ℕ) (r : ℕ)
+    → memb r (ordered T ranks set) ≡ (ltb r T && any (λ i. eqb (getD ranks i 0) r) set)
+unfolding ordered
+memb-ordered T ranks set r =
+    memb-keep (λ r. any (λ i. eqb (getD ranks i 0) r) set) (upto T) r
+    ∙ ap (λ (b : Bool). b && any (λ i. eqb (getD ranks i 0) r) set) (memb-upto T r)
+
+pub ordered-nil : (T : ℕ) (ranks : List ℕ) → ordered T ranks [] ≡ []
+unfolding ordered any
+ordered-nil T ranks = keep-none (λ (r : ℕ). any (λ (i : ℕ). eqb (getD ranks i 0) r) []) (upto T) (λ r. refl)
+
+module _ (T : ℕ) (ranks : List ℕ) (permutation : isPermutation T ranks ≡ true) where
+  -- an item below T is in a set exactly when its rank is among the set's ranks
+  pub rank-there : (set : List ℕ) (i : ℕ) → i < T → memb i set ≡ true → memb (getD ranks i 0) (ordered T ranks set) ≡ true
+  rank-there set i h m =
+      memb-ordered T ranks set (getD ranks i 0)
+      ∙ and-both
+      (lt-ltb (getD ranks i 0) T (permutation-below T ranks permutation i h))
+      (any-intro (λ (j : ℕ). eqb (getD ranks j 0) (getD ranks i 0)) set i m (eq-eqb (getD ranks i 0) (getD ranks i 0) refl))
+
+  pub item-there : (set : List ℕ) → below T set ≡ true → (i : ℕ) → i < T → memb (getD ranks i 0) (ordered T ranks set) ≡ true
+      → memb i set ≡ true
+  item-there set b i h m =
+      any-elim (λ (j : ℕ). eqb (getD ranks j 0) (getD ranks i 0)) set
+      (and-right (ltb (getD ranks i 0) T) _ (sym (memb-ordered T ranks set (getD ranks i 0)) ∙ m))
+      (λ j there e.
+      let low : j < T = ltb-true j T (all-elim (λ (k : ℕ). ltb k T) set b j there) in
+      subst (λ (k : ℕ). memb k set ≡ true) (permutation-injective T ranks permutation j i low h (eqb-true (getD ranks j 0) (getD ranks i 0) e)) there)
+
+  -- containment may be decided on ranks
+  pub subset-ordered : (a b : List ℕ) → below T a ≡ true → below T b ≡ true
+      → subset (ordered T ranks a) (ordered T ranks b) ≡ subset a b
+  subset-ordered a b la lb =
+      same-test (subset (ordered T ranks a) (ordered T ranks b)) (subset a b)
+      (λ s. subset-intro a b (λ i m.
+      let low : i < T = ltb-true i T (all-elim (λ (k : ℕ). ltb k T) a la i m) in
+      item-there b lb i low (subset-elim (ordered T ranks a) (ordered T ranks b) s (getD ranks i 0) (rank-there a i low m))))
+      (λ s. subset-intro (ordered T ranks a) (ordered T ranks b) (λ r m.
+      any-elim (λ (i : ℕ). eqb (getD ranks i 0) r) a (and-right (ltb r T) _ (sym (memb-ordered T ranks a r) ∙ m))
+      (λ i there e.
+      let low : i < T = ltb-true i T (all-elim (λ (k : ℕ). ltb k T) a la i there) in
+      subst (λ (k : ℕ). memb k (ordered T ranks b) ≡ true) (eqb-true (getD ranks i 0) r e)
+      (rank-there b i low (subset-elim a b s i there)))))
+
+  -- a set that isn't empty has a rank
+  pub ordered-cons : (x : ℕ) (set : List ℕ) → x < T → ordered T ranks (x ∷ set) ≡ [] → ⊥
+  ordered-cons x set h e =
+      memb-nil (getD ranks x 0)
+      (subst (λ (l : List ℕ). memb (getD ranks x 0) l ≡ true) e (rank-there (x ∷ set) x h (memb-head x set)))
+
+  -- no item of a set without x has the rank of x
+  rank-elsewhere : (x : ℕ) (set : List ℕ) → x < T → below T set ≡ true → memb x set ≡ false
+      → (r : ℕ) → eqb (getD ranks x 0) r ≡ true → any (λ i. eqb (getD ranks i 0) r) set ≡ false
+  rank-elsewhere x set h b absent r e =
+      refuted (any (λ i. eqb (getD ranks i 0) r) set) (λ a.
+      any-elim (λ (i : ℕ). eqb (getD ranks i 0) r) set a (λ i there k.
+      let low : i < T = ltb-true i T (all-elim (λ (k : ℕ). ltb k T) set b i there) in
+      let alike = permutation-injective T ranks permutation i x low h (eqb-true (getD ranks i 0) r k ∙ sym (eqb-true (getD ranks x 0) r e)) in
+      true-false (subst (λ (k : ℕ). memb k set ≡ true) alike there) absent))
+
+  ranks-counted : (set : List ℕ) → below T set ≡ true → distinct set ≡ true
+      → count (λ r. any (λ i. eqb (getD ranks i 0) r) set) (upto T) ≡ length set
+  unfolding any distinct all
+  ranks-counted [] b d = count-none (λ (r : ℕ). any (λ (i : ℕ). eqb (getD ranks i 0) r) []) (upto T) (λ r. refl)
+  ranks-counted (x ∷ set) b d =
+      let low : x < T = ltb-true x T (and-left (ltb x T) (below T set) b) in
+      let absent : memb x set ≡ false = not-true (memb x set) (and-left (not (memb x set)) (distinct set) d) in
+      let below-rest = and-right (ltb x T) (below T set) b in
+      let apart = count-or (λ (r : ℕ). eqb (getD ranks x 0) r) (λ (r : ℕ). any (λ i. eqb (getD ranks i 0) r) set) (upto T)
+      (rank-elsewhere x set low below-rest absent) in
+      let first = count-distinct (getD ranks x 0) (upto T) (rising-distinct (upto T) (rising-range 0 T)) in
+      let there : memb (getD ranks x 0) (upto T) ≡ true =
+      memb-upto T (getD ranks x 0) ∙ lt-ltb (getD ranks x 0) T (permutation-below T ranks permutation x low) in
+      let rest = ranks-counted set below-rest (and-right (not (memb x set)) (distinct set) d) in
+      let single : one (memb (getD ranks x 0) (upto T)) ≡ 1 = ap one there in
+      omega (arith, apart, first, rest, single)
+
+  -- a set without repeats has as many ranks as items
+  pub length-ordered-distinct : (set : List ℕ) → below T set ≡ true → distinct set ≡ true
+      → length (ordered T ranks set) ≡ length set
+  unfolding ordered
+  length-ordered-distinct set b d =
+      length-keep (λ (r : ℕ). any (λ (i : ℕ). eqb (getD ranks i 0) r) set) (upto T) ∙ ranks-counted set b d
+
+  pub length-ordered : (set : List ℕ) → below T set ≡ true → rising set ≡ true → length (ordered T ranks set) ≡ length set
+  length-ordered set b r = length-ordered-distinct set b (rising-distinct set r)

@@ -1,0 +1,215 @@
+// Collections of sets, the settings of a join, and the answers of the public operations: the types that the crates
+// above share, and the two tests that every operation begins with. What each means is defined in specs/.
+
+// The greatest count of items, T.
+pub const MAX_ITEMS: u32 = 4096;
+// The greatest number of sets in a collection.
+pub const MAX_SETS: usize = 4096;
+// The greatest number of item entries in a collection.
+pub const MAX_ENTRIES: usize = 65535;
+// The greatest number of items in a set.
+pub const MAX_SET_LENGTH: usize = 255;
+// The greatest depth limit of a join.
+pub const MAX_LIMIT: u32 = 255;
+
+// The two collections of a join: left sets (kits) and right sets (stacks).
+pub enum Side {
+    Left,
+    Right,
+}
+
+// Why an operation gave no result: a row of the refusal table each. A `usize` is the byte place of the record at fault,
+// or the place of the bad set.
+pub enum Refusal {
+    Malformed(usize),
+    NumberUsed(usize),
+    TooMany(usize),
+    ShortOutput,
+    BadSet(Side, usize),
+    BadSettings,
+    ShortWork,
+    Spent,
+    ShortPairs,
+}
+
+// The four weights of the weighed merge rule.
+pub struct Weights {
+    pub a: f64,
+    pub b: f64,
+    pub g: f64,
+    pub h: f64,
+}
+
+// The merge rule: what decides at a node whether the walk goes on.
+pub enum Rule {
+    Merge,
+    Check,
+    Weighed(Weights),
+}
+
+// The six counts of a join.
+pub struct Counts {
+    pub pairs: u32,
+    pub by_path: u32,
+    pub confirmed: u32,
+    pub checks: u32,
+    pub dropped: u32,
+    pub false_drops: u32,
+}
+
+// What a join answers.
+pub enum JoinAnswer {
+    Joined(Counts),
+    Refused(Refusal),
+}
+
+// What the order of items answers.
+pub enum OrderAnswer {
+    Ordered,
+    Refused(Refusal),
+}
+
+// How much a loader filled: sets and item entries a side, and tags.
+pub struct Loaded {
+    pub left_sets: usize,
+    pub right_sets: usize,
+    pub left_entries: usize,
+    pub right_entries: usize,
+    pub tags: usize,
+}
+
+// What the loader answers.
+pub enum LoadAnswer {
+    Loaded(Loaded),
+    Refused(Refusal),
+}
+
+// What the writer answers: the length of what it wrote.
+pub enum WriteAnswer {
+    Written(usize),
+    Refused(Refusal),
+}
+
+// Whether a collection has a bad set, and the place of the first.
+pub enum Verdict {
+    Good,
+    Bad(usize),
+}
+
+ghost use mathlib.Core.Path.{_≡_};
+ghost use mathlib.Core.Bool.{_&&_};
+ghost use Prim.Native.Nat.{_≤_, min};
+ghost use lib.Dec.{ltb};
+ghost use lib.ListN.{length, replicate};
+ghost use Rattle.lists.specs.Lists.{all, rising, distinct};
+ghost use Rattle.sets.specs.Limits.{halfWords};
+ghost use Rattle.sets.specs.Ordered.{isPermutation};
+ghost use Rattle.sets.specs.Collections.{between, goodItems, goodEnd, firstBad, entries};
+
+// Whether the items of a part are below t and strictly rise: `least` is the least that the next may be.
+fn rises_below(t: u32, start: usize, end: usize, items: &[u16]) -> bool
+    requires { ⌜ end ≤ length (now items) ⌝ }
+    ensures { λ r. ⌜ r ≡ (all (λ i. ltb i t) (between start end (now (items .entry)))
+        && rising (between start end (now (items .entry)))) ⌝ }
+{
+    let mut i = start;
+    let mut least: u32 = 0;
+    while i < end {
+        let x = items[i] as u32;
+        if x < least {
+            return false;
+        }
+        if t <= x {
+            return false;
+        }
+        least = x + 1;
+        i += 1;
+    }
+    true
+}
+
+// Whether a set is in order, given the end before it and its own.
+fn good_set(t: u32, start: usize, end: usize, items: &[u16]) -> bool
+    ensures { λ r. ⌜ r ≡ (goodEnd start end (now (items .entry)) && goodItems t (between start end (now (items .entry)))) ⌝ }
+{
+    if end < start {
+        return false;
+    }
+    if MAX_ENTRIES < end {
+        return false;
+    }
+    if items.len() < end {
+        return false;
+    }
+    if MAX_SET_LENGTH < end - start {
+        return false;
+    }
+    rises_below(t, start, end, items)
+}
+
+// The first bad set of a collection.
+pub fn first_bad(t: u32, ends: &[u32], items: &[u16]) -> Verdict
+    ensures { λ r. ⌜ r ≡ firstBad t (now (ends .entry)) (now (items .entry)) ⌝ }
+{
+    let mut k: usize = 0;
+    let mut start: usize = 0;
+    while k < ends.len() {
+        let end = ends[k] as usize;
+        if MAX_SETS <= k {
+            return Verdict::Bad(k);
+        }
+        if !good_set(t, start, end, items) {
+            return Verdict::Bad(k);
+        }
+        start = end;
+        k += 1;
+    }
+    Verdict::Good
+}
+
+// How many item entries a collection has.
+pub fn count_entries(ends: &[u32]) -> usize
+    ensures { λ r. ⌜ r ≡ entries (now (ends .entry)) ⌝ }
+{
+    let n = ends.len();
+    if n == 0 {
+        return 0;
+    }
+    ends[n - 1] as usize
+}
+
+// Whether the ranks are below t, no two alike. `seen` has a place for each rank that can occur, none marked yet.
+fn distinct_below(t: u32, ranks: &[u16], seen: &mut [u8]) -> bool
+    requires { ⌜ now seen ≡ replicate (length (now seen)) 0 ⌝ ∗ ⌜ min t halfWords ≤ length (now seen) ⌝ }
+    ensures { λ r. ⌜ r ≡ (all (λ x. ltb x t) (now (ranks .entry)) && distinct (now (ranks .entry))) ⌝ }
+{
+    let top = t as usize;
+    let mut i: usize = 0;
+    while i < ranks.len() {
+        let x = ranks[i] as usize;
+        if top <= x {
+            return false;
+        }
+        if seen[x] != 0 {
+            return false;
+        }
+        seen[x] = 1;
+        i += 1;
+    }
+    true
+}
+
+// Whether a rank table is a permutation of 0 .. t-1. A small table pays for few marks only.
+pub fn is_permutation(t: u32, ranks: &[u16]) -> bool
+    ensures { λ r. ⌜ r ≡ isPermutation t (now (ranks .entry)) ⌝ }
+{
+    if ranks.len() != t as usize {
+        return false;
+    }
+    if t <= MAX_ITEMS {
+        let mut few = [0u8; 4096];
+        return distinct_below(t, ranks, &mut few);
+    }
+    let mut many = [0u8; 65536];
+    distinct_below(t, ranks, &mut many)
+}
