@@ -1,0 +1,95 @@
+-- A pair is contained exactly when it comes by path or in a check that confirms it: for any limit, rule and weights.
+-- A right set that holds the first rank of a left set is seen, since its least rank is at most that one; so the walk never
+-- leaves a contained pair behind, wherever it ends. A set's ranks are its items' under a permutation, in rising order.
+use Prim.Native.Nat.{ℕ, suc}
+use mathlib.Core.Path.{_≡_, refl, sym, ap, _∙_}
+use mathlib.Core.List.{List, [], _∷_}
+use mathlib.Core.Bool.{Bool, true, false, cond, _&&_, _||_, false≢true}
+use lib.ListN.{length, take}
+use lib.Seq.{take-length}
+use borrow.Author.Tests.{le-leb}
+use Rattle.lists.specs.Lists.{all, memb, subset, rising}
+use Rattle.lists.proofs.Bools.{and-both, and-right, same-test}
+use Rattle.lists.proofs.Membership.{memb-head, memb-nil}
+use Rattle.lists.proofs.Throughout.{subset-elim, all-take}
+use Rattle.lists.proofs.Rising.{rising-least}
+use Rattle.sets.specs.Collections.{contained}
+use Rattle.sets.specs.Ordered.{isPermutation}
+use Rattle.sets.specs.Marks.{signature, drops}
+use Rattle.sets.proofs.Ordered.{below, ordered-rising, subset-ordered}
+use Rattle.sets.proofs.Signatures.{contained-not-dropped}
+use Rattle.join_spec.specs.Query.{Query, inOrder}
+use Rattle.join_spec.specs.Node.{seen}
+use Rattle.join_spec.specs.Walk.{Ending, merged, checkedAfter, isCandidate, outcomeAfter, endingIn, outcome}
+use Rattle.join_spec.specs.Walk.{notMet, byPath, dropped, falseDrop, confirmed}
+use Rattle.join_spec.specs.Counting.{isByPath, isConfirmed}
+
+-- a right set that holds a rank is seen at that rank
+pub holder-seen : (r : ℕ) (right : List ℕ) → rising right ≡ true → memb r right ≡ true → seen r right ≡ true
+unfolding seen
+holder-seen r [] rises there = memb-nil r there
+holder-seen r (x ∷ xs) rises there = le-leb x r (rising-least x xs rises r there)
+
+-- so after one rank or more, holding the ranks is enough to be a candidate
+pub candidate-held : (d r : ℕ) (ranks right : List ℕ) → rising right ≡ true
+    → isCandidate (suc d) (r ∷ ranks) right ≡ subset (take (suc d) (r ∷ ranks)) right
+unfolding isCandidate
+candidate-held d r ranks right rises =
+    same-test (seen r right && subset (take (suc d) (r ∷ ranks)) right) (subset (take (suc d) (r ∷ ranks)) right)
+    (λ both. and-right (seen r right) (subset (take (suc d) (r ∷ ranks)) right) both)
+    (λ held.
+    and-both
+    (holder-seen r right rises (subset-elim (r ∷ take d ranks) right held r (memb-head r (take d ranks)))) held)
+
+-- a right set that holds a whole left set is a candidate after any number of its ranks
+pub candidate-contained : (d : ℕ) (left right : List ℕ) → rising right ≡ true → subset left right ≡ true
+    → isCandidate d left right ≡ true
+unfolding isCandidate
+candidate-contained d [] right rises held = refl
+candidate-contained d (r ∷ ranks) right rises held =
+    and-both
+    (holder-seen r right rises (subset-elim (r ∷ ranks) right held r (memb-head r ranks)))
+    (all-take (λ (x : ℕ). memb x right) d (r ∷ ranks) held)
+
+-- the candidates after all ranks are the right sets that hold them
+pub candidate-whole : (left right : List ℕ) → rising right ≡ true → isCandidate (length left) left right ≡ subset left right
+unfolding isCandidate all
+candidate-whole [] right rises = refl
+candidate-whole (r ∷ ranks) right rises =
+    candidate-held (length ranks) r ranks right rises ∙ ap (λ (l : List ℕ). subset (r ∷ l) right) (take-length ranks)
+
+-- what a check finds, from its three tests
+checked : (candidate drop holds : Bool) → (holds ≡ true → candidate ≡ true) → (holds ≡ true → drop ≡ false)
+    → let o = cond candidate (cond drop dropped (cond holds confirmed falseDrop)) notMet in
+    holds ≡ (isByPath o || isConfirmed o)
+checked true true true c d = absurd (false≢true (sym (d refl)))
+checked true true false c d = refl
+checked true false true c d = refl
+checked true false false c d = refl
+checked false drop true c d = absurd (false≢true (c refl))
+checked false drop false c d = refl
+
+merging : (holds : Bool) → let o = cond holds byPath notMet in holds ≡ (isByPath o || isConfirmed o)
+merging true = refl
+merging false = refl
+
+-- whatever the ending, a pair is contained exactly when it comes by path or is confirmed
+pub met-after : (e : Ending) (leftRanks rightRanks left right : List ℕ)
+    → rising rightRanks ≡ true → subset leftRanks rightRanks ≡ contained left right
+    → let o = outcomeAfter e leftRanks rightRanks left right in contained left right ≡ (isByPath o || isConfirmed o)
+met-after merged leftRanks rightRanks left right rises alike =
+    rw (candidate-whole leftRanks rightRanks rises, alike) (merging (contained left right))
+met-after (checkedAfter d) leftRanks rightRanks left right rises alike =
+    checked (isCandidate d leftRanks rightRanks) (drops (signature left) (signature right)) (contained left right)
+    (λ holds. candidate-contained d leftRanks rightRanks rises (alike ∙ holds))
+    (λ holds. contained-not-dropped left right holds)
+
+-- and so for the ending that a query gives
+pub contained-met : (q : Query) (left right : List ℕ) → isPermutation (q .T) (q .ranks) ≡ true
+    → below (q .T) left ≡ true → below (q .T) right ≡ true
+    → contained left right ≡ (isByPath (outcome q left right) || isConfirmed (outcome q left right))
+unfolding outcome
+contained-met q left right permutation leftBelow rightBelow =
+    met-after (endingIn q left) (inOrder q left) (inOrder q right) left right
+    (ordered-rising (q .T) (q .ranks) right)
+    (subset-ordered (q .T) (q .ranks) permutation left right leftBelow rightBelow)

@@ -1,0 +1,30 @@
+-- A join's accepted input: the items' count and ranks, the settings that bear on the walk, and both collections as sets.
+use Prim.Native.Nat.{ℕ}
+use mathlib.Core.List.{List, map}
+use Rattle.sets.specs.Collections.{setsOf}
+use Rattle.sets.specs.Ordered.{ordered}
+use Rattle.sets.specs.declared.Rule.{Rule}
+
+pub record Query : Type 0 where
+  pub T : ℕ
+  pub ranks : List ℕ
+  pub limit : ℕ
+  pub rule : Rule
+  pub lefts : List (List ℕ)
+  pub rights : List (List ℕ)
+
+-- the query of two collections and settings as they are lent
+abbrev pub query : ℕ → List ℕ → List ℕ → List ℕ → List ℕ → ℕ → List ℕ → Rule → Query
+query T leftEnds leftItems rightEnds rightItems limit ranks rule =
+    record {
+      T = T;
+      ranks = ranks;
+      limit = limit;
+      rule = rule;
+      lefts = setsOf leftEnds leftItems;
+      rights = setsOf rightEnds rightItems;
+    }
+
+-- a set in order of rising rank
+abbrev pub inOrder : Query → List ℕ → List ℕ
+inOrder q set = ordered (q .T) (q .ranks) set

@@ -1,0 +1,63 @@
+-- The walk of one left set along its own prefixes, and what becomes of it with each right set. No tree occurs: where a left set's
+-- walk ends depends on its prefixes and on the rule's three numbers alone. Sets are in rank order where they are called ranks.
+use Prim.Native.Nat.{ℕ, zero, suc, _-_}
+use mathlib.Core.List.{List, [], _∷_, map}
+use mathlib.Core.Bool.{Bool, true, cond, _&&_}
+use lib.Dec.{eqb}
+use lib.ListN.{length, take}
+use Rattle.lists.specs.Lists.{subset}
+use Rattle.sets.specs.Collections.{contained}
+use Rattle.sets.specs.Marks.{signature, drops}
+use Rattle.join_spec.specs.Query.{Query, inOrder}
+use Rattle.join_spec.specs.Node.{seen, goesOnAt}
+
+-- how the walk of a left set ends: every rank of it was on the path, or it is checked after so many ranks
+pub data Ending : Type 0 where
+  merged : Ending
+  checkedAfter : ℕ → Ending
+
+-- the ending from the node of depth d on, with n further levels within the limit
+unfoldable pub endingFrom : (List ℕ → Bool) → ℕ → ℕ → List ℕ → Ending
+endingFrom goes zero d ranks =
+    cond (goes (take d ranks)) (cond (eqb d (length ranks)) merged (checkedAfter d)) (checkedAfter (d - 1))
+endingFrom goes (suc n) d ranks =
+    let further = endingFrom goes n (suc d) ranks in
+    cond (goes (take d ranks)) (cond (eqb d (length ranks)) merged further) (checkedAfter (d - 1))
+
+-- the ending of a left set; an empty one has no node
+unfoldable pub ending : (List ℕ → Bool) → ℕ → List ℕ → Ending
+ending goes limit [] = merged
+ending goes limit (r ∷ ranks) = endingFrom goes (limit - 1) 1 (r ∷ ranks)
+
+-- whether a right set is a candidate after the first d ranks of a left set: seen, and holding them; all are for an empty one
+unfoldable pub isCandidate : ℕ → List ℕ → List ℕ → Bool
+isCandidate d [] right = true
+isCandidate d (r ∷ ranks) right = seen r right && subset (take d (r ∷ ranks)) right
+
+-- what becomes of a left and a right set
+pub data Outcome : Type 0 where
+  notMet : Outcome
+  byPath : Outcome
+  dropped : Outcome
+  falseDrop : Outcome
+  confirmed : Outcome
+
+-- a check compares signatures, then items
+abbrev pub check : List ℕ → List ℕ → Outcome
+check left right = cond (drops (signature left) (signature right)) dropped (cond (contained left right) confirmed falseDrop)
+
+-- the outcome after an ending; the sets by rank, then by item
+abbrev pub outcomeAfter : Ending → List ℕ → List ℕ → List ℕ → List ℕ → Outcome
+outcomeAfter merged leftRanks rightRanks left right =
+    cond (isCandidate (length leftRanks) leftRanks rightRanks) byPath notMet
+outcomeAfter (checkedAfter d) leftRanks rightRanks left right =
+    cond (isCandidate d leftRanks rightRanks) (check left right) notMet
+
+-- the ending of a left set in a query
+unfoldable pub endingIn : Query → List ℕ → Ending
+endingIn q left =
+    ending (goesOnAt (q .rule) (map (inOrder q) (q .lefts)) (map (inOrder q) (q .rights))) (q .limit) (inOrder q left)
+
+-- the outcome of a left and a right set in a query
+unfoldable pub outcome : Query → List ℕ → List ℕ → Outcome
+outcome q left right = outcomeAfter (endingIn q left) (inOrder q left) (inOrder q right) left right
