@@ -1,0 +1,53 @@
+-- The build as a whole: where the regions lie, each beginning where the one before it ends, and what an accepted input gives the build.
+use Prim.Native.Nat.{ℕ, _+_, _*_, _≤_}
+use mathlib.Core.Path.{_≡_}
+use mathlib.Core.List.{List}
+use mathlib.Core.Bool.{true}
+use lib.ListN.{length}
+use Rattle.sets.specs.Limits.{maxItems, maxSets, maxEntries}
+use Rattle.sets.specs.Collections.{firstBad}
+use Rattle.sets.specs.Ordered.{isPermutation}
+use Rattle.sets.specs.declared.Verdict.the-variants.{Good}
+use Rattle.join_spec.specs.Answer.{workNeeded}
+use Rattle.join_index.specs.Sorting.{sortedAt}
+use Rattle.join_index.specs.Stages.{startsAt, ranksAt, sideEnd}
+use Rattle.join_index.specs.declared.Layout.{Layout}
+
+-- the sizes of an accepted input: items, sets and item entries of each side
+pub record Sizes (T lefts rights leftEntries rightEntries : ℕ) : Type 0 where
+  pub items : T ≤ maxItems
+  pub leftSets : lefts ≤ maxSets
+  pub rightSets : rights ≤ maxSets
+  pub leftFew : leftEntries ≤ maxEntries
+  pub rightFew : rightEntries ≤ maxEntries
+
+-- where the left side's regions begin, and the offsets of the order
+abbrev pub leftBase : Layout → ℕ → ℕ → ℕ → ℕ
+leftBase lay T rights rightEntries = sideEnd (lay .offsets) T rightEntries rights
+
+abbrev pub orderBase : Layout → ℕ → ℕ
+orderBase lay rights = lay .«by_least» + rights
+
+-- the regions from the first word on: the right side, the left side, the right sets by least rank, the left sets in order, the
+-- signatures, and above them the slots
+pub record LaidOut (T lefts rights leftEntries rightEntries : ℕ) (lay : Layout) : Type 0 where
+  pub offsets : lay .offsets ≡ 0
+  pub index : lay .index ≡ sortedAt (lay .offsets) T
+  pub rightStarts : lay .«right_starts» ≡ startsAt (lay .offsets) T rightEntries
+  pub rightRanks : lay .«right_ranks» ≡ ranksAt (lay .offsets) T rightEntries rights
+  pub leftStarts : lay .«left_starts» ≡ startsAt (leftBase lay T rights rightEntries) T leftEntries
+  pub leftRanks : lay .«left_ranks» ≡ ranksAt (leftBase lay T rights rightEntries) T leftEntries lefts
+  pub leastOffsets : lay .«least_offsets» ≡ sideEnd (leftBase lay T rights rightEntries) T leftEntries lefts
+  pub byLeast : lay .«by_least» ≡ sortedAt (lay .«least_offsets») (T + 1)
+  pub order : lay .order ≡ sortedAt (orderBase lay rights) (T + 1)
+  pub rightSignatures : lay .«right_signatures» ≡ lay .order + lefts
+  pub leftSignatures : lay .«left_signatures» ≡ lay .«right_signatures» + 2 * rights
+  pub slots : lay .slots ≡ lay .«left_signatures» + 2 * lefts
+
+-- collections without a bad set, a rank table and a work list that is long enough
+pub record BuildRoom (T : ℕ) (leftEnds leftItems rightEnds rightItems ranks w : List ℕ) : Type 0 where
+  pub items : T ≤ maxItems
+  pub permutation : isPermutation T ranks ≡ true
+  pub leftGood : firstBad T leftEnds leftItems ≡ Good
+  pub rightGood : firstBad T rightEnds rightItems ≡ Good
+  pub room : workNeeded T leftEnds rightEnds ≤ length w

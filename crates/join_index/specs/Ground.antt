@@ -1,0 +1,79 @@
+-- What the regions of the work list hold while the walk goes on: the facts that every step of the walk may use. All of it lies
+-- below the candidate slots, which alone change.
+use Prim.Native.Nat.{ℕ, suc, _+_, _*_, _^_, _≤_, _<_}
+use mathlib.Core.Path.{_≡_}
+use mathlib.Core.List.{List, []}
+use mathlib.Core.Bool.{Bool, _&&_}
+use lib.ListN.{length, getD}
+use Rattle.lists.specs.Lists.{count, keep, memb, subset, upto, slice}
+use Rattle.sets.specs.Limits.{maxSets, maxItems}
+use Rattle.sets.specs.Collections.{contained}
+use Rattle.sets.specs.Marks.{signature}
+use Rattle.join_spec.specs.Query.{Query}
+use Rattle.join_spec.specs.Node.{seen}
+use Rattle.join_index.specs.Grouping.{leftAt, rightAt, orderOf}
+use Rattle.join_index.specs.Holding.{Holds}
+use Rattle.join_index.specs.declared.Layout.{Layout}
+
+-- two words, low then high, as one number
+abbrev pub double : List ℕ → ℕ → ℕ
+double w i = getD w i 0 + 2 ^ 32 * getD w (i + 1) 0
+
+-- the list holds, in some order and each once, the places below n that pass the test
+abbrev pub Listing : ℕ → (ℕ → Bool) → List ℕ → Type 0
+Listing n test list = (p : ℕ → Bool) → count p list ≡ count (λ s. test s && p s) (upto n)
+
+-- where the ranks of set k begin
+abbrev pub startOf : List ℕ → ℕ → ℕ → ℕ → ℕ
+startOf w starts ranks k = ranks + getD w (starts + k) 0
+
+-- the places of the right sets holding rank r, rising
+abbrev pub invertedList : Query → ℕ → List ℕ
+invertedList q r = keep (λ s. memb r (rightAt q s)) (upto (length (q .rights)))
+
+-- where the inverted list of rank r begins, counted from its region
+abbrev pub offsetOf : Layout → List ℕ → ℕ → ℕ
+offsetOf lay w r = getD w (lay .offsets + r) 0
+
+-- how many right sets, first in the list by least rank, are seen at first rank r
+abbrev pub seenCount : Layout → List ℕ → ℕ → ℕ
+seenCount lay w r = getD w (lay .«least_offsets» + suc r) 0
+
+-- w holds each region of the layout for the query
+pub record Ground (lay : Layout) (q : Query) (w : List ℕ) : Type 0 where
+  pub left :
+      (k : ℕ) → k < length (q .lefts)
+      → Holds w (lay .slots) (startOf w (lay .«left_starts») (lay .«left_ranks») k)
+      (startOf w (lay .«left_starts») (lay .«left_ranks») (suc k)) (leftAt q k)
+  pub right :
+      (s : ℕ) → s < length (q .rights)
+      → Holds w (lay .slots) (startOf w (lay .«right_starts») (lay .«right_ranks») s)
+      (startOf w (lay .«right_starts») (lay .«right_ranks») (suc s)) (rightAt q s)
+  pub leftSignature : (k : ℕ) → k < length (q .lefts) → double w (lay .«left_signatures» + 2 * k) ≡ signature (getD (q .lefts) k [])
+  pub rightSignature : (s : ℕ) → s < length (q .rights)
+      → double w (lay .«right_signatures» + 2 * s) ≡ signature (getD (q .rights) s [])
+  pub inverted :
+      (r : ℕ) → r < q .T
+      → Holds w (lay .slots) (lay .index + offsetOf lay w r) (lay .index + offsetOf lay w (suc r)) (invertedList q r)
+  pub seenFirst :
+      (r : ℕ) → r < q .T
+      → Listing (length (q .rights)) (λ s. seen r (rightAt q s)) (slice (lay .«by_least») (lay .«by_least» + seenCount lay w r) w)
+  pub ordered : Holds w (lay .slots) (lay .order) (lay .order + length (q .lefts)) (orderOf q)
+  -- the regions that are read by place lie below the slots
+  pub leftStartsWithin : lay .«left_starts» + suc (length (q .lefts)) ≤ lay .slots
+  pub rightStartsWithin : lay .«right_starts» + suc (length (q .rights)) ≤ lay .slots
+  pub leftSignaturesWithin : lay .«left_signatures» + 2 * length (q .lefts) ≤ lay .slots
+  pub rightSignaturesWithin : lay .«right_signatures» + 2 * length (q .rights) ≤ lay .slots
+  pub offsetsWithin : lay .offsets + suc (q .T) ≤ lay .slots
+  pub leastOffsetsWithin : lay .«least_offsets» + suc (q .T) ≤ lay .slots
+  pub seenWithin : (r : ℕ) → r < q .T → lay .«by_least» + seenCount lay w r ≤ lay .slots
+  -- every slot lies within the work list
+  pub room : (r : ℕ) → r < q .T → lay .slots + offsetOf lay w (suc r) ≤ length w
+  -- ranks decide containment
+  pub faithful :
+      (k s : ℕ) → k < length (q .lefts) → s < length (q .rights)
+      → contained (getD (q .lefts) k []) (getD (q .rights) s []) ≡ subset (leftAt q k) (rightAt q s)
+  -- the sizes of the input
+  pub leftFew : length (q .lefts) ≤ maxSets
+  pub rightFew : length (q .rights) ≤ maxSets
+  pub itemsFew : q .T ≤ maxItems

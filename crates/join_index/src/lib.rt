@@ -1,0 +1,35 @@
+// The index of a join: everything the walk reads, laid out once in the lent work list. Both collections as ranks, their
+// signatures, the inverted index of the right sets, and the left sets in the order of their paths.
+
+pub mod build;
+mod keys;
+mod signatures;
+mod sort;
+
+// Where each region of the work list begins. None but the slots changes during the walk. Each pair of an offsets region and the
+// region it counts from is what one counting sort leaves behind.
+pub struct Layout {
+    // Where a rank's inverted list begins, counted from index (and from slots): one word a rank and one more.
+    pub offsets: usize,
+    // The inverted lists: for each rank the places of the right sets holding it, rising.
+    pub index: usize,
+    // Where a right set's ranks begin, counted from right_ranks: one word a set and one more.
+    pub right_starts: usize,
+    // The right sets' ranks, rising, set by set.
+    pub right_ranks: usize,
+    // The same of the left sets.
+    pub left_starts: usize,
+    pub left_ranks: usize,
+    // How many right sets have a least rank below a rank, an empty set counting as one with the rank after the last: one word a
+    // rank and two more.
+    pub least_offsets: usize,
+    // The right sets by least rank, and then the empty ones.
+    pub by_least: usize,
+    // The left sets, so that those with a common prefix stand together.
+    pub order: usize,
+    // Two words a set, low then high.
+    pub right_signatures: usize,
+    pub left_signatures: usize,
+    // A slot for each rank, as long as its inverted list: the candidates of the paths that end in it.
+    pub slots: usize,
+}
