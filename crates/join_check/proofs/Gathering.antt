@@ -1,0 +1,151 @@
+-- Runs of left sets, checked run by run: the invariant of `check_run` and of `gather`, with its start, step and end. A left set
+-- of a run can be checked where the run can, and so can each part of it.
+use Prim.Native.Nat.{ℕ, _+_, _-_, _*_, _≤_, _<_}
+use mathlib.Core.Path.{_≡_, refl, sym, ap, subst, _∙_}
+use mathlib.Core.List.{List, [], _∷_}
+use mathlib.Core.Bool.{Bool}
+use native.Mathlib.Omega.{arith}
+use native.Mathlib.Nat.{add-mul, one-mul, zero-mul}
+use lib.ListN.{length}
+use Rattle.lists.specs.Lists.{sum, slice}
+use Rattle.lists.proofs.Throughout.{all-front, all-back}
+use Rattle.lists.proofs.Summing.{sum-append}
+use Rattle.lists.proofs.Slices.{all-slice}
+use Rattle.join_spec.specs.Query.{Query}
+use Rattle.join_spec.specs.Walk.{Outcome}
+use Rattle.join_spec.specs.Counting.{isConfirmed, isDropped, isFalse}
+use Rattle.join_index.specs.declared.Layout.{Layout}
+use Rattle.join_check.specs.declared.Tally.{Tally}
+use Rattle.join_check.specs.Words.{Word}
+use Rattle.join_check.specs.Asking.{LeftThere, RunThere}
+use Rattle.join_check.specs.Runs.{leftIn, run}
+use Rattle.join_check.specs.Checks.{rowCount, runCount, checksIn, Tallied, holdFirst}
+use Rattle.join_check.specs.Checks.{RowThere, RunsThere, RowChecked, RunsChecked}
+use Rattle.join_check.proofs.Orders.{order-within, order-left, run-none, run-next, run-split}
+use Rattle.join_check.proofs.Tallying.{Leaving, leaving-start, leaving-step, leaving-end}
+
+module _ {lay : Layout} {q : Query} {w : List ℕ} {e lo hi from to : ℕ} (there : RunsThere lay q w e lo hi from to) where
+  pub runs-within : lay .order + hi ≤ length w
+  runs-within = omega (arith, order-within lay q w (there .places .index), there .within)
+
+  pub runs-left : (i k : ℕ) → i < hi → Word w (lay .order + i) k → LeftThere lay q w k
+  runs-left i k high word =
+      subst (λ (n : ℕ). LeftThere lay q w n) (sym (word .is))
+      (order-left lay q w (there .places .index) i (omega (arith, there .within)))
+
+  -- a left set of the run
+  pub runs-row : (i k : ℕ) → lo ≤ i → i < hi → Word w (lay .order + i) k → RowThere lay q w k e from to
+  runs-row i k low high word =
+      record {
+        left = runs-left i k high word;
+        places = there .places;
+        holding = ap (holdFirst q e (slice from to w)) (word .is)
+            ∙ all-slice (holdFirst q e (slice from to w)) (lay .order + lo) (lay .order + hi) w runs-within (there .holding)
+            (lay .order + i)
+            (omega arith) (omega arith);
+      }
+
+  -- a part of the run
+  pub runs-part : (i j : ℕ) → lo ≤ i → i ≤ j → j ≤ hi → RunsThere lay q w e i j from to
+  runs-part i j low some high =
+      let first = run-split lay w lo i hi low (omega arith) runs-within in
+      let then = run-split lay w i j hi some high runs-within in
+      let back = all-back (holdFirst q e (slice from to w)) (run lay w lo i) (run lay w i hi) (rw first at (there .holding)) in
+      record {
+        places = there .places;
+        within = omega (arith, there .within);
+        holding = all-front (holdFirst q e (slice from to w)) (run lay w i j) (run lay w j hi) (rw then at back);
+      }
+
+  pub runs-run : (i : ℕ) → i < hi → RunThere lay q w i hi
+  runs-run i more = record { index = there .places .index; some = more; within = there .within }
+
+tallied-same : {a b : (Outcome → Bool) → ℕ} {t r : Tally} → ((is : Outcome → Bool) → a is ≡ b is) → Tallied a t r → Tallied b t r
+tallied-same same tally =
+    record {
+      byPath = tally .byPath;
+      confirmed = omega (arith, same isConfirmed, tally .confirmed);
+      dropped = omega (arith, same isDropped, tally .dropped);
+      falseDrops = omega (arith, same isFalse, tally .falseDrops);
+    }
+
+sum-one : {A : Type 0} (f : A → ℕ) (x : A) → f x ≡ sum f (x ∷ [])
+unfolding sum
+sum-one f x = omega arith
+
+-- one row is a run of one
+pub row-runs : (lay : Layout) (w : List ℕ) (k e i from to : ℕ) (t r : Tally) → Word w (lay .order + i) k
+    → RowChecked lay w k e from to t r → RunsChecked lay w e i (i + 1) from to t r
+row-runs lay w k e i from to t r word row =
+    record {
+      grown =
+          let single : i + 1 - i ≡ 1 = omega arith in
+          let times : (i + 1 - i) * (to - from) ≡ to - from = ap (λ (n : ℕ). n * (to - from)) single ∙ one-mul (to - from) in
+          omega (arith, row .grown);
+      tallied = λ q there.
+          let one-left : run lay w i (i + 1) ≡ leftIn lay w i ∷ [] =
+          run-next lay w i (i + 1) (omega arith) (runs-within there)
+          ∙ ap (λ (l : List ℕ). leftIn lay w i ∷ l) (run-none lay w (i + 1) (i + 1) (omega arith))
+          in
+          tallied-same
+          (λ is.
+          ap (rowCount q is (slice from to w)) (word .is)
+          ∙ sum-one (rowCount q is (slice from to w)) (leftIn lay w i)
+          ∙ ap (runCount q is (slice from to w)) (sym one-left))
+          (row .tallied q (runs-row there i k (omega arith) (omega arith) word));
+    }
+
+pub record RunsLeft (lay : Layout) (w : List ℕ) (e lo hi from to : ℕ) (t r : Tally) (i : ℕ) : Type 0 where
+  pub low : lo ≤ i
+  pub grown : checksIn r + (hi - i) * (to - from) ≡ checksIn t + (hi - lo) * (to - from)
+  pub tallied :
+      (q : Query) → RunsThere lay q w e lo hi from to
+      → Leaving (λ is. runCount q is (slice from to w) (run lay w i hi))
+      (λ is. runCount q is (slice from to w) (run lay w lo hi)) t r
+
+module _ (lay : Layout) (w : List ℕ) (e lo hi from to : ℕ) (t : Tally) where
+  pub runs-start : RunsLeft lay w e lo hi from to t t lo
+  runs-start =
+      record {
+        low = omega arith;
+        grown = refl;
+        tallied = λ q there. leaving-start (λ is. runCount q is (slice from to w) (run lay w lo hi)) t;
+      }
+
+  module _ (r : Tally) (i : ℕ) (left : RunsLeft lay w e lo hi from to t r i) where
+    cut : (j : ℕ) → i ≤ j → j ≤ hi → (hi - i) * (to - from) ≡ (j - i) * (to - from) + (hi - j) * (to - from)
+    cut j some high =
+        let parts : hi - i ≡ j - i + (hi - j) = omega arith in
+        ap (λ (n : ℕ). n * (to - from)) parts ∙ add-mul (j - i) (hi - j) (to - from)
+
+    -- the checks of the next run fit
+    pub runs-room : (j : ℕ) → i ≤ j → j ≤ hi → checksIn t + (hi - lo) * (to - from) < 4294967296
+        → checksIn r + (j - i) * (to - from) < 4294967296
+    runs-room j some high fits = omega (arith, cut j some high, left .grown)
+
+    pub runs-step : (j : ℕ) (u : Tally) → i ≤ j → j ≤ hi → RunsChecked lay w e i j from to r u
+        → RunsLeft lay w e lo hi from to t u j
+    runs-step j u some high more =
+        record {
+          low = omega (arith, left .low);
+          grown = omega (arith, cut j some high, left .grown, more .grown);
+          tallied = λ q there.
+              let split = run-split lay w i j hi some high (runs-within there) in
+              leaving-step (left .tallied q there) {later = λ is. runCount q is (slice from to w) (run lay w j hi)}
+              (more .tallied q (runs-part there i j (left .low) some high))
+              (λ is.
+              ap (runCount q is (slice from to w)) split
+              ∙ sum-append (rowCount q is (slice from to w)) (run lay w i j) (run lay w j hi));
+        }
+
+    pub runs-end : hi ≤ i → RunsChecked lay w e lo hi from to t r
+    unfolding sum
+    runs-end past =
+        record {
+          grown =
+              let none : hi - i ≡ 0 = omega arith in
+              let gone : (hi - i) * (to - from) ≡ 0 = ap (λ (n : ℕ). n * (to - from)) none ∙ zero-mul (to - from) in
+              omega (arith, left .grown);
+          tallied = λ q there.
+              leaving-end (left .tallied q there) (λ is. ap (runCount q is (slice from to w)) (run-none lay w i hi past));
+        }

@@ -1,0 +1,8 @@
+-- Laws on what the index holds, by topic; each function that needs a proof file has its folder beside them.
+pub mod Reading
+pub mod Orders
+pub mod Sharing
+pub mod Places
+pub mod Probing
+pub mod Tallying
+pub mod Gathering

@@ -1,0 +1,106 @@
+-- The order of the left sets: every place in it is that of a left set, and a run begins with its first place. How far a run with
+-- one key reaches.
+use Prim.Native.Nat.{ℕ, zero, suc, _+_, _≤_, _<_}
+use mathlib.Core.Path.{_≡_, refl, sym, ap, subst, _∙_}
+use mathlib.Core.List.{List, _∷_, [], _++_}
+use mathlib.Core.Bool.{Bool, true, false}
+use native.Mathlib.Omega.{arith}
+use lib.Dec.{eqb, ltb}
+use lib.ListN.{length, getD}
+use borrow.Author.Tests.{ltb-true}
+use Rattle.lists.specs.Lists.{all, keep, slice}
+use Rattle.lists.proofs.Throughout.{all-at, all-append}
+use Rattle.lists.proofs.Filtering.{all-keep}
+use Rattle.lists.proofs.Ranges.{all-upto}
+use Rattle.lists.proofs.Slices.{slice-past, slice-next, slice-split}
+use Rattle.join_spec.specs.Query.{Query}
+use Rattle.join_index.specs.Grouping.{groupsFrom, keyAt, orderFrom, orderOf}
+use Rattle.join_index.specs.declared.Layout.{Layout}
+use Rattle.join_check.specs.Words.{Word}
+use Rattle.join_check.specs.Asking.{Index, LeftThere, RunThere}
+use Rattle.join_check.specs.Runs.{lead, leftIn, run}
+use Rattle.join_check.proofs.Reading.{holds-length, holds-at}
+
+all-groups : (p : ℕ → Bool) (key : ℕ → ℕ) (x n : ℕ) (l : List ℕ) → all p l ≡ true → all p (groupsFrom key x n l) ≡ true
+unfolding groupsFrom all
+all-groups p key x zero l a = refl
+all-groups p key x (suc n) l a =
+    all-append p (keep (λ (k : ℕ). eqb (key k) x) l) (groupsFrom key (suc x) n l)
+    (all-keep p (λ (k : ℕ). eqb (key k) x) l a)
+    (all-groups p key (suc x) n l a)
+
+order-all : (q : Query) (n d : ℕ) → all (λ (k : ℕ). ltb k (length (q .lefts))) (orderFrom q n d) ≡ true
+unfolding orderFrom
+order-all q zero d = all-upto (length (q .lefts))
+order-all q (suc n) d =
+    all-groups (λ (k : ℕ). ltb k (length (q .lefts))) (keyAt q d) 0 (suc (q .T)) (orderFrom q n (suc d)) (order-all q n (suc d))
+
+module _ (lay : Layout) (q : Query) (w : List ℕ) (index : Index lay q w) where
+  pub order-within : lay .order + length (q .lefts) ≤ length w
+  order-within = let o = index .ground .ordered in omega (arith, index .room, o .within)
+
+  pub order-left : (i : ℕ) → i < length (q .lefts) → LeftThere lay q w (leftIn lay w i)
+  order-left i below =
+      let o = index .ground .ordered in
+      let size : length (orderOf q) ≡ length (q .lefts) = omega (arith, holds-length o (index .room)) in
+      let here : getD (orderOf q) i 0 ≡ leftIn lay w i = holds-at o (index .room) i (omega arith) in
+      let test : ltb (getD (orderOf q) i 0) (length (q .lefts)) ≡ true =
+      all-at (λ (k : ℕ). ltb k (length (q .lefts))) 0 (orderOf q) (order-all q (q .limit) 0) i (omega arith)
+      in
+      record { index = index; below = omega (arith, ltb-true (getD (orderOf q) i 0) (length (q .lefts)) test) }
+
+-- the left set at a place of a run, as it was read, and its key
+module _ {lay : Layout} {q : Query} {w : List ℕ} {lo hi : ℕ} (there : RunThere lay q w lo hi) where
+  pub run-left : (i k : ℕ) → i < hi → Word w (lay .order + i) k → LeftThere lay q w k
+  run-left i k below word =
+      subst (λ (n : ℕ). LeftThere lay q w n) (sym (word .is))
+      (order-left lay q w (there .index) i (omega (arith, there .within)))
+
+  pub run-key : (d i k r : ℕ) → i < hi → Word w (lay .order + i) k → ((q : Query) → LeftThere lay q w k → r ≡ keyAt q d k)
+      → r ≡ keyAt q d (leftIn lay w i)
+  run-key d i k r below word is = is q (run-left i k below word) ∙ ap (keyAt q d) (word .is)
+
+-- a run by its first place
+pub run-none : (lay : Layout) (w : List ℕ) (i hi : ℕ) → hi ≤ i → run lay w i hi ≡ []
+run-none lay w i hi h = slice-past (lay .order + i) (lay .order + hi) w (omega arith)
+
+pub run-next : (lay : Layout) (w : List ℕ) (i hi : ℕ) → i < hi → lay .order + hi ≤ length w
+    → run lay w i hi ≡ leftIn lay w i ∷ run lay w (i + 1) hi
+run-next lay w i hi h within =
+    let next : lay .order + i + 1 ≡ lay .order + (i + 1) = omega arith in
+    slice-next (lay .order + i) (lay .order + hi) w (omega arith) within
+    ∙ ap (λ (f : ℕ). leftIn lay w i ∷ slice f (lay .order + hi) w) next
+
+-- a run in two parts
+pub run-split : (lay : Layout) (w : List ℕ) (lo i hi : ℕ) → lo ≤ i → i ≤ hi → lay .order + hi ≤ length w
+    → run lay w lo hi ≡ run lay w lo i ++ run lay w i hi
+run-split lay w lo i hi low high within =
+    slice-split (lay .order + lo) (lay .order + i) (lay .order + hi) w (omega arith) (omega arith) (omega arith)
+
+pub lead-pass : {A : Type 0} (p : A → Bool) (x : A) (xs : List A) → p x ≡ true → lead p (x ∷ xs) ≡ suc (lead p xs)
+unfolding lead
+lead-pass p x xs h = rw h
+
+pub lead-fail : {A : Type 0} (p : A → Bool) (x : A) (xs : List A) → p x ≡ false → lead p (x ∷ xs) ≡ 0
+unfolding lead
+lead-fail p x xs h = rw h
+
+pub lead-nil : {A : Type 0} (p : A → Bool) → lead p [] ≡ 0
+unfolding lead
+lead-nil p = refl
+
+-- the leading left sets of a run, counted from place j on
+module _ (lay : Layout) (w : List ℕ) (hi : ℕ) (p : ℕ → Bool) (within : lay .order + hi ≤ length w) where
+  pub run-pass : (j : ℕ) → j < hi → p (leftIn lay w j) ≡ true
+      → j + lead p (run lay w j hi) ≡ j + 1 + lead p (run lay w (j + 1) hi)
+  run-pass j more h =
+      let e = ap (lead p) (run-next lay w j hi more within) ∙ lead-pass p (leftIn lay w j) (run lay w (j + 1) hi) h in
+      omega (arith, e)
+
+  pub run-fail : (j : ℕ) → j < hi → p (leftIn lay w j) ≡ false → j + lead p (run lay w j hi) ≡ j
+  run-fail j more h =
+      let e = ap (lead p) (run-next lay w j hi more within) ∙ lead-fail p (leftIn lay w j) (run lay w (j + 1) hi) h in
+      omega (arith, e)
+
+  pub run-past : (j : ℕ) → hi ≤ j → j + lead p (run lay w j hi) ≡ j
+  run-past j h = let e = ap (lead p) (run-none lay w j hi h) ∙ lead-nil p in omega (arith, e)

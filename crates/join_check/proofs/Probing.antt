@@ -1,0 +1,117 @@
+-- One check: what is left of a left set as it is stored, a right set as it is stored, and a counter that one check raises.
+use Prim.Native.Nat.{ℕ, _+_, _-_, _*_, _≤_}
+use mathlib.Core.Path.{_≡_, refl, sym, ap, ap₂, _∙_}
+use mathlib.Core.List.{List, []}
+use mathlib.Core.Bool.{Bool, true, false, not, cond}
+use native.Mathlib.Omega.{arith}
+use lib.Dec.{eqb}
+use lib.Bits.{bitAnd}
+use lib.ListN.{getD, drop-of-length-le}
+use borrow.Author.Tests.{eq-eqb, ne-eqb}
+use Rattle.lists.specs.Lists.{one, subset, slice, rising}
+use Rattle.lists.proofs.Slices.{slice-past}
+use Rattle.sets.specs.Marks.{signature, drops}
+use Rattle.sets.proofs.Ordered.{ordered-rising}
+use Rattle.join_spec.specs.Query.{Query}
+use Rattle.join_spec.specs.Walk.{Outcome, dropped, falseDrop, confirmed}
+use Rattle.join_index.specs.Ground.{double}
+use Rattle.join_index.specs.Grouping.{leftAt, rightAt}
+use Rattle.join_index.specs.declared.Layout.{Layout}
+use Rattle.join_check.specs.declared.Tally.{Tally}
+use Rattle.join_check.specs.declared.checks.Probe.{Probe}
+use Rattle.join_check.specs.Words.{Word}
+use Rattle.join_check.specs.Merges.{Rising}
+use Rattle.join_check.specs.Asking.{LeftThere, RightThere}
+use Rattle.join_check.specs.Checks.{Tallied}
+use Rattle.join_check.specs.Probes.{ProbeOf, probeOutcome}
+use Rattle.join_check.proofs.Reading.{left-stored, right-stored}
+
+-- what is left of a left set whose starts were read
+module _ (lay : Layout) (q : Query) (w : List ℕ) (k e start next sign : ℕ)
+    (first : Word w (lay .«left_starts» + k) start) (second : Word w (lay .«left_starts» + k + 1) next)
+    (signed : sign ≡ double w (lay .«left_signatures» + 2 * k)) (there : LeftThere lay q w k)
+  where
+    left-signed : sign ≡ signature (getD (q .lefts) k [])
+    left-signed = signed ∙ there .index .ground .leftSignature k (there .below)
+
+    pub probe-none : lay .«left_ranks» + next - (lay .«left_ranks» + start) ≤ e
+        → ProbeOf q w k e (record { signature = sign; from = lay .«left_ranks» + next; to = lay .«left_ranks» + next })
+    probe-none few =
+        let s = left-stored lay q w k there in
+        record {
+          signed = left-signed;
+          rest =
+              slice-past (lay .«left_ranks» + next) (lay .«left_ranks» + next) w (omega arith)
+              ∙ sym (drop-of-length-le (leftAt q k) {i = e} (omega (arith, first .is, second .is)));
+        }
+
+    pub probe-some :
+        ProbeOf q w k e (record { signature = sign; from = lay .«left_ranks» + start + e; to = lay .«left_ranks» + next })
+    probe-some =
+        let s = left-stored lay q w k there in
+        record {
+          signed = left-signed;
+          rest =
+              ap₂ (λ (a b : ℕ). slice (lay .«left_ranks» + a + e) (lay .«left_ranks» + b) w) (first .is) (second .is) ∙ s .rest e;
+        }
+
+-- a right set whose starts were read
+module _ (lay : Layout) (q : Query) (w : List ℕ) (s start next : ℕ)
+    (first : Word w (lay .«right_starts» + s) start) (second : Word w (lay .«right_starts» + s + 1) next)
+    (there : RightThere lay q w s)
+  where
+    pub right-part : slice (lay .«right_ranks» + start) (lay .«right_ranks» + next) w ≡ rightAt q s
+    right-part =
+        let t = right-stored lay q w s there in
+        let first-at = getD w (lay .«right_starts» + s) 0 in
+        let next-at = getD w (lay .«right_starts» + s + 1) 0 in
+        let from : lay .«right_ranks» + start ≡ lay .«right_ranks» + first-at + 0 = omega (arith, first .is) in
+        let to : lay .«right_ranks» + next ≡ lay .«right_ranks» + next-at = omega (arith, second .is) in
+        ap₂ (λ (a b : ℕ). slice a b w) from to ∙ t .rest 0
+
+    rights-rise : rising (rightAt q s) ≡ true
+    unfolding rightAt
+    rights-rise = ordered-rising (q .T) (q .ranks) (getD (q .rights) s [])
+
+    pub right-rising : Rising (lay .«right_ranks» + start) (lay .«right_ranks» + next) w
+    right-rising =
+        let t = right-stored lay q w s there in
+        record { within = omega (arith, second .is); rise = ap rising right-part ∙ rights-rise }
+
+-- the outcome of a check
+module _ (lay : Layout) (q : Query) (w : List ℕ) (p : Probe) (s sign : ℕ)
+    (signed : sign ≡ double w (lay .«right_signatures» + 2 * s)) (there : RightThere lay q w s)
+  where
+    right-signed : sign ≡ signature (getD (q .rights) s [])
+    right-signed = signed ∙ there .index .ground .rightSignature s (there .below)
+
+    missing : (b : Bool) → eqb (bitAnd (p .signature) sign) (p .signature) ≡ b
+        → drops (p .signature) (signature (getD (q .rights) s [])) ≡ not b
+    missing b e = ap (λ (r : ℕ). drops (p .signature) r) (sym right-signed) ∙ ap not e
+
+    pub outcome-dropped : (bitAnd (p .signature) sign ≡ p .signature → ⊥) → probeOutcome q w p s ≡ dropped
+    outcome-dropped other = rw (missing false (ne-eqb (bitAnd (p .signature) sign) (p .signature) other))
+
+    pub outcome-checked : bitAnd (p .signature) sign ≡ p .signature
+        → probeOutcome q w p s ≡ cond (subset (slice (p .from) (p .to) w) (rightAt q s)) confirmed falseDrop
+    outcome-checked same = rw (missing true (eq-eqb (bitAnd (p .signature) sign) (p .signature) same))
+
+-- a check raises one counter
+module _ (t : Tally) (o : Outcome) where
+  pub raise-dropped : o ≡ dropped
+      → Tallied (λ is. one (is o)) t
+      (record { «by_path» = t .«by_path»; confirmed = t .confirmed; dropped = t .dropped + 1; «false_drops» = t .«false_drops» })
+  raise-dropped e =
+      rw e (record { byPath = refl; confirmed = omega arith; dropped = refl; falseDrops = omega arith })
+
+  pub raise-confirmed : o ≡ confirmed
+      → Tallied (λ is. one (is o)) t
+      (record { «by_path» = t .«by_path»; confirmed = t .confirmed + 1; dropped = t .dropped; «false_drops» = t .«false_drops» })
+  raise-confirmed e =
+      rw e (record { byPath = refl; confirmed = refl; dropped = omega arith; falseDrops = omega arith })
+
+  pub raise-false : o ≡ falseDrop
+      → Tallied (λ is. one (is o)) t
+      (record { «by_path» = t .«by_path»; confirmed = t .confirmed; dropped = t .dropped; «false_drops» = t .«false_drops» + 1 })
+  raise-false e =
+      rw e (record { byPath = refl; confirmed = omega arith; dropped = omega arith; falseDrops = refl })

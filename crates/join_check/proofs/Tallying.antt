@@ -1,0 +1,86 @@
+-- Counters that are raised step by step: what they have, with what is left, is what they had with all. One text for the checks
+-- of a row and of a run. And what is left of a left set decides its check.
+use Prim.Native.Nat.{ℕ, _+_, _-_, _≤_, _<_}
+use mathlib.Core.Path.{_≡_, refl, sym, ap, ap₂, _∙_}
+use mathlib.Core.List.{List, []}
+use mathlib.Core.Bool.{Bool, true, cond}
+use native.Mathlib.Omega.{arith}
+use lib.ListN.{getD, take}
+use Rattle.lists.specs.Lists.{all, memb, subset, slice, rising}
+use Rattle.lists.proofs.Throughout.{all-after}
+use Rattle.lists.proofs.Rising.{rising-drop}
+use Rattle.lists.proofs.Slices.{all-slice}
+use Rattle.sets.specs.Collections.{contained}
+use Rattle.sets.specs.Marks.{signature, drops}
+use Rattle.sets.proofs.Ordered.{ordered-rising}
+use Rattle.join_spec.specs.Query.{Query}
+use Rattle.join_spec.specs.Walk.{Outcome, dropped, falseDrop, confirmed}
+use Rattle.join_spec.specs.Counting.{isConfirmed, isDropped, isFalse}
+use Rattle.join_index.specs.Grouping.{leftAt, rightAt}
+use Rattle.join_index.specs.declared.Layout.{Layout}
+use Rattle.join_check.specs.declared.Tally.{Tally}
+use Rattle.join_check.specs.declared.checks.Probe.{Probe}
+use Rattle.join_check.specs.Words.{Word}
+use Rattle.join_check.specs.Merges.{Rising}
+use Rattle.join_check.specs.Asking.{LeftThere}
+use Rattle.join_check.specs.Checks.{checkAt, Tallied, RowThere}
+use Rattle.join_check.specs.Probes.{ProbeOf, Probed, probeOutcome}
+use Rattle.join_check.proofs.Places.{place-right}
+
+pub record Leaving (rest all : (Outcome → Bool) → ℕ) (t r : Tally) : Type 0 where
+  pub byPath : r .«by_path» ≡ t .«by_path»
+  pub confirmed : r .confirmed + rest isConfirmed ≡ t .confirmed + all isConfirmed
+  pub dropped : r .dropped + rest isDropped ≡ t .dropped + all isDropped
+  pub falseDrops : r .«false_drops» + rest isFalse ≡ t .«false_drops» + all isFalse
+
+pub leaving-start : (all : (Outcome → Bool) → ℕ) (t : Tally) → Leaving all all t t
+leaving-start all t = record { byPath = refl; confirmed = refl; dropped = refl; falseDrops = refl }
+
+module _ {rest all : (Outcome → Bool) → ℕ} {t r : Tally} (left : Leaving rest all t r) where
+  pub leaving-step : {step later : (Outcome → Bool) → ℕ} {u : Tally} → Tallied step r u
+      → ((is : Outcome → Bool) → rest is ≡ step is + later is) → Leaving later all t u
+  leaving-step more split =
+      record {
+        byPath = more .byPath ∙ left .byPath;
+        confirmed = omega (arith, split isConfirmed, more .confirmed, left .confirmed);
+        dropped = omega (arith, split isDropped, more .dropped, left .dropped);
+        falseDrops = omega (arith, split isFalse, more .falseDrops, left .falseDrops);
+      }
+
+  pub leaving-end : ((is : Outcome → Bool) → rest is ≡ 0) → Tallied all t r
+  leaving-end none =
+      record {
+        byPath = left .byPath;
+        confirmed = omega (arith, none isConfirmed, left .confirmed);
+        dropped = omega (arith, none isDropped, left .dropped);
+        falseDrops = omega (arith, none isFalse, left .falseDrops);
+      }
+
+-- what is left of a left set rises
+pub probe-rising : {lay : Layout} {q : Query} {w : List ℕ} {k e : ℕ} {p : Probe} → Probed lay w k e p → LeftThere lay q w k
+    → Rising (p .from) (p .to) w
+unfolding leftAt
+probe-rising {lay} {q} {w} {k} {e} {p} probed there =
+    record {
+      within = probed .within;
+      rise = ap rising (probed .is q there .rest)
+          ∙ rising-drop e (leftAt q k) (ordered-rising (q .T) (q .ranks) (getD (q .lefts) k []));
+    }
+
+-- the ranks that are not on the merged path decide, where the right set holds those that are
+pub probe-check : {lay : Layout} {q : Query} {w : List ℕ} {k e from to : ℕ} {p : Probe} → RowThere lay q w k e from to
+    → ProbeOf q w k e p → (i s : ℕ) → from ≤ i → i < to → Word w i s → probeOutcome q w p s ≡ checkAt q k s
+probe-check {lay} {q} {w} {k} {e} {from} {to} {p} there probe i s low high word =
+    let right = place-right (there .places) i s low high word in
+    let holds : subset (take e (leftAt q k)) (rightAt q s) ≡ true =
+    ap (λ (n : ℕ). subset (take e (leftAt q k)) (rightAt q n)) (word .is)
+    ∙ all-slice (λ (n : ℕ). subset (take e (leftAt q k)) (rightAt q n)) from to w (there .places .within) (there .holding) i
+    low high
+    in
+    let items : subset (slice (p .from) (p .to) w) (rightAt q s) ≡ contained (getD (q .lefts) k []) (getD (q .rights) s []) =
+    ap (λ (l : List ℕ). subset l (rightAt q s)) (probe .rest)
+    ∙ sym (all-after (λ (x : ℕ). memb x (rightAt q s)) e (leftAt q k) holds)
+    ∙ sym (there .left .index .ground .faithful k s (there .left .below) (right .below))
+    in
+    ap₂ (λ (a : ℕ) (b : Bool). cond (drops a (signature (getD (q .rights) s []))) dropped (cond b confirmed falseDrop))
+    (probe .signed) items

@@ -1,0 +1,109 @@
+-- `join_check::checks::probe_left` meets its contract: the ranks of a left set lie between two starts.
+use native.Mathlib.Omega.{arith}
+use Rattle.join_check.proofs.Reading.{left-stored}
+use Rattle.join_check.proofs.Probing.{probe-none, probe-some}
+use borrow.Author.Needs.{needs}
+use Rattle.join_check.proofs.checks.probe_left.Statement.{statement}
+use Rattle.join_check.proofs.checks.probe_left.Tie as tie
+
+mul-double-at : tie.Need-mul-double-at
+mul-double-at c = search needs
+
+add-double-at : tie.Need-add-double-at
+add-double-at c = search needs
+
+double-at-requires : tie.Need-double-at-requires
+double-at-requires c κs = search needs
+
+add-word-at : tie.Need-add-word-at
+add-word-at c = search needs
+
+word-at-requires : tie.Need-word-at-requires
+word-at-requires c κs = search needs
+
+add-from : tie.Need-add-from
+add-from c =
+    let start = c .before .before .before in
+    let a = start .args in
+    let s = left-stored (a .lay) (start .pre .query) (a .work .now) (a .k) (start .pre .holds) in
+    omega arith
+
+add-word-at-2 : tie.Need-add-word-at-2
+add-word-at-2 c = search needs
+
+add-word-at-3 : tie.Need-add-word-at-3
+add-word-at-3 c = search needs
+
+word-at-requires-2 : tie.Need-word-at-requires-2
+word-at-requires-2 c κs = search needs
+
+add-to : tie.Need-add-to
+add-to c =
+    let start = c .before .before .before .before in
+    let a = start .args in
+    let s = left-stored (a .lay) (start .pre .query) (a .work .now) (a .k) (start .pre .holds) in
+    omega arith
+
+sub-if1 : tie.Need-sub-if1
+sub-if1 c =
+    let start = c .before .before .before .before in
+    let a = start .args in
+    let s = left-stored (a .lay) (start .pre .query) (a .work .now) (a .k) (start .pre .holds) in
+    omega arith
+
+returns : tie.Need-returns
+returns c =
+    let at-word-at = c .before .before in
+    let at-double-at = at-word-at .before in
+    let start = at-double-at .before .before in
+    let a = start .args in
+    let s = left-stored (a .lay) (start .pre .query) (a .work .now) (a .k) (start .pre .holds) in
+    record {
+      within = omega arith;
+      is = λ q there.
+          probe-none (a .lay) q (a .work .now) (a .k) (a .e) (at-word-at .word-at .result) (c .before .word-at2 .result)
+          (at-double-at .double-at .result)
+          (at-word-at .word-at .ensures) (c .before .word-at2 .ensures) (at-double-at .double-at .ensures) there
+          (c .if1 .taken);
+    }
+
+add-t13 : tie.Need-add-t13
+add-t13 c =
+    let start = c .before .before .before .before .before in
+    let a = start .args in
+    let s = left-stored (a .lay) (start .pre .query) (a .work .now) (a .k) (start .pre .holds) in
+    omega arith
+
+returns-2 : tie.Need-returns-2
+returns-2 c =
+    let at-word-at = c .before .before in
+    let at-double-at = at-word-at .before in
+    let start = at-double-at .before .before in
+    let a = start .args in
+    let s = left-stored (a .lay) (start .pre .query) (a .work .now) (a .k) (start .pre .holds) in
+    record {
+      within = omega arith;
+      is = λ q there.
+          probe-some (a .lay) q (a .work .now) (a .k) (a .e) (at-word-at .word-at .result) (c .before .word-at2 .result)
+          (at-double-at .double-at .result)
+          (at-word-at .word-at .ensures) (c .before .word-at2 .ensures) (at-double-at .double-at .ensures) there;
+    }
+
+pub probe-left-spec : {M : Type 1} → statement M
+probe-left-spec =
+    tie.close
+    (tie.spec
+    mul-double-at
+    add-double-at
+    double-at-requires
+    add-word-at
+    word-at-requires
+    add-from
+    add-word-at-2
+    add-word-at-3
+    word-at-requires-2
+    add-to
+    sub-if1
+    returns
+    add-t13
+    returns-2)

@@ -1,0 +1,67 @@
+-- Checks of left sets against right sets, and the counters that they raise. Document 01, "The run": where the walk doesn't go on
+-- at a node, all kits below it are checked against each of the candidate stacks.
+use Prim.Native.Nat.{ℕ, _+_, _-_, _*_, _≤_}
+use mathlib.Core.Path.{_≡_}
+use mathlib.Core.List.{List, []}
+use mathlib.Core.Bool.{Bool, true}
+use lib.ListN.{length, getD, take}
+use Rattle.lists.specs.Lists.{all, count, sum, subset, slice}
+use Rattle.join_spec.specs.Query.{Query}
+use Rattle.join_spec.specs.Walk.{Outcome, check}
+use Rattle.join_spec.specs.Counting.{isConfirmed, isDropped, isFalse}
+use Rattle.join_index.specs.Grouping.{leftAt, rightAt}
+use Rattle.join_index.specs.declared.Layout.{Layout}
+use Rattle.join_check.specs.declared.Tally.{Tally}
+use Rattle.join_check.specs.Asking.{LeftThere, PlacesThere}
+use Rattle.join_check.specs.Runs.{run}
+
+-- the check of the left set k and the right set s
+abbrev pub checkAt : Query → ℕ → ℕ → Outcome
+checkAt q k s = check (getD (q .lefts) k []) (getD (q .rights) s [])
+
+-- how many checks of the left set k against the places end so
+abbrev pub rowCount : Query → (Outcome → Bool) → List ℕ → ℕ → ℕ
+rowCount q is places k = count (λ s. is (checkAt q k s)) places
+
+-- how many checks of the left sets against the places end so
+abbrev pub runCount : Query → (Outcome → Bool) → List ℕ → List ℕ → ℕ
+runCount q is places lefts = sum (rowCount q is places) lefts
+
+-- how many checks the counters have
+abbrev pub checksIn : Tally → ℕ
+checksIn t = t .confirmed + t .dropped + t .«false_drops»
+
+-- the counters t became r: each grew by the number of checks that end so, and no pair came by path
+pub record Tallied (amount : (Outcome → Bool) → ℕ) (t r : Tally) : Type 0 where
+  pub byPath : r .«by_path» ≡ t .«by_path»
+  pub confirmed : r .confirmed ≡ t .confirmed + amount isConfirmed
+  pub dropped : r .dropped ≡ t .dropped + amount isDropped
+  pub falseDrops : r .«false_drops» ≡ t .«false_drops» + amount isFalse
+
+-- whether each of the right sets holds the first e ranks of the left set k
+abbrev pub holdFirst : Query → ℕ → List ℕ → ℕ → Bool
+holdFirst q e places k = all (λ s. subset (take e (leftAt q k)) (rightAt q s)) places
+
+-- the left set k can be checked after e ranks against the places from one up to another
+pub record RowThere (lay : Layout) (q : Query) (w : List ℕ) (k e from to : ℕ) : Type 0 where
+  pub left : LeftThere lay q w k
+  pub places : PlacesThere lay q w from to
+  pub holding : holdFirst q e (slice from to w) k ≡ true
+
+-- the left sets at the places lo up to hi of the order can be checked so
+pub record RunsThere (lay : Layout) (q : Query) (w : List ℕ) (e lo hi from to : ℕ) : Type 0 where
+  pub places : PlacesThere lay q w from to
+  pub within : hi ≤ length (q .lefts)
+  pub holding : all (holdFirst q e (slice from to w)) (run lay w lo hi) ≡ true
+
+-- one left set was checked against each of the places
+pub record RowChecked (lay : Layout) (w : List ℕ) (k e from to : ℕ) (t r : Tally) : Type 0 where
+  pub grown : checksIn r ≡ checksIn t + (to - from)
+  pub tallied : (q : Query) → RowThere lay q w k e from to → Tallied (λ is. rowCount q is (slice from to w) k) t r
+
+-- each left set of a run was checked against each of the places
+pub record RunsChecked (lay : Layout) (w : List ℕ) (e lo hi from to : ℕ) (t r : Tally) : Type 0 where
+  pub grown : checksIn r ≡ checksIn t + (hi - lo) * (to - from)
+  pub tallied :
+      (q : Query) → RunsThere lay q w e lo hi from to
+      → Tallied (λ is. runCount q is (slice from to w) (run lay w lo hi)) t r

@@ -1,0 +1,26 @@
+-- Rising parts of a list of words, and what two of them share, written behind them.
+use Prim.Native.Nat.{ℕ, _+_, _-_, _≤_}
+use mathlib.Core.Path.{_≡_}
+use mathlib.Core.List.{List}
+use mathlib.Core.Bool.{true}
+use lib.ListN.{length}
+use Rattle.lists.specs.Lists.{keep, memb, rising, slice}
+use Rattle.lists.specs.Parts.{Changed}
+
+-- the words from lo up to hi strictly rise; there are none where hi is at most lo
+pub record Rising (lo hi : ℕ) (w : List ℕ) : Type 0 where
+  pub within : hi ≤ length w
+  pub rise : rising (slice lo hi w) ≡ true
+
+-- parts that end at b and e lie below out, and from out on there is room for the second
+pub record Apart (b c e out : ℕ) (w : List ℕ) : Type 0 where
+  pub left : b ≤ out
+  pub right : e ≤ out
+  pub room : out + (e - c) ≤ length w
+
+-- w became w′: from out up to r stands what the part from a up to b shares with that from c up to e
+pub record Intersected (a b c e out : ℕ) (w w′ : List ℕ) (r : ℕ) : Type 0 where
+  pub changed : Changed out (out + (e - c)) w w′
+  pub low : out ≤ r
+  pub high : r ≤ out + (e - c)
+  pub is : slice out r w′ ≡ keep (λ s. memb s (slice c e w)) (slice a b w)

@@ -1,0 +1,37 @@
+-- One check: what is left of a left set to be checked, and what becomes of it with a right set.
+use Prim.Native.Nat.{ℕ, _+_, _≤_}
+use mathlib.Core.Path.{_≡_}
+use mathlib.Core.List.{List, []}
+use mathlib.Core.Bool.{cond}
+use lib.ListN.{length, getD, drop}
+use Rattle.lists.specs.Lists.{one, subset, slice}
+use Rattle.sets.specs.Marks.{signature, drops}
+use Rattle.join_spec.specs.Query.{Query}
+use Rattle.join_spec.specs.Walk.{Outcome, dropped, falseDrop, confirmed}
+use Rattle.join_index.specs.Grouping.{leftAt, rightAt}
+use Rattle.join_index.specs.declared.Layout.{Layout}
+use Rattle.join_check.specs.declared.Tally.{Tally}
+use Rattle.join_check.specs.declared.checks.Probe.{Probe}
+use Rattle.join_check.specs.Asking.{LeftThere, RightThere}
+use Rattle.join_check.specs.Checks.{checksIn, Tallied}
+
+-- p has the signature of the left set k, and where its ranks from e on lie
+pub record ProbeOf (q : Query) (w : List ℕ) (k e : ℕ) (p : Probe) : Type 0 where
+  pub signed : p .signature ≡ signature (getD (q .lefts) k [])
+  pub rest : slice (p .from) (p .to) w ≡ drop e (leftAt q k)
+
+-- and so for every query whose left set k stands in w
+pub record Probed (lay : Layout) (w : List ℕ) (k e : ℕ) (p : Probe) : Type 0 where
+  pub within : p .to ≤ length w
+  pub is : (q : Query) → LeftThere lay q w k → ProbeOf q w k e p
+
+-- what becomes of what is left of a left set with the right set s: signatures first, then ranks
+abbrev pub probeOutcome : Query → List ℕ → Probe → ℕ → Outcome
+probeOutcome q w p s =
+    cond (drops (p .signature) (signature (getD (q .rights) s []))) dropped
+    (cond (subset (slice (p .from) (p .to) w) (rightAt q s)) confirmed falseDrop)
+
+-- one check was made
+pub record OneChecked (lay : Layout) (w : List ℕ) (p : Probe) (s : ℕ) (t r : Tally) : Type 0 where
+  pub grown : checksIn r ≡ checksIn t + 1
+  pub tallied : (q : Query) → RightThere lay q w s → Tallied (λ is. one (is (probeOutcome q w p s))) t r

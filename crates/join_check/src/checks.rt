@@ -1,0 +1,109 @@
+// Checks of left sets against right sets: signatures first, then the ranks that are not on the merged path.
+use crate::Tally;
+use crate::merge::subset_ranks;
+use crate::words::double_at;
+use crate::words::word_at;
+use join_index::Layout;
+ghost use mathlib.Core.Path.{_≡_};
+ghost use Prim.Native.Nat.{_+_, _-_, _*_, _<_};
+ghost use Rattle.join_check.specs.Merges.{Rising};
+ghost use Rattle.join_check.specs.Asking.{Some, LeftThere, RightThere};
+ghost use Rattle.join_check.specs.Checks.{checksIn, RowThere, RowChecked};
+ghost use Rattle.join_check.specs.Probes.{Probed, OneChecked};
+
+// What is left of a left set to be checked: its signature, and where its ranks that are not on the merged path lie.
+pub struct Probe {
+    pub signature: u64,
+    pub from: usize,
+    pub to: usize,
+}
+
+// What is left of the left set k after its first e ranks; no rank where it has fewer.
+fn probe_left(work: &[u32], lay: Layout, k: usize, e: usize) -> Probe
+    requires { ⌜ Some (λ q. LeftThere lay q (now work) k) ⌝ }
+    ensures { λ p. ⌜ Probed lay (now (work .entry)) k e p ⌝ }
+{
+    let starts = lay.left_starts;
+    let ranks = lay.left_ranks;
+    let signatures = lay.left_signatures;
+    let signature = double_at(work, signatures + 2 * k);
+    let from = ranks + word_at(work, starts + k);
+    let to = ranks + word_at(work, starts + k + 1);
+    if to - from <= e {
+        return Probe {
+            signature: signature,
+            from: to,
+            to: to,
+        };
+    }
+    Probe {
+        signature: signature,
+        from: from + e,
+        to: to,
+    }
+}
+
+// Checks what is left of a left set against the right set s, and counts the check.
+fn check_one(work: &[u32], lay: Layout, p: Probe, s: usize, t: Tally) -> Tally
+    requires { ⌜ Some (λ q. RightThere lay q (now work) s) ⌝ }
+    requires { ⌜ Rising (p .from) (p .to) (now work) ⌝ }
+    requires { ⌜ checksIn t + 1 < 4294967296 ⌝ }
+    ensures { λ r. ⌜ OneChecked lay (now (work .entry)) p s t r ⌝ }
+{
+    let starts = lay.right_starts;
+    let ranks = lay.right_ranks;
+    let signatures = lay.right_signatures;
+    let left = p.signature;
+    let right = double_at(work, signatures + 2 * s);
+    let common = left & right;
+    if common != left {
+        return Tally {
+            by_path: t.by_path,
+            confirmed: t.confirmed,
+            dropped: t.dropped + 1,
+            false_drops: t.false_drops,
+        };
+    }
+    let from = ranks + word_at(work, starts + s);
+    let to = ranks + word_at(work, starts + s + 1);
+    if subset_ranks(work, p.from, p.to, from, to) {
+        return Tally {
+            by_path: t.by_path,
+            confirmed: t.confirmed + 1,
+            dropped: t.dropped,
+            false_drops: t.false_drops,
+        };
+    }
+    Tally {
+        by_path: t.by_path,
+        confirmed: t.confirmed,
+        dropped: t.dropped,
+        false_drops: t.false_drops + 1,
+    }
+}
+
+// Checks the left set k, after its first e ranks, against each right set whose place stands from one place of the work list up to
+// another.
+pub fn check_row(
+    work: &[u32],
+    lay: Layout,
+    k: usize,
+    e: usize,
+    from: usize,
+    to: usize,
+    t: Tally,
+) -> Tally
+    requires { ⌜ Some (λ q. RowThere lay q (now work) k e from to) ⌝ }
+    requires { ⌜ checksIn t + (to - from) < 4294967296 ⌝ }
+    ensures { λ r. ⌜ RowChecked lay (now (work .entry)) k e from to t r ⌝ }
+{
+    let p = probe_left(work, lay, k, e);
+    let mut r = t;
+    let mut i = from;
+    while i < to {
+        let s = word_at(work, i);
+        r = check_one(work, lay, p, s, r);
+        i += 1;
+    }
+    r
+}
