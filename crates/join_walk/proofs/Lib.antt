@@ -1,0 +1,23 @@
+-- Laws of the walk, without code: what a row is where a walk ends or goes on, and how runs of left sets split by their next rank.
+pub mod RowLaws
+pub mod Groups
+pub mod Prefixes
+pub mod NodeLaws
+pub mod Narrowing
+pub mod CandidateLaws
+pub mod VisitLaws
+pub mod RunLaws
+pub mod NodeFacts
+pub mod BlockLaws
+pub mod BlockVisits
+pub mod LimitLaws
+pub mod LimitLoop
+pub mod FrameLaws
+pub mod GroupSteps
+pub mod NodeStops
+pub mod NodeSteps
+pub mod ChildSteps
+pub mod ChildLoop
+pub mod PartitionSteps
+pub mod Totals
+pub mod WalkSteps

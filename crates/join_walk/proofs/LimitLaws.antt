@@ -1,0 +1,193 @@
+-- The left sets at the limit, one by one: each adds its row, and the rest stays at the limit.
+use Prim.Native.Nat.{ℕ, _+_, _-_, _*_, _≤_, _<_}
+use mathlib.Core.Path.{_≡_, refl, sym, ap, ap₂, subst, _∙_}
+use mathlib.Core.List.{List, [], _∷_}
+use mathlib.Core.Bool.{Bool, true, false}
+use native.Mathlib.Omega.{arith}
+use native.Mathlib.Nat.{one-mul, mul-le-mul-right}
+use borrow.Author.Tests.{eq-eqb, lt-ltb, ne-eqb}
+use lib.Dec.{eqb, ltb}
+use lib.ListN.{length}
+use Rattle.lists.specs.Lists.{all, count, prefix, sum, upto, slice}
+use Rattle.lists.proofs.Bools.{and-both, true-false}
+use Rattle.lists.proofs.Throughout.{all-front, all-back}
+use Rattle.lists.proofs.Counting.{count-bound}
+use Rattle.lists.proofs.Filtering.{length-keep}
+use Rattle.lists.proofs.Ranges.{length-range}
+use Rattle.lists.proofs.Slices.{length-slice}
+use Rattle.join_spec.specs.Query.{Query}
+use Rattle.join_spec.specs.Walk.{byPath, isCandidate}
+use Rattle.join_index.specs.Grouping.{leftAt, rightAt, keyAt}
+use Rattle.join_index.specs.Ground.{Listing}
+use Rattle.join_index.specs.declared.Layout.{Layout}
+use Rattle.join_check.specs.Asking.{RunThere, LeftThere}
+use Rattle.join_check.specs.Runs.{run, leftIn}
+use Rattle.join_check.specs.Words.{Word}
+use Rattle.join_check.specs.Checks.{checksIn, RunsThere, runCount}
+use Rattle.join_check.specs.declared.Tally.{Tally}
+use Rattle.join_check.proofs.Orders.{order-within, run-next, run-none, run-key}
+use Rattle.join_walk.specs.Rows.{row}
+use Rattle.join_walk.specs.Narrowing.{candidateList}
+use Rattle.join_walk.specs.Visiting.{Added, Visited, Merged}
+use Rattle.join_walk.specs.Blocks.{Small, Blocked, AtLimit}
+use Rattle.join_walk.specs.declared.visit.Settings.{Settings}
+use Rattle.join_walk.specs.declared.visit.Walked.{Walked}
+use Rattle.join_walk.proofs.Narrowing.{listing-kept}
+use Rattle.join_walk.proofs.RunLaws.{run-length, run-split}
+use Rattle.join_walk.proofs.VisitLaws.{underway-next}
+use Rattle.join_walk.proofs.BlockLaws.{runs-there, rows-limit, rows-merge, key-longer}
+use Rattle.join_walk.proofs.BlockVisits.{block-visited, merged-added}
+
+-- the candidates after a path are at most the right sets
+pub candidates-most : (q : Query) (path : List ℕ) (e : ℕ) → length (candidateList q path e) ≤ length (q .rights)
+candidates-most q path e =
+    omega (
+      arith,
+      length-keep (λ s. isCandidate e path (rightAt q s)) (upto (length (q .rights))),
+      count-bound (λ s. isCandidate e path (rightAt q s)) (upto (length (q .rights))),
+      length-range 0 (length (q .rights)),
+    )
+
+module _ {lay : Layout} {st : Settings} {q : Query} {path w : List ℕ} {d lo hi from to : ℕ} {t : Tally}
+    (at : AtLimit lay st q path w d lo hi from to t) where
+  part-length : length (slice from to w) ≡ to - from
+  part-length = length-slice from to w (at .within)
+
+  part-few : to - from ≤ length (q .rights)
+  part-few = omega (arith, part-length, ap length (at .holds), candidates-most q path d)
+
+  pub limit-run : lo < hi → RunThere lay q w lo hi
+  limit-run some = record { index = at .index; some = some; within = at .few }
+
+  limit-listing : Listing (length (q .rights)) (λ s. isCandidate d path (rightAt q s)) (slice from to w)
+  limit-listing =
+      subst (λ (l : List ℕ). Listing (length (q .rights)) (λ s. isCandidate d path (rightAt q s)) l) (sym (at .holds))
+      (listing-kept (length (q .rights)) (λ s. isCandidate d path (rightAt q s)))
+
+  -- the first of them alone, and the others
+  pub limit-first : lo < hi → AtLimit lay st q path w d lo (lo + 1) from to t
+  limit-first some =
+      let parts = run-split lay q w lo (lo + 1) hi (at .index) (omega arith) (omega arith) (at .few) in
+      record {
+        index = at .index;
+        underway = record {
+          limit = at .underway .limit;
+          shallow = at .underway .shallow;
+          rule = at .underway .rule;
+          budget = at .underway .budget;
+          bounded = omega (arith, at .underway .bounded, one-row);
+        };
+        depth = at .depth;
+        deep = at .deep;
+        limit = at .limit;
+        on = at .on;
+        upto = omega arith;
+        few = omega (arith, at .few);
+        begins = all-front (λ k. prefix path (leftAt q k)) (run lay w lo (lo + 1)) (run lay w (lo + 1) hi)
+            (subst (λ (l : List ℕ). all (λ k. prefix path (leftAt q k)) l ≡ true) parts (at .begins));
+        rise = at .rise;
+        within = at .within;
+        holds = at .holds;
+      }
+    where
+      one-row : (lo + 1 - lo) * length (q .rights) ≤ (hi - lo) * length (q .rights)
+      one-row = mul-le-mul-right (length (q .rights)) (omega arith)
+
+  pub limit-next : {r : Tally} → lo < hi → Added q d (run lay w lo (lo + 1)) t r → checksIn r ≤ st .budget
+      → AtLimit lay st q path w d (lo + 1) hi from to r
+  limit-next some add low =
+      let parts = run-split lay q w lo (lo + 1) hi (at .index) (omega arith) (omega arith) (at .few) in
+      record {
+        index = at .index;
+        underway = underway-next (at .underway) add
+            (omega (arith, run-length lay q w lo (lo + 1) (at .index) (omega (arith, at .few)))) low;
+        depth = at .depth;
+        deep = at .deep;
+        limit = at .limit;
+        on = at .on;
+        upto = omega arith;
+        few = at .few;
+        begins = all-back (λ k. prefix path (leftAt q k)) (run lay w lo (lo + 1)) (run lay w (lo + 1) hi)
+            (subst (λ (l : List ℕ). all (λ k. prefix path (leftAt q k)) l ≡ true) parts (at .begins));
+        rise = at .rise;
+        within = at .within;
+        holds = at .holds;
+      }
+
+-- one left set at the limit
+all-one : (p : ℕ → Bool) (x : ℕ) (l : List ℕ) → l ≡ x ∷ [] → p x ≡ true → all p l ≡ true
+unfolding all
+all-one p x l e h = subst (λ (m : List ℕ). all p m ≡ true) (sym e) (and-both h refl)
+
+module _ {lay : Layout} {st : Settings} {q : Query} {w : List ℕ} {d i from to : ℕ} {t : Tally} where
+  one-left : {path : List ℕ} → AtLimit lay st q path w d i (i + 1) from to t → run lay w i (i + 1) ≡ leftIn lay w i ∷ []
+  one-left at =
+      run-next lay w i (i + 1) (omega arith) (omega (arith, order-within lay q w (at .index), at .few))
+      ∙ ap (λ (l : List ℕ). leftIn lay w i ∷ l) (run-none lay w (i + 1) (i + 1) (omega arith))
+
+  pub one-room : {path : List ℕ} → AtLimit lay st q path w d i (i + 1) from to t → t .«by_path» + 1 * (to - from) ≤ 16777216
+  one-room at =
+      let one : (i + 1 - i) * length (q .rights) ≡ length (q .rights) =
+      ap (λ (n : ℕ). n * length (q .rights)) (omega arith) ∙ one-mul (length (q .rights)) in
+      omega (arith, at .underway .bounded, part-few at, one)
+
+  pub one-merged : (path : List ℕ) → AtLimit lay st q path w d i (i + 1) from to t → keyAt q d (leftIn lay w i) ≡ 0 → {r : Tally}
+      → Merged (1 * (to - from)) t r → Visited q (st .budget) d (run lay w i (i + 1)) t (record { tally = r; spent = false })
+  one-merged [] at ends merged = absurd (omega (arith, at .depth, at .deep))
+  one-merged (p ∷ ps) at ends {r} merged =
+      let lefts = run lay w i (i + 1) in
+      let add : Added q d lefts t r =
+      merged-added lefts (slice from to w)
+      (ap₂ (λ (a b : ℕ). a * b) (sym (ap length (one-left at))) (sym (part-length at)))
+      (λ is met.
+      subst (λ (n : ℕ). sum (row is q n) lefts ≡ sum (λ k. count (λ s. is byPath) (slice from to w)) lefts) (at .depth)
+      (rows-merge q p ps is met lefts (slice from to w) (at .begins) (at .on)
+      (all-one (λ k. eqb (keyAt q (length (p ∷ ps)) k) 0) (leftIn lay w i) lefts (one-left at)
+      (subst (λ (n : ℕ). eqb (keyAt q n (leftIn lay w i)) 0 ≡ true) (sym (at .depth))
+      (eq-eqb (keyAt q d (leftIn lay w i)) 0 ends)))
+      (subst (λ (n : ℕ). Listing (length (q .rights)) (λ s. isCandidate n (p ∷ ps) (rightAt q s)) (slice from to w))
+      (sym (at .depth)) (limit-listing at))))
+      merged in
+      record {
+        added = λ calm. add;
+        within = λ calm. omega (arith, merged .confirmed, merged .dropped, merged .falseDrops, at .underway .budget);
+        beyond = λ spent. true-false spent refl;
+      }
+
+  -- its key as it was read
+  pub one-key : {path : List ℕ} {k r : ℕ} → AtLimit lay st q path w d i (i + 1) from to t → Word w (lay .order + i) k
+      → ((q : Query) → LeftThere lay q w k → r ≡ keyAt q d k) → r ≡ keyAt q d (leftIn lay w i)
+  one-key {k = k} {r = r} at word read = run-key (limit-run at (omega arith)) d i k r (omega arith) word read
+
+  pub one-there : (path : List ℕ) → AtLimit lay st q path w d i (i + 1) from to t → RunsThere lay q w d i (i + 1) from to
+  one-there [] at = absurd (omega (arith, at .depth, at .deep))
+  one-there (p ∷ ps) at =
+      runs-there q p ps (at .index) (at .within) (at .few) (limit-listing at) (at .begins) (omega (arith, at .depth))
+
+  pub one-small : {path : List ℕ} → AtLimit lay st q path w d i (i + 1) from to t → Small (st .budget) i (i + 1) from to t
+  one-small at =
+      record {
+        lefts = omega arith;
+        rights = omega (arith, part-few at, at .index .ground .rightFew);
+        rise = omega arith;
+        part = at .rise;
+        covered = at .underway .budget;
+      }
+
+  pub one-checked : (path : List ℕ) → (at : AtLimit lay st q path w d i (i + 1) from to t)
+      → (keyAt q d (leftIn lay w i) ≡ 0 → ⊥) → {r : Walked}
+      → Blocked lay w (st .budget) d i (i + 1) from to t r → Visited q (st .budget) d (run lay w i (i + 1)) t r
+  one-checked [] at longer block = absurd (omega (arith, at .depth, at .deep))
+  one-checked (p ∷ ps) at longer block =
+      let lefts = run lay w i (i + 1) in
+      block-visited (one-there (p ∷ ps) at) (ap length (one-left at) ∙ omega arith) (part-length at)
+      (λ is met.
+      subst (λ (n : ℕ). sum (row is q n) lefts ≡ runCount q is (slice from to w) lefts) (at .depth)
+      (rows-limit q p ps is met lefts (slice from to w) (at .begins) (at .on)
+      (all-one (λ k. ltb (length (p ∷ ps)) (length (leftAt q k))) (leftIn lay w i) lefts (one-left at)
+      (lt-ltb (length (p ∷ ps)) (length (leftAt q (leftIn lay w i)))
+      (omega (arith, key-longer q d (leftIn lay w i) (ne-eqb (keyAt q d (leftIn lay w i)) 0 longer), at .depth))))
+      (at .limit ∙ sym (at .depth))
+      (subst (λ (n : ℕ). Listing (length (q .rights)) (λ s. isCandidate n (p ∷ ps) (rightAt q s)) (slice from to w))
+      (sym (at .depth)) (limit-listing at))))
+      block

@@ -1,0 +1,262 @@
+-- A node where the walk goes on: the candidates are narrowed; at the limit its left sets are finished; below it those that end
+-- there come first and pair by path, and the others are its children.
+use Prim.Native.Nat.{ℕ, suc, _+_, _-_, _*_, _≤_, _<_}
+use mathlib.Core.Path.{_≡_, refl, sym, ap, ap₂, subst, _∙_}
+use mathlib.Core.List.{List, [], _∷_, _++_}
+use mathlib.Core.Bool.{Bool, true, false, _&&_, not}
+use native.Mathlib.Omega.{arith}
+use native.Mathlib.Nat.{mul-le-mul}
+use borrow.Author.Tests.{not-true}
+use lib.Dec.{eqb}
+use lib.ListN.{length, take, getD}
+use Rattle.lists.specs.Lists.{all, count, prefix, sum, slice}
+use Rattle.lists.proofs.Bools.{and-left, and-right, true-false}
+use Rattle.lists.proofs.Throughout.{all-back}
+use Rattle.lists.proofs.Filtering.{all-kept, all-keep}
+use Rattle.lists.proofs.Summing.{sum-same-where}
+use Rattle.lists.proofs.Slices.{length-slice}
+use Rattle.join_spec.specs.Query.{Query}
+use Rattle.join_spec.specs.Node.{lastOf}
+use Rattle.join_spec.specs.Walk.{Outcome, notMet, byPath, isCandidate}
+use Rattle.join_index.specs.Grouping.{leftAt, rightAt, keyAt, orderFrom}
+use Rattle.join_index.specs.Ground.{Listing}
+use Rattle.join_index.specs.declared.Layout.{Layout}
+use Rattle.join_index.proofs.GroundLaws.{offsets-rise}
+use Rattle.join_check.specs.Asking.{Index, RunThere}
+use Rattle.join_check.specs.Runs.{run}
+use Rattle.join_check.specs.Checks.{checksIn}
+use Rattle.join_check.specs.declared.Tally.{Tally}
+use Rattle.join_walk.specs.Rows.{goes, row}
+use Rattle.join_walk.specs.Narrowing.{Candidates, Narrowed, slotOf}
+use Rattle.join_walk.specs.Visiting.{OnPath, Node, FirstChildren, NodeVisited, ChildrenVisited, Visited, Added, Merged}
+use Rattle.join_walk.specs.Visiting.{Framed, beginners}
+use Rattle.join_walk.specs.Blocks.{AtLimit, MergedEnd}
+use Rattle.join_walk.specs.declared.narrow.Part.{Part}
+use Rattle.join_walk.specs.declared.visit.Settings.{Settings}
+use Rattle.join_walk.specs.declared.visit.Walked.{Walked}
+use Rattle.join_walk.proofs.RunLaws.{Cut, run-length, run-split}
+use Rattle.join_walk.proofs.GroupSteps.{endedAt, goingOn, ended-keys, going-keys, beginners-grouped, ended-cut}
+use Rattle.join_walk.proofs.Narrowing.{listing-kept}
+use Rattle.join_walk.proofs.NodeFacts.{last-read}
+use Rattle.join_walk.proofs.Prefixes.{prefix-take}
+use Rattle.join_walk.proofs.RowLaws.{row-deeper}
+use Rattle.join_walk.proofs.BlockLaws.{Begin, rows-merge, key-longer, all-and}
+use Rattle.join_walk.proofs.BlockVisits.{merged-added}
+use Rattle.join_walk.proofs.LimitLaws.{candidates-most}
+use Rattle.join_walk.proofs.VisitLaws.{visited-then, visited-rows, underway-next}
+use Rattle.join_walk.proofs.FrameLaws.{index-framed, slot-framed, run-framed, framed-then}
+use Rattle.join_walk.proofs.NodeStops.{node-begins}
+
+module _ {lay : Layout} {st : Settings} {q : Query} {path w : List ℕ} {d lo hi from to : ℕ} {t : Tally}
+    (node : Node lay st q path w d lo hi from to t) where
+  cands : Candidates lay q path w d from to
+  cands = node .at .candidates
+
+  index : Index lay q w
+  index = cands .index
+
+  -- the candidates as they were narrowed, by the path's last rank as it was read
+  pub narrowed-read : {rank : ℕ} {w′ : List ℕ} {part : Part}
+      → ((q : Query) (path : List ℕ) → OnPath lay q path w lo (d - 1) → rank ≡ getD path (d - 1) 0)
+      → ((q : Query) (path : List ℕ) → Candidates lay q path w d from to → rank ≡ lastOf path → Narrowed lay q path d w w′ part)
+      → Narrowed lay q path d w w′ part
+  narrowed-read read narrowed = narrowed q path cands (last-read (node .at) read)
+
+  -- going on, the candidates narrowed
+  module _ {w′ : List ℕ} {part : Part} (narrowed : Narrowed lay q path d w w′ part) (on : true ≡ goes q path) where
+    framed : Framed (slotOf lay w (lastOf path)) w w′
+    framed = record { size = narrowed .size; frame = narrowed .frame }
+
+    low : lay .slots ≤ slotOf lay w (lastOf path)
+    low = omega arith
+
+    pub index-after : Index lay q w′
+    index-after = index-framed index framed low
+
+    same-run : (a b : ℕ) → b ≤ length (q .lefts) → run lay w′ a b ≡ run lay w a b
+    same-run a b few = run-framed index framed low a b few
+
+    part-inside : part .to ≤ length w′
+    part-inside = omega (arith, narrowed .below, index .ground .room (lastOf path) (cands .last), narrowed .size)
+
+    after-length : length (slice (part .«from») (part .to) w′) ≡ part .to - part .«from»
+    after-length = length-slice (part .«from») (part .to) w′ part-inside
+
+    after-few : part .to - part .«from» ≤ length (q .rights)
+    after-few = omega (arith, after-length, ap length (narrowed .holds), candidates-most q path d)
+
+    -- at the limit
+    pub node-limit : st .limit ≤ d → AtLimit lay st q path w′ d lo hi (part .«from») (part .to) t
+    node-limit deepest =
+        record {
+          index = index-after;
+          underway = node .underway;
+          depth = cands .depth;
+          deep = cands .deep;
+          limit = omega (arith, node .underway .limit, node .at .within);
+          on = sym on;
+          upto = omega (arith, node .at .some);
+          few = node .at .few;
+          begins = subst (λ (l : List ℕ). Begin q path l) (sym (same-run lo hi (node .at .few))) (node-begins node);
+          rise = narrowed .rise;
+          within = part-inside;
+          holds = narrowed .holds;
+        }
+
+    pub limit-visited : {r : Walked} → Visited q (st .budget) d (run lay w′ lo hi) t r
+        → NodeVisited lay st q path w w′ d lo hi t r
+    limit-visited {r} done =
+        record {
+          framed = framed;
+          visited = subst (λ (l : List ℕ). Visited q (st .budget) d l t r) (same-run lo hi (node .at .few)) done;
+        }
+
+    pub node-run : RunThere lay q w′ lo hi
+    node-run = record { index = index-after; some = node .at .some; within = node .at .few }
+
+    -- below the limit the left sets that end at the node come first
+    module _ (deeper : d < st .limit) where
+      rest : List ℕ
+      rest = beginners q path (suc d)
+
+      grouped-lefts : run lay w lo hi ≡ endedAt q d rest ++ goingOn q d rest
+      unfolding rest
+      grouped-lefts = node .at .lefts ∙ beginners-grouped q path d (omega (arith, node .underway .limit))
+
+      module _ {mid : ℕ} (end : MergedEnd lay w′ d lo hi mid) where
+        parted : Cut lay w′ lo mid hi (endedAt q d rest) (goingOn q d rest)
+        parted = ended-cut rest node-run (same-run lo hi (node .at .few) ∙ grouped-lefts) end
+
+        ended-lefts : run lay w lo mid ≡ endedAt q d rest
+        ended-lefts = sym (same-run lo mid (omega (arith, end .high, node .at .few))) ∙ parted .front
+
+        child-lefts : run lay w mid hi ≡ goingOn q d rest
+        child-lefts = sym (same-run mid hi (node .at .few)) ∙ parted .back
+
+        front-length : length (run lay w lo mid) ≡ mid - lo
+        front-length = run-length lay q w lo mid index (omega (arith, end .high, node .at .few))
+
+        pub merged-room : t .«by_path» + (mid - lo) * (part .to - part .«from») ≤ 16777216
+        merged-room =
+            let product : (mid - lo) * (part .to - part .«from») ≤ (hi - lo) * length (q .rights) =
+            mul-le-mul {n₁ = mid - lo} {n₂ = hi - lo} (omega (arith, end .high)) after-few in
+            omega (arith, node .underway .bounded, product)
+
+        ended-begin : Begin q path (run lay w lo mid)
+        unfolding rest
+        ended-begin =
+            subst (λ (l : List ℕ). Begin q path l) (sym ended-lefts)
+            (all-keep (λ k. prefix path (leftAt q k)) (λ k. eqb (keyAt q d k) 0) rest
+            (all-kept (λ k. prefix path (leftAt q k)) (orderFrom q (q .limit - suc d) (suc d))))
+
+        front-keys : all (λ k. eqb (keyAt q d k) 0) (run lay w lo mid) ≡ true
+        front-keys = subst (λ (l : List ℕ). all (λ k. eqb (keyAt q d k) 0) l ≡ true) (sym ended-lefts) (ended-keys q d rest)
+
+        after-listing : Listing (length (q .rights)) (λ s. isCandidate d path (rightAt q s)) (slice (part .«from») (part .to) w′)
+        after-listing =
+            subst (λ (l : List ℕ). Listing (length (q .rights)) (λ s. isCandidate d path (rightAt q s)) l) (sym (narrowed .holds))
+            (listing-kept (length (q .rights)) (λ s. isCandidate d path (rightAt q s)))
+
+        module _ {m : Tally} (merged : Merged ((mid - lo) * (part .to - part .«from»)) t m) where
+          pub merged-lefts : Added q d (run lay w lo mid) t m
+          merged-lefts =
+              merged-added (run lay w lo mid) (slice (part .«from») (part .to) w′)
+              (ap₂ (λ (a b : ℕ). a * b) (sym front-length) (sym after-length)) (λ is met. go path refl is met) merged
+            where
+              list : List ℕ
+              list = slice (part .«from») (part .to) w′
+
+              go : (l : List ℕ) → path ≡ l → (is : Outcome → Bool) → is notMet ≡ false
+                  → sum (row is q d) (run lay w lo mid) ≡ sum (λ k. count (λ s. is byPath) list) (run lay w lo mid)
+              go [] e is met = absurd (omega (arith, cands .depth, cands .deep, ap length e))
+              go (p ∷ ps) e is met =
+                  let depth : length (p ∷ ps) ≡ d = sym (ap length e) ∙ cands .depth in
+                  subst
+                  (λ (n : ℕ). sum (row is q n) (run lay w lo mid) ≡ sum (λ k. count (λ s. is byPath) list) (run lay w lo mid))
+                  depth
+                  (rows-merge q p ps is met (run lay w lo mid) list
+                  (subst (λ (l : List ℕ). Begin q l (run lay w lo mid)) e ended-begin) (ap (goes q) (sym e) ∙ sym on)
+                  (subst (λ (n : ℕ). all (λ k. eqb (keyAt q n k) 0) (run lay w lo mid) ≡ true) (sym depth) front-keys)
+                  (subst (λ (n : ℕ). Listing (length (q .rights)) (λ s. isCandidate n (p ∷ ps) (rightAt q s)) list) (sym depth)
+                  (subst (λ (l : List ℕ). Listing (length (q .rights)) (λ s. isCandidate d l (rightAt q s)) list)
+                  e after-listing)))
+
+          merged-budget : checksIn m ≤ st .budget
+          merged-budget = omega (arith, merged .confirmed, merged .dropped, merged .falseDrops, node .underway .budget)
+
+          -- no left set goes on
+          pub all-merged : hi ≤ mid → NodeVisited lay st q path w w′ d lo hi t (record { tally = m; spent = false })
+          all-merged past =
+              let same : mid ≡ hi = omega (arith, end .high) in
+              record {
+                framed = framed;
+                visited = record {
+                  added = λ calm. subst (λ (n : ℕ). Added q d (run lay w lo n) t m) same merged-lefts;
+                  within = λ calm. merged-budget;
+                  beyond = λ spent. true-false spent refl;
+                };
+              }
+
+          -- the others are the node's children
+          pub node-children : mid < hi → FirstChildren lay st q path w′ d mid hi (part .«from») (part .to) m
+          unfolding rest
+          node-children some =
+              record {
+                index = index-after;
+                underway = underway-next (node .underway) merged-lefts (omega (arith, front-length, end .low)) merged-budget;
+                depth = cands .depth;
+                deep = cands .deep;
+                within = omega (arith, node .underway .limit);
+                last = cands .last;
+                upto = omega arith;
+                few = node .at .few;
+                keys = omega arith;
+                further = omega arith;
+                lefts = same-run mid hi (node .at .few) ∙ child-lefts;
+                rise = narrowed .rise;
+                below = omega (arith, narrowed .below, slot-framed index framed low (suc (lastOf path)) (cands .last));
+                holds = narrowed .holds;
+              }
+
+          child-begin : Begin q path (run lay w mid hi)
+          unfolding rest
+          child-begin =
+              all-back (λ k. prefix path (leftAt q k)) (run lay w lo mid) (run lay w mid hi)
+              (subst (λ (l : List ℕ). Begin q path l) (run-split lay q w lo mid hi index (end .low) (end .high) (node .at .few))
+              (node-begins node))
+
+          child-keys : all (λ k. not (eqb (keyAt q d k) 0)) (run lay w mid hi) ≡ true
+          child-keys =
+              subst (λ (l : List ℕ). all (λ k. not (eqb (keyAt q d k) 0)) l ≡ true) (sym child-lefts) (going-keys q d rest)
+
+          rows-deeper : (is : Outcome → Bool) → sum (row is q (suc d)) (run lay w mid hi) ≡ sum (row is q d) (run lay w mid hi)
+          rows-deeper is =
+              sum-same-where (λ k. prefix path (leftAt q k) && not (eqb (keyAt q d k) 0)) (row is q (suc d)) (row is q d)
+              (run lay w mid hi)
+              (all-and (λ k. prefix path (leftAt q k)) (λ k. not (eqb (keyAt q d k) 0)) (run lay w mid hi) child-begin child-keys)
+              (λ k both.
+              let begin = and-left (prefix path (leftAt q k)) (not (eqb (keyAt q d k) 0)) both in
+              let more = not-true (eqb (keyAt q d k) 0) (and-right (prefix path (leftAt q k)) (not (eqb (keyAt q d k) 0)) both) in
+              sym (row-deeper q d k is
+              (subst (λ (n : ℕ). goes q (take n (leftAt q k)) ≡ true) (cands .depth)
+              (sym (ap (goes q) (prefix-take path (leftAt q k) begin)) ∙ sym on))
+              (key-longer q d k more) (omega (arith, node .underway .limit))))
+
+          -- and their visit makes the node's
+          pub children-visited : {w″ : List ℕ} {r : Walked} → ChildrenVisited lay st q path w′ w″ d mid hi m r
+              → NodeVisited lay st q path w w″ d lo hi t r
+          children-visited {w″} {r} done =
+              record {
+                framed = framed-then (omega (
+                  arith,
+                  slot-framed index framed low (suc (lastOf path)) (cands .last),
+                  offsets-rise lay q w (index .ground) (lastOf path) (suc (lastOf path)) (omega arith) (cands .last),
+                )) framed (done .framed);
+                visited =
+                    subst (λ (l : List ℕ). Visited q (st .budget) d l t r)
+                    (sym (run-split lay q w lo mid hi index (end .low) (end .high) (node .at .few)))
+                    (visited-then merged-lefts
+                    (visited-rows (run lay w mid hi) rows-deeper
+                    (subst (λ (l : List ℕ). Visited q (st .budget) (suc d) l m r) (same-run mid hi (node .at .few))
+                    (done .visited))));
+              }

@@ -1,0 +1,117 @@
+-- `narrow` meets its contract. Both words lie in the offsets region; at depth 1 nothing is written, and deeper `intersect` writes
+-- the slot of the last rank, which begins above the candidates.
+use native.Mathlib.Omega.{arith}
+use borrow.Author.Needs.{needs}
+use Rattle.join_walk.proofs.CandidateLaws.{first-word, last-word, inverted-read, narrowed-first, narrowed-further}
+use Rattle.join_walk.proofs.CandidateLaws.{before-rising, inverted-rising, slot-apart}
+use Rattle.join_walk.proofs.narrow.narrow.Statement.{statement}
+use Rattle.join_walk.proofs.narrow.narrow.Tie as tie
+
+add-word-at : tie.Need-add-word-at
+add-word-at c = search needs
+
+word-at-requires : tie.Need-word-at-requires
+word-at-requires c κs = search needs
+
+add-word-at-2 : tie.Need-add-word-at-2
+add-word-at-2 c = search needs
+
+add-word-at-3 : tie.Need-add-word-at-3
+add-word-at-3 c = search needs
+
+word-at-requires-2 : tie.Need-word-at-requires-2
+word-at-requires-2 c κs = search needs
+
+add-t21 : tie.Need-add-t21
+add-t21 c =
+    let last = c .before in
+    let first = last .before .before in
+    let start = first .before .before .before in
+    let cands = start .pre .holds .0 in
+    let held = inverted-read cands (start .pre .holds .1) (first .word-at .ensures) (last .word-at2 .ensures) in
+    omega (arith, held .rise, held .within, cands .index .room, start .good .0)
+
+add-t22 : tie.Need-add-t22
+add-t22 c =
+    let last = c .before in
+    let first = last .before .before in
+    let start = first .before .before .before in
+    let cands = start .pre .holds .0 in
+    let held = inverted-read cands (start .pre .holds .1) (first .word-at .ensures) (last .word-at2 .ensures) in
+    omega (arith, held .within, cands .index .room, start .good .0)
+
+same-length : tie.Need-same-length
+same-length c = search needs
+
+returns : tie.Need-returns
+returns c =
+    let last = c .before in
+    let first = last .before .before in
+    λ q path cands is.
+    narrowed-first cands (first-word cands (first .word-at .ensures) is) (last-word cands (last .word-at2 .ensures) is)
+    (c .if1 .taken)
+
+add-out : tie.Need-add-out
+add-out c = search needs
+
+add-intersect : tie.Need-add-intersect
+add-intersect c =
+    let last = c .before .before in
+    let first = last .before .before in
+    let start = first .before .before .before in
+    let cands = start .pre .holds .0 in
+    let held = inverted-read cands (start .pre .holds .1) (first .word-at .ensures) (last .word-at2 .ensures) in
+    omega (arith, held .rise, held .within, cands .index .room, start .good .0)
+
+add-intersect-2 : tie.Need-add-intersect-2
+add-intersect-2 c =
+    let last = c .before .before in
+    let first = last .before .before in
+    let start = first .before .before .before in
+    let cands = start .pre .holds .0 in
+    let held = inverted-read cands (start .pre .holds .1) (first .word-at .ensures) (last .word-at2 .ensures) in
+    omega (arith, held .within, cands .index .room, start .good .0)
+
+intersect-requires : tie.Need-intersect-requires
+intersect-requires c κs =
+    let last = c .before .before in
+    let first = last .before .before in
+    let start = first .before .before .before in
+    let cands = start .pre .holds .0 in
+    let at-first = first-word cands (first .word-at .ensures) (start .pre .holds .1) in
+    let at-last = last-word cands (last .word-at2 .ensures) (start .pre .holds .1) in (
+      before-rising cands at-first at-last (omega (arith, cands .deep)),
+      (inverted-rising cands at-first at-last, slot-apart cands at-first at-last),
+    )
+
+same-length-2 : tie.Need-same-length-2
+same-length-2 c = search needs
+
+returns-2 : tie.Need-returns-2
+returns-2 c =
+    let met = c .before .before in
+    let last = met .before .before .before in
+    let first = last .before .before in
+    λ q path cands is.
+    narrowed-further cands (first-word cands (first .word-at .ensures) is) (last-word cands (last .word-at2 .ensures) is)
+    (omega (arith, cands .deep)) (met .intersect .ensures)
+
+pub narrow-spec : {M : Type 1} → statement M
+narrow-spec =
+    tie.close
+    (tie.spec
+    add-word-at
+    word-at-requires
+    add-word-at-2
+    add-word-at-3
+    word-at-requires-2
+    add-t21
+    add-t22
+    same-length
+    returns
+    add-out
+    add-intersect
+    add-intersect-2
+    intersect-requires
+    same-length-2
+    returns-2)

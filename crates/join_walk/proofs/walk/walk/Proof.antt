@@ -1,0 +1,61 @@
+-- `walk` meets its contract: no left set, nothing to count; else the empty left sets stand first, and the partitions follow.
+use mathlib.Core.Path.{refl}
+use native.Mathlib.Omega.{arith}
+use borrow.Author.Needs.{needs}
+use Rattle.join_walk.proofs.WalkSteps.{walk-none, walk-run, paths-room, walk-partitions, walk-done}
+use Rattle.join_walk.proofs.walk.walk.Statement.{statement}
+use Rattle.join_walk.proofs.walk.walk.Tie as tie
+
+returns : tie.Need-returns
+returns c = λ q ready. walk-none ready (c .if1 .taken) refl refl refl refl
+
+merged-end-requires : tie.Need-merged-end-requires
+merged-end-requires c κs =
+    let some = c .before in
+    let start = some .before .before in
+    record { query = start .pre .query; holds = walk-run (start .pre .holds) (omega (arith, some .if1 .left)) }
+
+add-paths-requires : tie.Need-add-paths-requires
+add-paths-requires c κs =
+    let some = c .before .before in
+    let start = some .before .before in
+    paths-room (start .pre .holds) (omega (arith, some .if1 .left)) (c .merged-end .ensures)
+
+visit-partitions-requires : tie.Need-visit-partitions-requires
+visit-partitions-requires c κs =
+    let merged = c .before in
+    let end = merged .before in
+    let some = end .before .before in
+    let start = some .before .before in
+    record {
+      query = start .pre .query;
+      holds =
+          walk-partitions (start .pre .holds) (omega (arith, some .if1 .left)) (end .merged-end .ensures) refl refl
+          (merged .add-paths .ensures);
+    }
+
+same-length : tie.Need-same-length
+same-length c = search needs
+
+returns-2 : tie.Need-returns-2
+returns-2 c =
+    let visited = c .before .before in
+    let merged = visited .before .before in
+    let end = merged .before in
+    let some = end .before .before in
+    λ q ready.
+    let parts =
+    walk-partitions ready (omega (arith, some .if1 .left)) (end .merged-end .ensures) refl refl (merged .add-paths .ensures) in
+    walk-done ready (omega (arith, some .if1 .left)) (end .merged-end .ensures) refl refl (merged .add-paths .ensures)
+    (visited .visit-partitions .ensures q parts)
+
+pub walk-spec : {M : Type 1} → statement M
+walk-spec =
+    tie.close
+    (tie.spec
+    returns
+    merged-end-requires
+    add-paths-requires
+    visit-partitions-requires
+    same-length
+    returns-2)

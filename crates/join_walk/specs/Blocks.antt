@@ -1,0 +1,59 @@
+-- The checks of a block of left sets against a list of candidates, made only where the budget covers them all; and the left
+-- sets at the limit.
+use Prim.Native.Nat.{ℕ, _+_, _-_, _*_, _≤_, _<_}
+use mathlib.Core.Path.{_≡_}
+use mathlib.Core.List.{List}
+use mathlib.Core.Bool.{true, false}
+use lib.Dec.{eqb}
+use lib.ListN.{length}
+use Rattle.lists.specs.Lists.{all, prefix, slice}
+use Rattle.join_spec.specs.Query.{Query}
+use Rattle.join_index.specs.Grouping.{leftAt, keyAt}
+use Rattle.join_index.specs.declared.Layout.{Layout}
+use Rattle.join_check.specs.Asking.{Index, RunThere}
+use Rattle.join_check.specs.Runs.{run, lead}
+use Rattle.join_check.specs.Checks.{checksIn, runCount, Tallied, RunsThere}
+use Rattle.join_check.specs.declared.Tally.{Tally}
+use Rattle.join_walk.specs.Rows.{goes}
+use Rattle.join_walk.specs.Narrowing.{candidateList}
+use Rattle.join_walk.specs.Visiting.{Underway}
+use Rattle.join_walk.specs.declared.visit.Settings.{Settings}
+use Rattle.join_walk.specs.declared.visit.Walked.{Walked}
+
+-- a block that is small, with a budget that covers the checks so far
+pub record Small (budget lo hi from to : ℕ) (t : Tally) : Type 0 where
+  pub lefts : hi - lo ≤ 4096
+  pub rights : to - from ≤ 4096
+  pub rise : lo ≤ hi
+  pub part : from ≤ to
+  pub covered : checksIn t ≤ budget
+
+-- every left set was checked against every candidate, or that would have passed the budget
+pub record Blocked (lay : Layout) (w : List ℕ) (budget e lo hi from to : ℕ) (t : Tally) (r : Walked) : Type 0 where
+  pub tallied :
+      r .spent ≡ false → (q : Query) → RunsThere lay q w e lo hi from to
+      → Tallied (λ is. runCount q is (slice from to w) (run lay w lo hi)) t (r .tally)
+  pub within : r .spent ≡ false → checksIn (r .tally) ≤ budget
+  pub beyond : r .spent ≡ true → budget < checksIn t + (hi - lo) * (to - from)
+
+-- r is where the left sets end that stand first from place lo and have no rank after depth d
+pub record MergedEnd (lay : Layout) (w : List ℕ) (d lo hi r : ℕ) : Type 0 where
+  pub low : lo ≤ r
+  pub high : r ≤ hi
+  pub maximal : (q : Query) → RunThere lay q w lo hi → r ≡ lo + lead (λ k. eqb (keyAt q d k) 0) (run lay w lo hi)
+
+-- left sets at the limit, at the places lo up to hi: they begin with the path, where the walk goes on, and the candidates are
+-- those after it
+pub record AtLimit (lay : Layout) (st : Settings) (q : Query) (path w : List ℕ) (d lo hi from to : ℕ) (t : Tally) : Type 0 where
+  pub index : Index lay q w
+  pub underway : Underway st q t (hi - lo)
+  pub depth : length path ≡ d
+  pub deep : 0 < d
+  pub limit : q .limit ≡ d
+  pub on : goes q path ≡ true
+  pub upto : lo ≤ hi
+  pub few : hi ≤ length (q .lefts)
+  pub begins : all (λ k. prefix path (leftAt q k)) (run lay w lo hi) ≡ true
+  pub rise : from ≤ to
+  pub within : to ≤ length w
+  pub holds : slice from to w ≡ candidateList q path d

@@ -1,0 +1,118 @@
+-- What is known at a node when it is visited, and what a visit answers: the counters with the rows of the node's left sets
+-- added, or that the checks would pass the budget.
+use Prim.Native.Nat.{ℕ, suc, _+_, _-_, _*_, _^_, _≤_, _<_}
+use mathlib.Core.Path.{_≡_}
+use mathlib.Core.List.{List}
+use mathlib.Core.Bool.{true, false}
+use lib.ListN.{length, take}
+use Rattle.lists.specs.Lists.{keep, prefix, sum, slice}
+use Rattle.sets.specs.Limits.{maxLimit}
+use Rattle.join_spec.specs.Query.{Query}
+use Rattle.join_spec.specs.Node.{lastOf}
+use Rattle.join_spec.specs.Counting.{isByPath, isConfirmed, isDropped, isFalse, isCheck}
+use Rattle.join_index.specs.Grouping.{leftAt, keyAt, groupsFrom, orderFrom}
+use Rattle.join_index.specs.declared.Layout.{Layout}
+use Rattle.join_check.specs.Asking.{Index}
+use Rattle.join_check.specs.Runs.{run, leftIn}
+use Rattle.join_check.specs.Checks.{checksIn}
+use Rattle.join_check.specs.declared.Tally.{Tally}
+use Rattle.join_walk.specs.Rows.{row}
+use Rattle.join_walk.specs.Narrowing.{Candidates, candidateList, slotOf}
+use Rattle.join_walk.specs.declared.visit.Settings.{Settings}
+use Rattle.join_walk.specs.declared.visit.Walked.{Walked}
+
+-- the greatest number of pairs of a left and a right set
+abbrev pub maxPairs : ℕ
+maxPairs = 4096 * 4096
+
+-- the settings are the query's, the checks so far are within the budget, and there is room to count n further left sets
+pub record Underway (st : Settings) (q : Query) (t : Tally) (n : ℕ) : Type 0 where
+  pub limit : st .limit ≡ q .limit
+  pub shallow : q .limit ≤ maxLimit
+  pub rule : st .rule ≡ q .rule
+  pub budget : checksIn t ≤ st .budget
+  pub bounded : t .«by_path» + checksIn t + n * length (q .rights) ≤ maxPairs
+
+-- the left sets that begin with a path, in the order that their further ranks give
+abbrev pub beginners : Query → List ℕ → ℕ → List ℕ
+beginners q path d = keep (λ k. prefix path (leftAt q k)) (orderFrom q (q .limit - d) d)
+
+-- the left set at place lo of the order begins with the path, which has a rank at place i
+pub record OnPath (lay : Layout) (q : Query) (path w : List ℕ) (lo i : ℕ) : Type 0 where
+  pub index : Index lay q w
+  pub few : lo < length (q .lefts)
+  pub begins : prefix path (leftAt q (leftIn lay w lo)) ≡ true
+  pub deep : i < length path
+
+-- a node: its path, its left sets at the places lo up to hi of the order, and its candidates
+pub record NodeAt (lay : Layout) (q : Query) (path w : List ℕ) (d lo hi from to : ℕ) : Type 0 where
+  pub candidates : Candidates lay q path w d from to
+  pub within : d ≤ q .limit
+  pub some : lo < hi
+  pub few : hi ≤ length (q .lefts)
+  pub lefts : run lay w lo hi ≡ beginners q path d
+
+-- a node that is to be visited
+pub record Node (lay : Layout) (st : Settings) (q : Query) (path w : List ℕ) (d lo hi from to : ℕ) (t : Tally) : Type 0 where
+  pub at : NodeAt lay q path w d lo hi from to
+  pub underway : Underway st q t (hi - lo)
+
+-- the children of a node, from next rank x on: the left sets at lo up to hi that go on after the path, and the candidates after
+-- it
+pub record Children (lay : Layout) (st : Settings) (q : Query) (path w : List ℕ) (d lo hi from to : ℕ) (t : Tally)
+    (x n : ℕ) : Type 0 where
+  pub index : Index lay q w
+  pub underway : Underway st q t (hi - lo)
+  pub depth : length path ≡ d
+  pub deep : 0 < d
+  pub within : d < q .limit
+  pub last : lastOf path < q .T
+  pub upto : lo ≤ hi
+  pub few : hi ≤ length (q .lefts)
+  pub keys : x + n ≡ suc (q .T)
+  pub further : 0 < x
+  pub lefts : run lay w lo hi ≡ groupsFrom (keyAt q d) x n (beginners q path (suc d))
+  pub rise : from ≤ to
+  pub below : to ≤ slotOf lay w (suc (lastOf path))
+  pub holds : slice from to w ≡ candidateList q path d
+
+-- r is t with the rows of the left sets, their walk being at depth d
+pub record Added (q : Query) (d : ℕ) (lefts : List ℕ) (t r : Tally) : Type 0 where
+  pub byPath : r .«by_path» ≡ t .«by_path» + sum (row isByPath q d) lefts
+  pub confirmed : r .confirmed ≡ t .confirmed + sum (row isConfirmed q d) lefts
+  pub dropped : r .dropped ≡ t .dropped + sum (row isDropped q d) lefts
+  pub falseDrops : r .«false_drops» ≡ t .«false_drops» + sum (row isFalse q d) lefts
+
+-- n pairs by path were counted
+pub record Merged (n : ℕ) (t r : Tally) : Type 0 where
+  pub byPath : r .«by_path» ≡ t .«by_path» + n
+  pub confirmed : r .confirmed ≡ t .confirmed
+  pub dropped : r .dropped ≡ t .dropped
+  pub falseDrops : r .«false_drops» ≡ t .«false_drops»
+
+-- the answer of a visit of these left sets: all their rows were added within the budget, or their checks pass it
+pub record Visited (q : Query) (budget d : ℕ) (lefts : List ℕ) (t : Tally) (r : Walked) : Type 0 where
+  pub added : r .spent ≡ false → Added q d lefts t (r .tally)
+  pub within : r .spent ≡ false → checksIn (r .tally) ≤ budget
+  pub beyond : r .spent ≡ true → budget < checksIn t + sum (row isCheck q d) lefts
+
+-- w became w′: only words from a slot on may differ
+pub record Framed (slot : ℕ) (w w′ : List ℕ) : Type 0 where
+  pub size : length w′ ≡ length w
+  pub frame : take slot w′ ≡ take slot w
+
+-- the children of a node from its first on
+abbrev pub FirstChildren : Layout → Settings → Query → List ℕ → List ℕ → ℕ → ℕ → ℕ → ℕ → ℕ → Tally → Type 0
+FirstChildren lay st q path w d lo hi from to t = Children lay st q path w d lo hi from to t 1 (q .T)
+
+-- a node was visited: only slots of its last rank and beyond changed, and its left sets' rows were added
+pub record NodeVisited (lay : Layout) (st : Settings) (q : Query) (path w w′ : List ℕ) (d lo hi : ℕ) (t : Tally)
+    (r : Walked) : Type 0 where
+  pub framed : Framed (slotOf lay w (lastOf path)) w w′
+  pub visited : Visited q (st .budget) d (run lay w lo hi) t r
+
+-- the children of a node were visited: only slots beyond its last rank changed, and their rows were added
+pub record ChildrenVisited (lay : Layout) (st : Settings) (q : Query) (path w w′ : List ℕ) (d lo hi : ℕ) (t : Tally)
+    (r : Walked) : Type 0 where
+  pub framed : Framed (slotOf lay w (suc (lastOf path))) w w′
+  pub visited : Visited q (st .budget) (suc d) (run lay w lo hi) t r

@@ -1,0 +1,6 @@
+// The walk of the prefix tree: node visit, child loop and partitions.
+pub mod blocks;
+pub mod decide;
+pub mod narrow;
+pub mod visit;
+pub mod walk;

@@ -1,0 +1,92 @@
+// The whole walk: partition by partition in rank order, each with the right sets seen at its rank.
+use crate::blocks::add_paths;
+use crate::blocks::merged_end;
+use crate::visit::Settings;
+use crate::visit::Walked;
+use crate::visit::visit_node;
+use join_check::Tally;
+use join_check::keys::key_at;
+use join_check::keys::run_end;
+use join_check::words::word_at;
+use join_index::Layout;
+ghost use Prim.Native.Nat.{ℕ};
+ghost use lib.ListN.{length};
+ghost use Rattle.join_spec.specs.Query.{Query};
+ghost use Rattle.join_check.specs.Asking.{Some};
+ghost use Rattle.join_walk.specs.Partitions.{SomeRank, Partition, AllPartitions, PartVisited, Ready, WalkDone};
+
+// Visits the partition of the left sets at the places lo up to hi of the order. The right sets with a least rank up to theirs
+// have been added to the seen ones by now: they stand first by least rank.
+fn visit_partition(
+    work: &mut [u32],
+    lay: Layout,
+    st: Settings,
+    lo: usize,
+    hi: usize,
+    t: Tally,
+) -> Walked
+    requires { ⌜ SomeRank (λ q r. Partition lay st q (now work) lo hi t r) ⌝ }
+    ensures { λ one. ⌜ ((q : Query) (r : ℕ) → Partition lay st q (now (work .entry)) lo hi t r
+        → PartVisited lay st q (now (work .entry)) (now (work .exit)) lo hi t one) ⌝ }
+{
+    let order = lay.order;
+    let offsets = lay.least_offsets;
+    let first = lay.by_least;
+    let k = word_at(work, order + lo);
+    let key = key_at(work, lay, k, 0);
+    let seen = word_at(work, offsets + key);
+    visit_node(work, lay, st, 1, lo, hi, first, first + seen, t)
+}
+
+// Visits the partitions of the left sets at the places lo up to hi of the order.
+fn visit_partitions(
+    work: &mut [u32],
+    lay: Layout,
+    st: Settings,
+    lo: usize,
+    hi: usize,
+    t: Tally,
+) -> Walked
+    requires { ⌜ Some (λ q. AllPartitions lay st q (now work) lo hi t) ⌝ }
+    ensures { λ r. ⌜ ((q : Query) → AllPartitions lay st q (now (work .entry)) lo hi t
+        → PartVisited lay st q (now (work .entry)) (now (work .exit)) lo hi t r) ⌝ }
+{
+    let mut r = t;
+    let mut i = lo;
+    while i < hi {
+        let j = run_end(work, lay, 0, i, hi);
+        let one = visit_partition(work, lay, st, i, j, r);
+        if one.spent {
+            return one;
+        }
+        r = one.tally;
+        i = j;
+    }
+    Walked {
+        tally: r,
+        spent: false,
+    }
+}
+
+// The whole walk over the index of a query. Empty left sets pair with every right set.
+pub fn walk(work: &mut [u32], lay: Layout, st: Settings, lefts: usize, rights: usize) -> Walked
+    requires { ⌜ Some (λ q. Ready lay st q (now work) lefts rights) ⌝ }
+    ensures { λ r. ⌜ ((q : Query) → Ready lay st q (now (work .entry)) lefts rights
+        → WalkDone lay q (st .budget) (now (work .entry)) (now (work .exit)) r) ⌝ }
+{
+    let none = Tally {
+        by_path: 0,
+        confirmed: 0,
+        dropped: 0,
+        false_drops: 0,
+    };
+    if lefts == 0 {
+        return Walked {
+            tally: none,
+            spent: false,
+        };
+    }
+    let mid = merged_end(work, lay, 0, 0, lefts);
+    let merged = add_paths(none, mid, rights);
+    visit_partitions(work, lay, st, mid, lefts, merged)
+}
