@@ -1,0 +1,132 @@
+-- A left set as it was found, and its candidates: its row of the pair list is that of the candidates.
+use Prim.Native.Nat.{ℕ, _+_, _-_, _≤_, _<_}
+use mathlib.Core.Path.{_≡_, sym, ap, _∙_}
+use mathlib.Core.List.{List, []}
+use mathlib.Core.Bool.{Bool, true}
+use native.Mathlib.Omega.{arith}
+use lib.Dec.{ltb}
+use lib.ListN.{length, getD, take}
+use lib.Seq.{drop-drop}
+use borrow.Author.Tests.{ltb-true}
+use Rattle.lists.specs.Lists.{all, memb, subset, rising, slice, upto}
+use Rattle.lists.proofs.Throughout.{all-elim}
+use Rattle.lists.proofs.Filtering.{keep-agree}
+use Rattle.lists.proofs.Ranges.{length-range, range-upper}
+use Rattle.lists.proofs.Rising.{rising-drop}
+use Rattle.lists.proofs.Slices.{slice-past, frame-slice}
+use Rattle.sets.proofs.Ordered.{ordered-rising}
+use Rattle.join_spec.specs.Query.{Query}
+use Rattle.join_index.specs.Grouping.{leftAt, rightAt}
+use Rattle.join_index.specs.declared.Layout.{Layout}
+use Rattle.join_check.specs.declared.checks.Probe.{Probe}
+use Rattle.join_check.specs.Asking.{LeftThere}
+use Rattle.join_pairs.specs.declared.candidates.Candidates.{Candidates}
+use Rattle.join_pairs.specs.Containing.{RanksThere, LeftFound, containedAt, pairsWith, rowAt, rowOf}
+use Rattle.join_pairs.specs.Narrowing.{NarrowThere, Narrows, Narrowed}
+use Rattle.join_pairs.specs.Writing.{Wrote, AllRoom, RowRoom, LeftRoom}
+use Rattle.join_pairs.proofs.Inverted.{left-below, index-frame}
+use Rattle.join_pairs.proofs.Kept.{length-pairs, row-whole, row-empty}
+
+left-rising : (q : Query) (k : ℕ) → rising (leftAt q k) ≡ true
+unfolding leftAt
+left-rising q k = ordered-rising (q .T) (q .ranks) (getD (q .lefts) k [])
+
+rising-rest : (w : List ℕ) (from to rest : ℕ) → from ≤ rest → rising (slice from to w) ≡ true → rising (slice rest to w) ≡ true
+unfolding slice
+rising-rest w from to rest low rise =
+    let there : from + (rest - from) ≡ rest = omega arith in
+    ap (λ (n : ℕ). rising (slice n to w)) (sym there)
+    ∙ ap rising (sym (drop-drop (rest - from) from (take to w)))
+    ∙ rising-drop (rest - from) (slice from to w) rise
+
+module _ {lay : Layout} {w : List ℕ} {k : ℕ} {p : Probe} (found : LeftFound lay w k p) where
+  ranks-are : (q : Query) → LeftThere lay q w k → slice (p .from) (p .to) w ≡ leftAt q k
+  ranks-are q left = found .probed .is q left .rest
+
+  ranks-below : (q : Query) → LeftThere lay q w k → all (λ (r : ℕ). ltb r (q .T)) (slice (p .from) (p .to) w) ≡ true
+  ranks-below q left = ap (all (λ (r : ℕ). ltb r (q .T))) (ranks-are q left) ∙ left-below q k
+
+  ranks-rise : (q : Query) → LeftThere lay q w k → rising (slice (p .from) (p .to) w) ≡ true
+  ranks-rise q left = ap rising (ranks-are q left) ∙ left-rising q k
+
+  pub ranks-there : (q : Query) → LeftThere lay q w k → p .from < p .to → RanksThere lay q w (p .from) (p .to)
+  ranks-there q left some =
+      record { index = left .index; some = some; within = found .probed .within; below = ranks-below q left }
+
+  pub narrow-there : (q : Query) → LeftThere lay q w k → (r : ℕ) → memb r (slice (p .from) (p .to) w) ≡ true
+      → NarrowThere lay q w (p .from) (p .to) r
+  narrow-there q left r there =
+      record { index = left .index; within = found .within; below = ranks-below q left; rise = ranks-rise q left; there = there }
+
+  -- a left set without ranks pairs with every right set
+  module _ (q : Query) (rights at : ℕ) (was : List ℕ) (there : LeftRoom lay q w k rights at was) (none : p .to ≤ p .from) where
+    empty-row : rowAt q k ≡ pairsWith k (upto rights)
+    empty-row =
+        row-empty lay q w k (there .left) (sym (ranks-are q (there .left)) ∙ slice-past (p .from) (p .to) w none)
+        ∙ ap (λ (n : ℕ). pairsWith k (upto n)) (there .rightCount)
+
+    pub empty-room : AllRoom at k rights was
+    empty-room =
+        record {
+          left = omega (arith, there .left .below, there .left .index .ground .leftFew);
+          right = omega (arith, there .rightCount, there .left .index .ground .rightFew);
+          room = omega (arith, there .room, ap length empty-row, length-pairs k (upto rights), length-range 0 rights);
+        }
+
+    pub empty-wrote : {r : ℕ} {u : List ℕ} → Wrote at (pairsWith k (upto rights)) was u r → Wrote at (rowAt q k) was u r
+    empty-wrote wrote = rw empty-row wrote
+
+  -- the candidates
+  module _ (r : ℕ) (pivot : memb r (slice (p .from) (p .to) w) ≡ true) (v : List ℕ) (c : Candidates)
+      (narrowed : Narrowed lay w (p .from) (p .to) r v c) (size : length v ≡ length w)
+      (q : Query) (rights at : ℕ) (was : List ℕ) (there : LeftRoom lay q w k rights at was)
+    where
+      narrows : Narrows lay q w (p .from) (p .to) v c
+      narrows = narrowed .is q (narrow-there q (there .left) r pivot)
+
+      abbrev holding : ℕ → Bool
+      holding s = subset (slice (p .from) (p .to) w) (rightAt q s)
+
+      same : (s : ℕ) → s < length (q .rights) → holding s ≡ containedAt q k s
+      same s below =
+          ap (λ (l : List ℕ). subset l (rightAt q s)) (ranks-are q (there .left))
+          ∙ sym (there .left .index .ground .faithful k s (there .left .below) below)
+
+      below-memb : (s : ℕ) → memb s (slice (c .from) (c .to) v) ≡ true → s < length (q .rights)
+      below-memb s m =
+          ltb-true s (length (q .rights))
+          (all-elim (λ (x : ℕ). ltb x (length (q .rights))) (slice (c .from) (c .to) v) (narrows .places .below) s m)
+
+      narrowed-row : rowAt q k ≡ rowOf q k (slice (c .from) (c .to) v)
+      narrowed-row =
+          row-whole q k
+          ∙ ap (pairsWith k)
+          (keep-agree (containedAt q k) holding (upto (length (q .rights)))
+          (λ s m. sym (same s (omega (arith, range-upper 0 (length (q .rights)) s m))))
+          ∙ sym (narrows .complete)
+          ∙ keep-agree holding (containedAt q k) (slice (c .from) (c .to) v) (λ s m. same s (below-memb s m)))
+
+      rest-same : slice (c .rest) (p .to) v ≡ slice (c .rest) (p .to) w
+      rest-same = frame-slice (c .rest) (p .to) (lay .slots) w v (found .within) (narrowed .frame)
+
+      pub narrowed-room :
+          RowRoom lay q v (record { signature = p .signature; from = c .rest; to = p .to }) k (c .from) (c .to) at was
+      narrowed-room =
+          record {
+            left = record { index = index-frame (narrowed .frame) size (there .left .index); below = there .left .below };
+            places = narrows .places;
+            signed = found .probed .is q (there .left) .signed;
+            rising =
+                record {
+                  within = omega (arith, found .probed .within);
+                  rise = ap rising rest-same
+                      ∙ rising-rest w (p .from) (p .to) (c .rest) (narrowed .low) (ranks-rise q (there .left));
+                };
+            decides = λ s m.
+                ap (λ (l : List ℕ). subset l (rightAt q s)) rest-same ∙ narrows .decides s m ∙ same s (below-memb s m);
+            room = omega (arith, there .room, ap length narrowed-row);
+          }
+
+      pub narrowed-wrote : {n : ℕ} {u : List ℕ} → Wrote at (rowOf q k (slice (c .from) (c .to) v)) was u n
+          → Wrote at (rowAt q k) was u n
+      narrowed-wrote wrote = rw narrowed-row wrote

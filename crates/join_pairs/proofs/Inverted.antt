@@ -1,0 +1,119 @@
+-- The inverted lists as they are stored, the ranks that stand in a part of the work list, and the index as the slots change.
+use Prim.Native.Nat.{ℕ, suc, _+_, _-_, _≤_, _<_}
+use mathlib.Core.Path.{_≡_, sym, ap, ap₂, subst, _∙_}
+use mathlib.Core.List.{List, []}
+use mathlib.Core.Bool.{true}
+use native.Mathlib.Omega.{arith}
+use lib.Dec.{eqb, ltb}
+use lib.ListN.{length, getD, take}
+use borrow.Author.Tests.{ltb-true}
+use Rattle.lists.specs.Lists.{all, any, memb, rising, slice, upto}
+use Rattle.lists.proofs.Bools.{and-left}
+use Rattle.lists.proofs.Membership.{memb-at}
+use Rattle.lists.proofs.Throughout.{all-intro}
+use Rattle.lists.proofs.Filtering.{all-keep}
+use Rattle.lists.proofs.Ranges.{all-upto}
+use Rattle.lists.proofs.Rising.{rising-keep, rising-range}
+use Rattle.lists.proofs.Slices.{length-slice, getD-slice, all-slice}
+use Rattle.sets.proofs.Ordered.{memb-ordered}
+use Rattle.join_spec.specs.Query.{Query}
+use Rattle.join_index.specs.Grouping.{leftAt, rightAt}
+use Rattle.join_index.specs.Ground.{invertedList}
+use Rattle.join_index.specs.declared.Layout.{Layout}
+use Rattle.join_index.proofs.GroundLaws.{ground-frame}
+use Rattle.join_check.specs.Merges.{Rising}
+use Rattle.join_check.specs.Asking.{Index, LeftThere, PlacesThere}
+use Rattle.join_pairs.specs.declared.candidates.Span.{Span}
+use Rattle.join_pairs.specs.Containing.{RankThere, RanksThere}
+use Rattle.join_pairs.specs.Narrowing.{Listed}
+
+-- the inverted list of a rank lies between two offsets, and its slot within the work list
+pub record Inverted (lay : Layout) (q : Query) (w : List ℕ) (r : ℕ) : Type 0 where
+  pub offsetsWithin : lay .offsets + r + 1 < length w
+  pub rise : getD w (lay .offsets + r) 0 ≤ getD w (lay .offsets + r + 1) 0
+  pub low : lay .index + getD w (lay .offsets + r + 1) 0 ≤ lay .slots
+  pub room : lay .slots + getD w (lay .offsets + r + 1) 0 ≤ length w
+  pub is : slice (lay .index + getD w (lay .offsets + r) 0) (lay .index + getD w (lay .offsets + r + 1) 0) w ≡ invertedList q r
+
+pub inverted-stored : (lay : Layout) (q : Query) (w : List ℕ) (r : ℕ) → RankThere lay q w r → Inverted lay q w r
+inverted-stored lay q w r there =
+    let h = there .index .ground .inverted r (there .below) in
+    let here : lay .offsets + r + 1 ≡ lay .offsets + suc r = omega arith in
+    let next : getD w (lay .offsets + r + 1) 0 ≡ getD w (lay .offsets + suc r) 0 = ap (λ (i : ℕ). getD w i 0) here in
+    record {
+      offsetsWithin = omega (arith, there .index .ground .offsetsWithin, there .index .room, there .below);
+      rise = omega (arith, h .rise);
+      low = omega (arith, h .within);
+      room = omega (arith, there .index .ground .room r (there .below));
+      is = rw next (h .is);
+    }
+
+-- the inverted list where it was found: rising places of right sets
+module _ (lay : Layout) (q : Query) (w : List ℕ) (r : ℕ) (s : Span) (listed : Listed lay w r s) (there : RankThere lay q w r) where
+  pub list-part : slice (s .from) (s .to) w ≡ invertedList q r
+  list-part =
+      ap₂ (λ (a b : ℕ). slice a b w) (listed .from) (listed .to) ∙ inverted-stored lay q w r there .is
+
+  list-within : s .to ≤ length w
+  list-within = omega (arith, inverted-stored lay q w r there .low, listed .to, there .index .room)
+
+  pub list-places : PlacesThere lay q w (s .from) (s .to)
+  list-places =
+      record {
+        index = there .index;
+        within = list-within;
+        below =
+            ap (all (λ (x : ℕ). ltb x (length (q .rights)))) list-part
+            ∙ all-keep (λ (x : ℕ). ltb x (length (q .rights))) (λ (x : ℕ). memb r (rightAt q x)) (upto (length (q .rights)))
+            (all-upto (length (q .rights)));
+      }
+
+  pub list-rising : Rising (s .from) (s .to) w
+  list-rising =
+      record {
+        within = list-within;
+        rise = ap rising list-part
+            ∙ rising-keep (λ (x : ℕ). memb r (rightAt q x)) (upto (length (q .rights))) (rising-range 0 (length (q .rights)));
+      }
+
+-- a word of a part is in it
+pub slice-memb : (w : List ℕ) (from to i r : ℕ) → from ≤ i → i < to → to ≤ length w → r ≡ getD w i 0
+    → memb r (slice from to w) ≡ true
+slice-memb w from to i r low high within word =
+    let there : from + (i - from) ≡ i = omega arith in
+    let here : getD (slice from to w) (i - from) 0 ≡ r =
+    getD-slice 0 from to (i - from) w (omega arith) ∙ ap (λ (n : ℕ). getD w n 0) there ∙ sym word
+    in
+    subst (λ (n : ℕ). memb n (slice from to w) ≡ true) here
+    (memb-at (slice from to w) (i - from) 0 (omega (arith, length-slice from to w within)))
+
+-- a word of a part that holds ranks is a rank
+pub slice-rank : {lay : Layout} {q : Query} {w : List ℕ} {from to : ℕ} → RanksThere lay q w from to
+    → (i r : ℕ) → from ≤ i → i < to → r ≡ getD w i 0 → RankThere lay q w r
+slice-rank {lay} {q} {w} {from} {to} there i r low high word =
+    let test = all-slice (λ (k : ℕ). ltb k (q .T)) from to w (there .within) (there .below) i low high in
+    record {
+      index = there .index;
+      below = ltb-true r (q .T) (ap (λ (k : ℕ). ltb k (q .T)) word ∙ test);
+    }
+
+-- the ranks of a left set are below T, and lie below the slots
+pub left-below : (q : Query) (k : ℕ) → all (λ (r : ℕ). ltb r (q .T)) (leftAt q k) ≡ true
+unfolding leftAt
+left-below q k =
+    all-intro (λ (r : ℕ). ltb r (q .T)) (leftAt q k) (λ r m.
+    and-left (ltb r (q .T)) (any (λ i. eqb (getD (q .ranks) i 0) r) (getD (q .lefts) k []))
+    (sym (memb-ordered (q .T) (q .ranks) (getD (q .lefts) k []) r) ∙ m))
+
+pub left-low : (lay : Layout) (q : Query) (w : List ℕ) (k : ℕ) → LeftThere lay q w k
+    → lay .«left_ranks» + getD w (lay .«left_starts» + k + 1) 0 ≤ lay .slots
+left-low lay q w k there =
+    let here : lay .«left_starts» + k + 1 ≡ lay .«left_starts» + suc k = omega arith in
+    let next : getD w (lay .«left_starts» + k + 1) 0 ≡ getD w (lay .«left_starts» + suc k) 0 = ap (λ (i : ℕ). getD w i 0) here in
+    omega (arith, there .index .ground .left k (there .below) .within)
+
+-- the index stays while only words from the slots on change
+pub index-frame : {lay : Layout} {q : Query} {w v : List ℕ} → take (lay .slots) v ≡ take (lay .slots) w → length v ≡ length w
+    → Index lay q w → Index lay q v
+index-frame {lay} {q} {w} {v} frame size index =
+    record { ground = ground-frame lay q w v frame size (index .ground); room = omega (arith, index .room) }

@@ -1,0 +1,65 @@
+-- `join_pairs::candidates::meet` meets its contract: all candidates hold the pivot; any other rank is met by its inverted list.
+use Rattle.join_pairs.proofs.Inverted.{list-rising}
+use Rattle.join_pairs.proofs.Meeting.{met-same, met-apart, met-other}
+use borrow.Author.Needs.{needs}
+use Rattle.join_pairs.proofs.candidates.meet.Statement.{statement}
+use Rattle.join_pairs.proofs.candidates.meet.Tie as tie
+
+returns : tie.Need-returns
+returns c =
+    let start = c .before .before in
+    let a = start .args in
+    met-same (a .lay) (a .work .now) (a .r) (a .pivot) (a .from) (a .to) (start .pre .query) (start .pre .holds) (c .if1 .taken)
+
+list-of-requires : tie.Need-list-of-requires
+list-of-requires c κs = search needs
+
+add-word-at : tie.Need-add-word-at
+add-word-at c = search needs
+
+word-at-requires : tie.Need-word-at-requires
+word-at-requires c κs = search needs
+
+add-out : tie.Need-add-out
+add-out c = search needs
+
+intersect-requires : tie.Need-intersect-requires
+intersect-requires c κs =
+    let start = c .before .before .before .before .before .before .before in
+    let a = start .args in
+    let there = start .pre .holds in
+    let list = c .before .before .before .list-of in
+    let word = c .before .word-at in (
+      record { within = there .places .within; rise = there .rise },
+      (
+        list-rising (a .lay) (start .pre .query) (a .work .now) (a .r) (list .result) (list .ensures) (there .rank),
+        met-apart (a .lay) (a .work .now) (a .r) (a .pivot) (a .from) (a .to) (list .result) (word .result) (list .ensures)
+            (word .ensures) (start .pre .query) there,
+      ),
+    )
+
+same-length : tie.Need-same-length
+same-length c = search needs
+
+returns-2 : tie.Need-returns-2
+returns-2 c =
+    let start = c .before .before .before .before .before .before .before .before .before .before in
+    let a = start .args in
+    let list = c .before .before .before .before .before .before .list-of in
+    let word = c .before .before .before .before .word-at in
+    let end = c .before .before .intersect in
+    met-other (a .lay) (a .work .now) (a .r) (a .pivot) (a .from) (a .to) (list .result) (word .result) (list .ensures)
+    (word .ensures) (start .pre .query) (start .pre .holds) (end .last .0) (end .result) (end .ensures)
+
+pub meet-spec : {M : Type 1} → statement M
+meet-spec =
+    tie.close
+    (tie.spec
+    returns
+    list-of-requires
+    add-word-at
+    word-at-requires
+    add-out
+    intersect-requires
+    same-length
+    returns-2)

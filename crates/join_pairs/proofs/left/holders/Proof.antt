@@ -1,0 +1,43 @@
+-- `join_pairs::left::holders` meets its contract: offsets rise.
+use native.Mathlib.Omega.{arith}
+use Rattle.join_pairs.proofs.Inverted.{inverted-stored}
+use borrow.Author.Needs.{needs}
+use Rattle.join_pairs.proofs.left.holders.Statement.{statement}
+use Rattle.join_pairs.proofs.left.holders.Tie as tie
+
+add-word-at : tie.Need-add-word-at
+add-word-at c = search needs
+
+add-word-at-2 : tie.Need-add-word-at-2
+add-word-at-2 c = search needs
+
+word-at-requires : tie.Need-word-at-requires
+word-at-requires c κs = search needs
+
+add-word-at-3 : tie.Need-add-word-at-3
+add-word-at-3 c = search needs
+
+word-at-requires-2 : tie.Need-word-at-requires-2
+word-at-requires-2 c κs = search needs
+
+sub-result : tie.Need-sub-result
+sub-result c =
+    let start = c .before .before .before in
+    let a = start .args in
+    let s = inverted-stored (a .lay) (start .pre .query) (a .work .now) (a .r) (start .pre .holds) in
+    omega arith
+
+returns : tie.Need-returns
+returns c = search needs
+
+pub holders-spec : {M : Type 1} → statement M
+holders-spec =
+    tie.close
+    (tie.spec
+    add-word-at
+    add-word-at-2
+    word-at-requires
+    add-word-at-3
+    word-at-requires-2
+    sub-result
+    returns)

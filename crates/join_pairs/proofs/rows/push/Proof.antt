@@ -1,0 +1,77 @@
+-- `join_pairs::rows::push` meets its contract: two stores, or none.
+use Prim.Native.Nat.{ℕ, _+_, _≤_}
+use mathlib.Core.Path.{_≡_, refl}
+use mathlib.Core.List.{List, []}
+use mathlib.Core.Bool.{Bool, true, false}
+use native.Mathlib.Numerals.{add-one}
+use native.Mathlib.Omega.{arith}
+use lib.ListN.{length, set, length-set}
+use Rattle.join_spec.specs.PairList.{ontoPair}
+use Rattle.join_pairs.specs.Writing.{Wrote, PushRoom}
+use borrow.Author.Needs.{needs}
+use Rattle.join_pairs.proofs.rows.push.Statement.{statement}
+use Rattle.join_pairs.proofs.rows.push.Tie as tie
+
+pair-room : (at k s : ℕ) {b : Bool} {w : List ℕ} → PushRoom at k s b w → b ≡ true → at + 2 ≤ length w
+pair-room at k s r e = rw e at (r .room)
+
+wrote-pair : (at k s : ℕ) (b : Bool) (w : List ℕ) → b ≡ true
+    → Wrote at (ontoPair b k s []) w (set (set w at k) (at + 1) s) (at + 2)
+wrote-pair at k s b w e = rw (e, add-one at) (record { end = refl; is = refl })
+
+wrote-none : (at k s : ℕ) (b : Bool) (w : List ℕ) → b ≡ false → Wrote at (ontoPair b k s []) w w at
+wrote-none at k s b w e = rw e (record { end = omega arith; is = refl })
+
+cast-pairs : tie.Need-cast-pairs
+cast-pairs c = search needs
+
+mul-pairs : tie.Need-mul-pairs
+mul-pairs c = search needs
+
+slice-write-pairs : tie.Need-slice-write-pairs
+slice-write-pairs c =
+    let a = c .before .args in omega (arith, pair-room (a .at) (a .k) (a .s) (c .before .pre) (c .if1 .taken))
+
+cast-pairs-2 : tie.Need-cast-pairs-2
+cast-pairs-2 c = search needs
+
+add-pairs : tie.Need-add-pairs
+add-pairs c = search needs
+
+mul-pairs-2 : tie.Need-mul-pairs-2
+mul-pairs-2 c = search needs
+
+slice-write-pairs-2 : tie.Need-slice-write-pairs-2
+slice-write-pairs-2 c =
+    let a = c .before .args in
+    simp length-set (omega (arith, pair-room (a .at) (a .k) (a .s) (c .before .pre) (c .if1 .taken)))
+
+add-result : tie.Need-add-result
+add-result c = search needs
+
+same-length : tie.Need-same-length
+same-length c = search needs
+
+returns : tie.Need-returns
+returns c =
+    let a = c .before .args in wrote-pair (a .at) (a .k) (a .s) (a .paired) (a .pairs .now) (c .if1 .taken)
+
+returns-2 : tie.Need-returns-2
+returns-2 c =
+    let a = c .before .args in wrote-none (a .at) (a .k) (a .s) (a .paired) (a .pairs .now) (c .if1 .left)
+
+pub push-spec : {M : Type 1} → statement M
+push-spec =
+    tie.close
+    (tie.spec
+    cast-pairs
+    mul-pairs
+    slice-write-pairs
+    cast-pairs-2
+    add-pairs
+    mul-pairs-2
+    slice-write-pairs-2
+    add-result
+    same-length
+    returns
+    returns-2)

@@ -1,0 +1,87 @@
+-- `join_pairs::rows::write_all` meets its contract. The invariant: the pairs with the right places from s on are left to be
+-- written. The measure is how many places are left.
+use Prim.Native.Nat.{_+_, _-_}
+use mathlib.Core.Bool.{true}
+use mathlib.Core.List.{[]}
+use native.Mathlib.Nat.{sub-zero}
+use native.Mathlib.Omega.{arith}
+use Rattle.lists.specs.Lists.{range, upto}
+use Rattle.lists.proofs.Ranges.{length-range}
+use Rattle.join_spec.specs.PairList.{ontoPair}
+use Rattle.join_pairs.specs.Containing.{pairsWith}
+use Rattle.join_pairs.proofs.Stores.{Writing, writing-start, writing-step, writing-end, writing-room}
+use Rattle.join_pairs.proofs.Kept.{length-pairs, all-next, all-none}
+use Rattle.join_pairs.proofs.rows.write_all.Statement.{statement}
+use Rattle.join_pairs.proofs.rows.write_all.Tie as tie
+
+abbrev Inv-loop : tie.InvT-loop
+Inv-loop pairs₀ at k rights n₀ s₀ pairs n s =
+    Writing at (pairsWith k (upto rights)) pairs₀ n (pairsWith k (range s (rights - s))) pairs
+
+abbrev μ-loop : tie.MeasureT-loop
+μ-loop pairs₀ at k rights n₀ s₀ pairs n s =
+    rights - s
+
+loop-holds : tie.Need-loop-holds Inv-loop μ-loop
+loop-holds c =
+    let a = c .before .args in
+    rw (sub-zero (a .rights)) (writing-start (a .at) (pairsWith (a .k) (upto (a .rights))) (a .pairs .now))
+
+push-requires : tie.Need-push-requires Inv-loop μ-loop
+push-requires c κs =
+    let start = c .before .before .before .before in
+    let at-loop = c .before .before .loop in
+    let a = start .args in
+    let s = at-loop .s in
+    record {
+      left = start .pre .left;
+      right = omega arith;
+      room =
+          writing-room (at-loop .inv) (ontoPair true (a .k) s []) (pairsWith (a .k) (range (s + 1) (a .rights - (s + 1))))
+          (all-next (a .k) s (a .rights) (c .before .loop-test .taken))
+          (omega (arith, length-pairs (a .k) (upto (a .rights)), length-range 0 (a .rights)));
+    }
+
+add-s : tie.Need-add-s Inv-loop μ-loop
+add-s c =
+    omega arith
+
+loop-less : tie.Need-loop-less Inv-loop μ-loop
+loop-less c =
+    omega arith
+
+loop-again : tie.Need-loop-again Inv-loop μ-loop
+loop-again c =
+    let start = c .before .before .before .before .before .before .before in
+    let at-loop = c .before .before .before .before .before .loop in
+    let at-loop-test = c .before .before .before .before .loop-test in
+    let at-push = c .before .before .push in
+    let a = start .args in
+    let s = at-loop .s in
+    writing-step (at-loop .inv) (ontoPair true (a .k) s []) (pairsWith (a .k) (range (s + 1) (a .rights - (s + 1))))
+    (all-next (a .k) s (a .rights) (at-loop-test .taken))
+    (at-push .ensures)
+
+same-length : tie.Need-same-length Inv-loop μ-loop
+same-length c =
+    c .before .loop .inv .same
+
+returns : tie.Need-returns Inv-loop μ-loop
+returns c =
+    let start = c .before .before .before in
+    let a = start .args in
+    writing-end (c .before .loop .inv) (all-none (a .k) (c .before .loop .s) (a .rights) (c .loop-test .left))
+
+pub write-all-spec : {M : Type 1} → statement M
+write-all-spec =
+    tie.close
+    (tie.spec
+    Inv-loop
+    μ-loop
+    loop-holds
+    push-requires
+    add-s
+    loop-less
+    loop-again
+    same-length
+    returns)

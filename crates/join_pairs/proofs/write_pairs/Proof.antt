@@ -1,0 +1,124 @@
+-- `join_pairs::write_pairs` meets its contract. The invariant: the pairs of the left sets from k on are left to be written,
+-- and of the work list only the slots changed. The measure is how many left sets are left.
+use Prim.Native.Nat.{ℕ, _+_, _-_, _≤_, _<_}
+use mathlib.Core.Path.{_≡_, refl, _∙_}
+use mathlib.Core.List.{List, _++_}
+use native.Mathlib.Omega.{arith}
+use lib.ListN.{length, take, drop}
+use Rattle.join_spec.specs.Query.{Query}
+use Rattle.join_spec.specs.PairList.{pairsFrom, pairList}
+use Rattle.join_spec.proofs.PairListLaws.{length-pairList}
+use Rattle.join_index.specs.declared.Layout.{Layout}
+use Rattle.lists.proofs.Filling.{sets-front}
+use Rattle.join_pairs.specs.Containing.{rowAt}
+use Rattle.join_pairs.specs.Writing.{LeftRoom, LeftWritten, PairsRoom}
+use Rattle.join_pairs.proofs.Stores.{Writing, writing-start, writing-step, writing-end, writing-room}
+use Rattle.join_pairs.proofs.Kept.{pairs-next, pairs-none}
+use Rattle.join_pairs.proofs.Inverted.{index-frame}
+use Rattle.join_pairs.proofs.write_pairs.Statement.{statement}
+use Rattle.join_pairs.proofs.write_pairs.Tie as tie
+
+record PairsLeft (lay : Layout) (w : List ℕ) (lefts rights : ℕ) (was v pairs : List ℕ) (n k : ℕ) : Type 0 where
+  frame : take (lay .slots) v ≡ take (lay .slots) w
+  size : length v ≡ length w
+  written :
+      (q : Query) → PairsRoom lay q w lefts rights was
+      → Writing 0 (pairList (q .lefts) (q .rights)) was n (pairsFrom k (drop k (q .lefts)) (q .rights)) pairs
+
+module _ {lay : Layout} {w : List ℕ} {lefts rights : ℕ} {was v pairs : List ℕ} {n k : ℕ}
+    (left : PairsLeft lay w lefts rights was v pairs n k)
+  where
+    left-room : k < lefts → (q : Query) → PairsRoom lay q w lefts rights was → LeftRoom lay q v k rights n pairs
+    left-room more q there =
+        record {
+          left = record { index = index-frame (left .frame) (left .size) (there .index); below = omega (arith, there .leftCount) };
+          rightCount = there .rightCount;
+          room =
+              writing-room (left .written q there) (rowAt q k) (pairsFrom (k + 1) (drop (k + 1) (q .lefts)) (q .rights))
+              (pairs-next q k (omega (arith, there .leftCount)))
+              (omega (arith, there .room, length-pairList (q .lefts) (q .rights)));
+        }
+
+    pairs-step : k < lefts → {u out : List ℕ} {r : ℕ} → length u ≡ length v → LeftWritten lay v k rights n pairs u out r
+        → PairsLeft lay w lefts rights was u out r (k + 1)
+    pairs-step more size wrote =
+        record {
+          frame = wrote .frame ∙ left .frame;
+          size = size ∙ left .size;
+          written = λ q there.
+              writing-step (left .written q there) (rowAt q k) (pairsFrom (k + 1) (drop (k + 1) (q .lefts)) (q .rights))
+              (pairs-next q k (omega (arith, there .leftCount)))
+              (wrote .wrote q (left-room more q there));
+        }
+
+    pairs-end : lefts ≤ k → (q : Query) → PairsRoom lay q w lefts rights was
+        → pairs ≡ pairList (q .lefts) (q .rights) ++ drop (length (pairList (q .lefts) (q .rights))) was
+    pairs-end past q there =
+        writing-end (left .written q there) (pairs-none q k (omega (arith, there .leftCount))) .is
+        ∙ sets-front (pairList (q .lefts) (q .rights)) was (omega (arith, there .room, length-pairList (q .lefts) (q .rights)))
+
+abbrev Inv-loop : tie.InvT-loop
+Inv-loop work₀ lay lefts rights pairs₀ n₀ k₀ work pairs n k =
+    PairsLeft lay work₀ lefts rights pairs₀ work pairs n k
+
+abbrev μ-loop : tie.MeasureT-loop
+μ-loop work₀ lay lefts rights pairs₀ n₀ k₀ work pairs n k =
+    lefts - k
+
+loop-holds : tie.Need-loop-holds Inv-loop μ-loop
+loop-holds c =
+    let start = c .before .before in
+    let a = start .args in
+    record { frame = refl; size = refl; written = λ q there. writing-start 0 (pairList (q .lefts) (q .rights)) (a .pairs .now) }
+
+write-left-requires : tie.Need-write-left-requires Inv-loop μ-loop
+write-left-requires c κs =
+    let at-loop = c .before .before .before .loop in
+    let at-loop-test = c .before .before .loop-test in
+    let start = c .before .before .before .before .before .before in
+    record {
+      query = start .pre .query;
+      holds = left-room (at-loop .inv) (at-loop-test .taken) (start .pre .query) (start .pre .holds);
+    }
+
+add-k : tie.Need-add-k Inv-loop μ-loop
+add-k c =
+    omega arith
+
+loop-less : tie.Need-loop-less Inv-loop μ-loop
+loop-less c =
+    omega arith
+
+loop-again : tie.Need-loop-again Inv-loop μ-loop
+loop-again c =
+    let at-loop = c .before .before .before .before .before .before .before .before .loop in
+    let at-loop-test = c .before .before .before .before .before .before .before .loop-test in
+    let at-write-left = c .before .before .before .before .write-left in
+    pairs-step (at-loop .inv) (at-loop-test .taken) (at-write-left .kept .0) (at-write-left .ensures)
+
+same-length : tie.Need-same-length Inv-loop μ-loop
+same-length c =
+    c .before .loop .inv .size
+
+same-length-2 : tie.Need-same-length-2 Inv-loop μ-loop
+same-length-2 c =
+    let start = c .before .before .before .before in c .before .loop .inv .written (start .pre .query) (start .pre .holds) .same
+
+returns : tie.Need-returns Inv-loop μ-loop
+returns c =
+    pairs-end (c .before .loop .inv) (c .loop-test .left)
+
+pub write-pairs-spec : {M : Type 1} → statement M
+write-pairs-spec =
+    tie.close
+    (tie.spec
+    Inv-loop
+    μ-loop
+    loop-holds
+    write-left-requires
+    add-k
+    loop-less
+    loop-again
+    same-length
+    same-length-2
+    returns)

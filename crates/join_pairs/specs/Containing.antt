@@ -1,0 +1,58 @@
+-- The right sets that contain a left set, and the pairs that they make. Document 01, "The run": the pair list has two 16-bit
+-- places per pair, kit then stack, rising by kit, then stack.
+use Prim.Native.Nat.{ℕ, _≤_, _<_}
+use mathlib.Core.Path.{_≡_}
+use mathlib.Core.List.{List, [], _∷_}
+use mathlib.Core.Bool.{Bool, true}
+use lib.Dec.{ltb}
+use lib.ListN.{length, getD}
+use Rattle.lists.specs.Lists.{all, keep, subset, slice}
+use Rattle.sets.specs.Collections.{contained}
+use Rattle.sets.specs.Marks.{signature}
+use Rattle.join_spec.specs.Query.{Query}
+use Rattle.join_spec.specs.PairList.{rowFrom}
+use Rattle.join_index.specs.Grouping.{rightAt}
+use Rattle.join_index.specs.declared.Layout.{Layout}
+use Rattle.join_check.specs.declared.checks.Probe.{Probe}
+use Rattle.join_check.specs.Asking.{Index, RightThere}
+use Rattle.join_check.specs.Probes.{Probed}
+
+-- the pairs of left place k with each of the right places
+unfoldable pub pairsWith : ℕ → List ℕ → List ℕ
+pairsWith k [] = []
+pairsWith k (s ∷ places) = k ∷ s ∷ pairsWith k places
+
+-- whether the left set k is contained in the right set s
+abbrev pub containedAt : Query → ℕ → ℕ → Bool
+containedAt q k s = contained (getD (q .lefts) k []) (getD (q .rights) s [])
+
+-- the pairs of the left set k with those of the right sets that contain it
+abbrev pub rowOf : Query → ℕ → List ℕ → List ℕ
+rowOf q k places = pairsWith k (keep (containedAt q k) places)
+
+-- the pairs of the left set k with all right sets that contain it: its part of the pair list
+abbrev pub rowAt : Query → ℕ → List ℕ
+rowAt q k = rowFrom k 0 (getD (q .lefts) k []) (q .rights)
+
+-- p has the signature of the left set k, and where all its ranks lie, below the slots
+pub record LeftFound (lay : Layout) (w : List ℕ) (k : ℕ) (p : Probe) : Type 0 where
+  pub probed : Probed lay w k 0 p
+  pub within : p .to ≤ lay .slots
+
+-- p is what is left of the left set k to be looked for in the right set s: containing its ranks is containing the left set
+pub record CheckThere (lay : Layout) (q : Query) (w : List ℕ) (p : Probe) (k s : ℕ) : Type 0 where
+  pub right : RightThere lay q w s
+  pub signed : p .signature ≡ signature (getD (q .lefts) k [])
+  pub decides : subset (slice (p .from) (p .to) w) (rightAt q s) ≡ containedAt q k s
+
+-- a rank whose inverted list is there
+pub record RankThere (lay : Layout) (q : Query) (w : List ℕ) (r : ℕ) : Type 0 where
+  pub index : Index lay q w
+  pub below : r < q .T
+
+-- the words from one place up to another are ranks, and not none
+pub record RanksThere (lay : Layout) (q : Query) (w : List ℕ) (from to : ℕ) : Type 0 where
+  pub index : Index lay q w
+  pub some : from < to
+  pub within : to ≤ length w
+  pub below : all (λ r. ltb r (q .T)) (slice from to w) ≡ true

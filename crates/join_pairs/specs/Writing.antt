@@ -1,0 +1,64 @@
+-- Pairs written into a list from a place on: what is asked of the room, and what stands there after.
+use Prim.Native.Nat.{ℕ, _+_, _*_, _≤_, _<_}
+use mathlib.Core.Path.{_≡_}
+use mathlib.Core.List.{List, []}
+use mathlib.Core.Bool.{Bool, true}
+use lib.ListN.{length, getD, take}
+use lib.Seq.{sets}
+use Rattle.lists.specs.Lists.{memb, subset, slice}
+use Rattle.sets.specs.Limits.{maxSets}
+use Rattle.sets.specs.Marks.{signature}
+use Rattle.join_spec.specs.Query.{Query}
+use Rattle.join_spec.specs.PairList.{ontoPair, pairCount}
+use Rattle.join_index.specs.Grouping.{rightAt}
+use Rattle.join_index.specs.declared.Layout.{Layout}
+use Rattle.join_check.specs.declared.checks.Probe.{Probe}
+use Rattle.join_check.specs.Asking.{Index, LeftThere, PlacesThere}
+use Rattle.join_check.specs.Merges.{Rising}
+use Rattle.join_pairs.specs.Containing.{containedAt, rowOf, rowAt}
+
+-- w became w′: the list was stored from place at on, and ends at r; nothing else changed
+pub record Wrote (at : ℕ) (list w w′ : List ℕ) (r : ℕ) : Type 0 where
+  pub end : r ≡ at + length list
+  pub is : w′ ≡ sets w at list
+
+-- room for a pair, if it is one, of places that fit 16 bits
+pub record PushRoom (at k s : ℕ) (paired : Bool) (pairs : List ℕ) : Type 0 where
+  pub left : k < maxSets
+  pub right : s < maxSets
+  pub room : at + length (ontoPair paired k s []) ≤ length pairs
+
+-- room for the pairs of one left place with all right places
+pub record AllRoom (at k rights : ℕ) (pairs : List ℕ) : Type 0 where
+  pub left : k < maxSets
+  pub right : rights ≤ maxSets
+  pub room : at + 2 * rights ≤ length pairs
+
+-- p is what is left of the left set k to be looked for in the right sets whose places stand from one place up to another, and
+-- there is room for their pairs
+pub record RowRoom (lay : Layout) (q : Query) (w : List ℕ) (p : Probe) (k from to at : ℕ) (pairs : List ℕ) : Type 0 where
+  pub left : LeftThere lay q w k
+  pub places : PlacesThere lay q w from to
+  pub signed : p .signature ≡ signature (getD (q .lefts) k [])
+  pub rising : Rising (p .from) (p .to) w
+  pub decides :
+      (s : ℕ) → memb s (slice from to w) ≡ true → subset (slice (p .from) (p .to) w) (rightAt q s) ≡ containedAt q k s
+  pub room : at + length (rowOf q k (slice from to w)) ≤ length pairs
+
+-- room for the pairs of the left set k
+pub record LeftRoom (lay : Layout) (q : Query) (w : List ℕ) (k rights at : ℕ) (pairs : List ℕ) : Type 0 where
+  pub left : LeftThere lay q w k
+  pub rightCount : length (q .rights) ≡ rights
+  pub room : at + length (rowAt q k) ≤ length pairs
+
+-- the pairs of the left set k were written, and of the work list only the slots changed
+pub record LeftWritten (lay : Layout) (w : List ℕ) (k rights at : ℕ) (pairs w′ pairs′ : List ℕ) (r : ℕ) : Type 0 where
+  pub frame : take (lay .slots) w′ ≡ take (lay .slots) w
+  pub wrote : (q : Query) → LeftRoom lay q w k rights at pairs → Wrote at (rowAt q k) pairs pairs′ r
+
+-- room for the pair list of a query with so many left sets and right sets
+pub record PairsRoom (lay : Layout) (q : Query) (w : List ℕ) (lefts rights : ℕ) (pairs : List ℕ) : Type 0 where
+  pub index : Index lay q w
+  pub leftCount : length (q .lefts) ≡ lefts
+  pub rightCount : length (q .rights) ≡ rights
+  pub room : 2 * pairCount (q .lefts) (q .rights) ≤ length pairs

@@ -1,0 +1,101 @@
+// The right sets that may contain a left set: those holding one of its ranks, narrowed by what they share with those holding
+// its other ranks while that costs less than to look at each.
+use crate::left::holders;
+use join_check::merge::intersect;
+use join_check::words::word_at;
+use join_index::Layout;
+ghost use Rattle.join_check.specs.Asking.{Some};
+ghost use Rattle.join_pairs.specs.Containing.{RankThere};
+ghost use Rattle.join_pairs.specs.Narrowing.{Listed, SpanThere, Met, NarrowThere, Narrowed};
+
+// Above so many ranks a signature tells most right sets apart; below so many candidates it is not worth while to narrow them.
+const FEW_RANKS: usize = 3;
+
+const FEW_CANDIDATES: usize = 16;
+
+// A part of the work list.
+pub struct Span {
+    pub from: usize,
+    pub to: usize,
+}
+
+// Candidates, as places of right sets in a part of the work list, and the first rank that not all of them need hold.
+pub struct Candidates {
+    pub from: usize,
+    pub to: usize,
+    pub rest: usize,
+}
+
+// Where the inverted list of a rank lies.
+fn list_of(work: &[u32], lay: Layout, r: usize) -> Span
+    requires { ⌜ Some (λ q. RankThere lay q (now work) r) ⌝ }
+    ensures { λ s. ⌜ Listed lay (now (work .entry)) r s ⌝ }
+{
+    let offsets = lay.offsets;
+    let index = lay.index;
+    let from = index + word_at(work, offsets + r);
+    let to = index + word_at(work, offsets + r + 1);
+    Span { from: from, to: to }
+}
+
+// Whether n candidates of a left set with so many ranks are better looked at than narrowed by the rank r.
+fn stops(work: &[u32], lay: Layout, r: usize, pivot: usize, n: usize, ranks: usize) -> bool
+    requires { ⌜ Some (λ q. RankThere lay q (now work) r) ⌝ }
+{
+    if r == pivot {
+        return false;
+    }
+    if FEW_RANKS < ranks {
+        return true;
+    }
+    if n < FEW_CANDIDATES {
+        return true;
+    }
+    n < holders(work, lay, r) / 4
+}
+
+// Narrows candidates that all hold the pivot to those that hold the rank r, in the slot of r.
+fn meet(work: &mut [u32], lay: Layout, r: usize, pivot: usize, from: usize, to: usize) -> Span
+    requires { ⌜ Some (λ q. SpanThere lay q (now work) r pivot from to) ⌝ }
+    ensures { λ s. ⌜ Met lay (now (work .entry)) r pivot from to (now (work .exit)) s ⌝ }
+{
+    if r == pivot {
+        return Span { from: from, to: to };
+    }
+    let offsets = lay.offsets;
+    let slots = lay.slots;
+    let list = list_of(work, lay, r);
+    let out = slots + word_at(work, offsets + r);
+    let end = intersect(work, from, to, list.from, list.to, out);
+    Span { from: out, to: end }
+}
+
+// Candidates for the left set whose ranks stand from one place of the work list up to another, the pivot among them.
+pub fn narrow(work: &mut [u32], lay: Layout, from: usize, to: usize, pivot: usize) -> Candidates
+    requires { ⌜ Some (λ q. NarrowThere lay q (now work) from to pivot) ⌝ }
+    ensures { λ c. ⌜ Narrowed lay (now (work .entry)) from to pivot (now (work .exit)) c ⌝ }
+{
+    let first = list_of(work, lay, pivot);
+    let mut a = first.from;
+    let mut b = first.to;
+    let mut i = from;
+    while i < to {
+        let r = word_at(work, i);
+        if stops(work, lay, r, pivot, b - a, to - from) {
+            return Candidates {
+                from: a,
+                to: b,
+                rest: i,
+            };
+        }
+        let s = meet(work, lay, r, pivot, a, b);
+        a = s.from;
+        b = s.to;
+        i += 1;
+    }
+    Candidates {
+        from: a,
+        to: b,
+        rest: i,
+    }
+}

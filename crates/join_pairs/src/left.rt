@@ -1,0 +1,84 @@
+// One left set as it is looked for among the right sets: where it stands, the rank that fewest of them hold, and whether one of
+// them contains it.
+use join_check::checks::Probe;
+use join_check::merge::subset_ranks;
+use join_check::words::double_at;
+use join_check::words::word_at;
+use join_index::Layout;
+ghost use mathlib.Core.Path.{_≡_};
+ghost use mathlib.Core.Bool.{true};
+ghost use Prim.Native.Nat.{ℕ};
+ghost use Rattle.lists.specs.Lists.{memb, slice};
+ghost use Rattle.join_spec.specs.Query.{Query};
+ghost use Rattle.join_check.specs.Asking.{Some, LeftThere, RightThere};
+ghost use Rattle.join_check.specs.Merges.{Rising};
+ghost use Rattle.join_pairs.specs.Containing.{containedAt, RankThere, RanksThere, LeftFound, CheckThere};
+
+// The signature of the left set k, and where its ranks lie.
+pub fn probe_all(work: &[u32], lay: Layout, k: usize) -> Probe
+    requires { ⌜ Some (λ q. LeftThere lay q (now work) k) ⌝ }
+    ensures { λ p. ⌜ LeftFound lay (now (work .entry)) k p ⌝ }
+{
+    let starts = lay.left_starts;
+    let ranks = lay.left_ranks;
+    let signatures = lay.left_signatures;
+    let signature = double_at(work, signatures + 2 * k);
+    let from = ranks + word_at(work, starts + k);
+    let to = ranks + word_at(work, starts + k + 1);
+    Probe {
+        signature: signature,
+        from: from,
+        to: to,
+    }
+}
+
+// How many right sets hold a rank.
+pub fn holders(work: &[u32], lay: Layout, r: usize) -> usize
+    requires { ⌜ Some (λ q. RankThere lay q (now work) r) ⌝ }
+{
+    let offsets = lay.offsets;
+    word_at(work, offsets + r + 1) - word_at(work, offsets + r)
+}
+
+// Of the ranks that stand from one place of the work list up to another, one that fewest right sets hold.
+pub fn pivot(work: &[u32], lay: Layout, from: usize, to: usize) -> usize
+    requires { ⌜ Some (λ q. RanksThere lay q (now work) from to) ⌝ }
+    ensures { λ r. ⌜ memb r (slice from to (now (work .entry))) ≡ true ⌝ }
+{
+    let mut rank = word_at(work, from);
+    let mut least = holders(work, lay, rank);
+    let mut i = from + 1;
+    while i < to {
+        let next = word_at(work, i);
+        let n = holders(work, lay, next);
+        if n < least {
+            rank = next;
+            least = n;
+        }
+        i += 1;
+    }
+    rank
+}
+
+// Whether the right set s contains the left set of which p is what is left to be looked for: signatures first, then the ranks.
+pub fn is_contained(work: &[u32], lay: Layout, p: Probe, s: usize) -> bool
+    requires { ⌜ Some (λ q. RightThere lay q (now work) s) ⌝ }
+    requires { ⌜ Rising (p .from) (p .to) (now work) ⌝ }
+    ensures { λ b. ⌜ ((q : Query) (k : ℕ) → CheckThere lay q (now (work .entry)) p k s → b ≡ containedAt q k s) ⌝ }
+{
+    if p.to <= p.from {
+        return true;
+    }
+    let starts = lay.right_starts;
+    let ranks = lay.right_ranks;
+    let signatures = lay.right_signatures;
+    let left = p.signature;
+    let right = double_at(work, signatures + 2 * s);
+    let common = left & right;
+    if common != left {
+        return false;
+    }
+    let from = ranks + word_at(work, starts + s);
+    let to = ranks + word_at(work, starts + s + 1);
+    subset_ranks(work, p.from, p.to, from, to)
+}

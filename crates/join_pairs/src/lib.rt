@@ -1,0 +1,30 @@
+// The pair list of a join, written from its index: left set by left set, and for each the right sets that contain it, by place.
+// No setting bears on it, and the walk is not asked.
+use crate::rows::write_left;
+use join_index::Layout;
+ghost use mathlib.Core.Path.{_≡_};
+ghost use mathlib.Core.List.{_++_};
+ghost use lib.ListN.{length, drop};
+ghost use Rattle.join_spec.specs.Query.{Query};
+ghost use Rattle.join_spec.specs.PairList.{pairList};
+ghost use Rattle.join_check.specs.Asking.{Some};
+ghost use Rattle.join_pairs.specs.Writing.{PairsRoom};
+
+mod candidates;
+mod left;
+mod rows;
+
+// Writes the pair list of the query whose index the work list holds. Candidates go into the slots of the work list.
+pub fn write_pairs(work: &mut [u32], lay: Layout, lefts: usize, rights: usize, pairs: &mut [u16])
+    requires { ⌜ Some (λ q. PairsRoom lay q (now work) lefts rights (now pairs)) ⌝ }
+    ensures { λ _. ⌜ ((q : Query) → PairsRoom lay q (now (work .entry)) lefts rights (now (pairs .entry))
+        → now (pairs .exit)
+        ≡ pairList (q .lefts) (q .rights) ++ drop (length (pairList (q .lefts) (q .rights))) (now (pairs .entry))) ⌝ }
+{
+    let mut n: usize = 0;
+    let mut k: usize = 0;
+    while k < lefts {
+        n = write_left(work, lay, k, rights, pairs, n);
+        k += 1;
+    }
+}

@@ -1,0 +1,97 @@
+// The pairs of one left set, written one after the other from a place of the pair list on; each function returns where they
+// end.
+use crate::candidates::narrow;
+use crate::left::is_contained;
+use crate::left::pivot;
+use crate::left::probe_all;
+use join_check::checks::Probe;
+use join_check::words::word_at;
+use join_index::Layout;
+ghost use mathlib.Core.List.{[]};
+ghost use Rattle.lists.specs.Lists.{upto, slice};
+ghost use Rattle.join_spec.specs.Query.{Query};
+ghost use Rattle.join_spec.specs.PairList.{ontoPair};
+ghost use Rattle.join_check.specs.Asking.{Some};
+ghost use Rattle.join_pairs.specs.Containing.{rowOf, pairsWith};
+ghost use Rattle.join_pairs.specs.Writing.{Wrote, PushRoom, AllRoom, RowRoom, LeftRoom, LeftWritten};
+
+// Writes the pair of left place k and right place s where it is one.
+fn push(pairs: &mut [u16], at: usize, k: usize, s: usize, paired: bool) -> usize
+    requires { ⌜ PushRoom at k s paired (now pairs) ⌝ }
+    ensures { λ r. ⌜ Wrote at (ontoPair paired k s []) (now (pairs .entry)) (now (pairs .exit)) r ⌝ }
+{
+    if paired {
+        pairs[at] = k as u16;
+        pairs[at + 1] = s as u16;
+        return at + 2;
+    }
+    at
+}
+
+// Writes the pairs of an empty left set: with every right set.
+fn write_all(pairs: &mut [u16], at: usize, k: usize, rights: usize) -> usize
+    requires { ⌜ AllRoom at k rights (now pairs) ⌝ }
+    ensures { λ r. ⌜ Wrote at (pairsWith k (upto rights)) (now (pairs .entry)) (now (pairs .exit)) r ⌝ }
+{
+    let mut n = at;
+    let mut s: usize = 0;
+    while s < rights {
+        n = push(pairs, n, k, s, true);
+        s += 1;
+    }
+    n
+}
+
+// Writes the pairs of the left set k with those right sets that contain it, of the ones whose places stand from one place of
+// the work list up to another; p is what is left of it to be looked for.
+fn write_row(
+    work: &[u32],
+    lay: Layout,
+    p: Probe,
+    k: usize,
+    from: usize,
+    to: usize,
+    pairs: &mut [u16],
+    at: usize,
+) -> usize
+    requires { ⌜ Some (λ q. RowRoom lay q (now work) p k from to at (now pairs)) ⌝ }
+    ensures { λ r. ⌜ ((q : Query) → RowRoom lay q (now (work .entry)) p k from to at (now (pairs .entry))
+        → Wrote at (rowOf q k (slice from to (now (work .entry)))) (now (pairs .entry)) (now (pairs .exit)) r) ⌝ }
+{
+    let mut n = at;
+    let mut i = from;
+    while i < to {
+        let s = word_at(work, i);
+        let paired = is_contained(work, lay, p, s);
+        n = push(pairs, n, k, s, paired);
+        i += 1;
+    }
+    n
+}
+
+// Writes the pairs of the left set k.
+pub fn write_left(
+    work: &mut [u32],
+    lay: Layout,
+    k: usize,
+    rights: usize,
+    pairs: &mut [u16],
+    at: usize,
+) -> usize
+    requires { ⌜ Some (λ q. LeftRoom lay q (now work) k rights at (now pairs)) ⌝ }
+    ensures { λ r. ⌜ LeftWritten lay (now (work .entry)) k rights at (now (pairs .entry)) (now (work .exit))
+        (now (pairs .exit)) r ⌝ }
+{
+    let p = probe_all(work, lay, k);
+    if p.to <= p.from {
+        return write_all(pairs, at, k, rights);
+    }
+    let r = pivot(work, lay, p.from, p.to);
+    let c = narrow(work, lay, p.from, p.to, r);
+    let rest = Probe {
+        signature: p.signature,
+        from: c.rest,
+        to: p.to,
+    };
+    write_row(work, lay, rest, k, c.from, c.to, pairs, at)
+}
