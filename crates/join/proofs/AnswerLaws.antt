@@ -1,0 +1,177 @@
+-- After the walk: it can begin over the index that was built, the pairs are those by path and those confirmed, and its counters
+-- make the answer.
+use Prim.Native.Nat.{ℕ, _+_, _*_, _≤_, _<_}
+use mathlib.Core.Path.{_≡_, refl, sym, ap, _∙_}
+use mathlib.Core.List.{List}
+use mathlib.Core.Bool.{Bool, true, false, cond}
+use native.Mathlib.Omega.{arith}
+use borrow.Author.Tests.{lt-ltb, le-ltb}
+use lib.Dec.{ltb}
+use lib.ListN.{length}
+use Rattle.sets.proofs.Good.{good-places}
+use Rattle.sets.proofs.Ordered.{items-below}
+use Rattle.sets.specs.declared.Rule.{Rule}
+use Rattle.sets.specs.declared.Counts.{Counts}
+use Rattle.sets.specs.declared.Refusal.the-variants.{Spent, ShortPairs}
+use Rattle.sets.specs.declared.JoinAnswer.{JoinAnswer}
+use Rattle.sets.specs.declared.JoinAnswer.the-variants.{Joined, Refused}
+use Rattle.join_spec.specs.PairList.{pairCount}
+use Rattle.join_spec.specs.Query.{Query, query}
+use Rattle.join_spec.specs.Walk.{Outcome}
+use Rattle.join_spec.specs.Counting.{total, checksOf, countsOf, isByPath, isConfirmed, isDropped, isFalse}
+use Rattle.join_spec.specs.Answer.{walkAnswer, workKept}
+use Rattle.join_spec.proofs.Demand.{pairs-met, checks-end, total-small}
+use Rattle.join_spec.proofs.Accepted.{spent-above, within-joined}
+use Rattle.sets.proofs.Between.{length-sets}
+use Rattle.join_index.specs.Ground.{Ground}
+use Rattle.join_index.specs.declared.Layout.{Layout}
+use Rattle.join_check.specs.Asking.{Index}
+use Rattle.join_walk.specs.Partitions.{Ready, WalkDone}
+use Rattle.join_walk.specs.declared.visit.Walked.{Walked}
+use Rattle.join_walk.proofs.FrameLaws.{index-framed}
+use Rattle.join_pairs.specs.Writing.{PairsRoom}
+use Rattle.join.specs.Early.{Accepted}
+
+counts-same : {a a′ b b′ c c′ d d′ e e′ f f′ : ℕ} → a ≡ a′ → b ≡ b′ → c ≡ c′ → d ≡ d′ → e ≡ e′ → f ≡ f′
+    → _≡_ {A = Counts}
+    (record { pairs = a; «by_path» = b; confirmed = c; checks = d; dropped = e; «false_drops» = f })
+    (record { pairs = a′; «by_path» = b′; confirmed = c′; checks = d′; dropped = e′; «false_drops» = f′ })
+counts-same p q r s t u =
+    λ i. record { pairs = p i; «by_path» = q i; confirmed = r i; checks = s i; dropped = t i; «false_drops» = u i }
+
+-- fewer places than the pairs need
+pub short-places : (q : Query) (budget room : ℕ) → checksOf q ≤ budget → room < 2 * pairCount (q .lefts) (q .rights)
+    → Refused ShortPairs ≡ walkAnswer q budget room
+unfolding walkAnswer
+short-places q budget room within short =
+    rw (le-ltb budget (checksOf q) within, lt-ltb room (2 * pairCount (q .lefts) (q .rights)) short)
+
+-- a walk's answer never leaves the work list as it was by promise
+pub walk-uses : (q : Query) (budget room : ℕ) {r : JoinAnswer} → r ≡ walkAnswer q budget room → workKept r ≡ false
+unfolding walkAnswer
+walk-uses q budget room is = ap workKept is ∙ go (ltb budget (checksOf q)) (ltb room (2 * pairCount (q .lefts) (q .rights)))
+  where
+    go : (a b : Bool) → workKept (cond a (Refused Spent) (cond b (Refused ShortPairs) (Joined (countsOf q)))) ≡ false
+    go true b = refl
+    go false true = refl
+    go false false = refl
+
+module _ {T : ℕ} {leftEnds leftItems rightEnds rightItems : List ℕ} {limit : ℕ} {ranks w₀ : List ℕ}
+    (ok : Accepted T leftEnds leftItems rightEnds rightItems limit ranks w₀) (rule : Rule) where
+  abbrev q : Query
+  q = query T leftEnds leftItems rightEnds rightItems limit ranks rule
+
+  lefts-count : length (q .lefts) ≡ length leftEnds
+  lefts-count = length-sets 0 leftEnds leftItems
+
+  rights-count : length (q .rights) ≡ length rightEnds
+  rights-count = length-sets 0 rightEnds rightItems
+
+  pub all-met : pairCount (q .lefts) (q .rights) ≡ total isByPath q + total isConfirmed q
+  all-met =
+      pairs-met q (ok .settings .permutation) (items-below T leftEnds leftItems (ok .leftGood))
+      (items-below T rightEnds rightItems (ok .rightGood))
+
+  small : (is : Outcome → Bool) → total is q ≤ 16777216
+  small is =
+      total-small is q
+      (omega (arith, lefts-count, good-places T leftEnds leftItems (ok .leftGood)))
+      (omega (arith, rights-count, good-places T rightEnds rightItems (ok .rightGood)))
+
+  -- the walk over the index that was built
+  module _ {lay : Layout} {w : List ℕ}
+      (ground : (r : Rule) → Ground lay (query T leftEnds leftItems rightEnds rightItems limit ranks r) w)
+      (room : lay .slots ≤ length w) where
+    pub walk-index : Index lay q w
+    walk-index = record { ground = ground rule; room = room }
+
+    pub walk-ready : (budget : ℕ)
+        → Ready lay (record { limit = limit; rule = rule; budget = budget }) q w (length leftEnds) (length rightEnds)
+    walk-ready budget =
+        record {
+          index = walk-index;
+          limit = refl;
+          shallow = ok .settings .limit-within;
+          rule = refl;
+          some = positive limit (ok .settings .limit-above);
+          leftCount = lefts-count;
+          rightCount = rights-count;
+        }
+      where
+        positive : (n : ℕ) → (n ≡ 0 → ⊥) → 0 < n
+        positive n h = omega arith
+
+    pub walk-made : {budget : ℕ} {w′ : List ℕ} {r : Walked}
+        → ((q : Query) → Ready lay (record { limit = limit; rule = rule; budget = budget }) q w (length leftEnds)
+        (length rightEnds)
+        → WalkDone lay q budget w w′ r)
+        → WalkDone lay q budget w w′ r
+    walk-made {budget} made = made q (walk-ready budget)
+
+-- what the walk's counters give
+module _ {T : ℕ} {leftEnds leftItems rightEnds rightItems : List ℕ} {limit : ℕ} {ranks w₀ : List ℕ} {rule : Rule} {lay : Layout}
+    {budget : ℕ} {w w′ : List ℕ} {r : Walked} (ok : Accepted T leftEnds leftItems rightEnds rightItems limit ranks w₀)
+    (done : WalkDone lay (query T leftEnds leftItems rightEnds rightItems limit ranks rule) budget w w′ r) where
+  abbrev asked : Query
+  asked = query T leftEnds leftItems rightEnds rightItems limit ranks rule
+
+  pub answer-spent : (places : ℕ) → r .spent ≡ true → Refused Spent ≡ walkAnswer asked budget places
+  answer-spent places spent = sym (spent-above asked budget places (done .counted .beyond spent))
+
+  module _ (calm : r .spent ≡ false) where
+    pub count-is : r .tally .«by_path» + r .tally .confirmed ≡ pairCount (asked .lefts) (asked .rights)
+    count-is = omega (arith, done .counted .byPath calm, done .counted .confirmed calm, all-met ok rule)
+
+    pub count-small : r .tally .«by_path» + r .tally .confirmed < 4294967296
+    count-small =
+        omega (
+          arith,
+          done .counted .byPath calm,
+          done .counted .confirmed calm,
+          small ok rule isByPath,
+          small ok rule isConfirmed,
+        )
+
+    pub checks-small : r .tally .dropped + (r .tally .«false_drops» + r .tally .confirmed) < 4294967296
+    checks-small =
+        omega (
+          arith,
+          done .counted .dropped calm,
+          done .counted .falseDrops calm,
+          done .counted .confirmed calm,
+          small ok rule isDropped,
+          small ok rule isFalse,
+          small ok rule isConfirmed,
+        )
+
+    pub answer-short : (places : ℕ) → places < 2 * (r .tally .«by_path» + r .tally .confirmed)
+        → Refused ShortPairs ≡ walkAnswer asked budget places
+    answer-short places short = short-places asked budget places (done .counted .within calm) (omega (arith, short, count-is))
+
+    pub pairs-room : Index lay asked w → (pairs : List ℕ) → 2 * (r .tally .«by_path» + r .tally .confirmed) ≤ length pairs
+        → PairsRoom lay asked w′ (length leftEnds) (length rightEnds) pairs
+    pairs-room index pairs enough =
+        record {
+          index = index-framed index (done .framed) (omega arith);
+          leftCount = lefts-count ok rule;
+          rightCount = rights-count ok rule;
+          room = omega (arith, count-is);
+        }
+
+    pub answer-joined : (places : ℕ) → 2 * (r .tally .«by_path» + r .tally .confirmed) ≤ places
+        → Joined (record {
+          pairs = r .tally .«by_path» + r .tally .confirmed;
+          «by_path» = r .tally .«by_path»;
+          confirmed = r .tally .confirmed;
+          checks = r .tally .dropped + (r .tally .«false_drops» + r .tally .confirmed);
+          dropped = r .tally .dropped;
+          «false_drops» = r .tally .«false_drops»;
+        })
+        ≡ walkAnswer asked budget places
+    answer-joined places enough =
+        let counted = done .counted in
+        ap Joined
+        (counts-same count-is (counted .byPath calm) (counted .confirmed calm)
+        (omega (arith, counted .dropped calm, counted .falseDrops calm, counted .confirmed calm, checks-end asked))
+        (counted .dropped calm) (counted .falseDrops calm))
+        ∙ sym (within-joined asked budget places (done .counted .within calm) (omega (arith, enough, count-is)))

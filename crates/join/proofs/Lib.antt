@@ -1,0 +1,4 @@
+-- Laws of the tests before the walk, and of the answer after it.
+pub mod EarlyLaws
+pub mod AnswerLaws
+pub mod Calls
