@@ -1,0 +1,33 @@
+-- Bytes as a number and a number as bytes: the two undo each other.
+use mathlib.Core.Path.{_≡_, _∙_}
+use Prim.Native.Nat.{ℕ, suc, _+_, _*_, _≤_, _<_}
+use mathlib.Core.List.{List, [], _∷_, _++_, append-assoc, append-nil}
+use native.Mathlib.Nat.{add-zero}
+use native.Mathlib.Omega.{arith}
+use lib.ListN.{length, take, drop, getD, length-take, length-drop}
+use lib.Seq.{getD-take, getD-drop}
+use lib.Arith.{digits-div, digits-mod}
+use Rattle.tag_file.specs.Format.{valueFrom, bytesOf, tagLength, tagAt}
+
+-- the bytes of a number that is v followed by bytes
+pub bytesOf-valueFrom : (k v : ℕ) (bs : List ℕ) → ((i : ℕ) → i < length bs → getD bs i 0 < 256)
+    → bytesOf (k + length bs) (valueFrom v bs) ≡ bytesOf k v ++ bs
+unfolding bytesOf valueFrom
+bytesOf-valueFrom k v [] h = rw (add-zero, append-nil)
+bytesOf-valueFrom k v (b ∷ bs) h =
+    let e : k + suc (length bs) ≡ suc k + length bs = omega arith in
+    let low : b < 256 = h 0 (omega arith) in
+    let again : bytesOf (suc k + length bs) (valueFrom (v * 256 + b) bs) ≡ bytesOf (suc k) (v * 256 + b) ++ bs =
+    bytesOf-valueFrom (suc k) (v * 256 + b) bs (λ i g. h (suc i) (omega arith)) in
+    rw e (again ∙ rw (digits-div v low, digits-mod v low, append-assoc))
+
+-- a tag's bytes are those of its number
+pub bytesOf-tagAt : (bytes : List ℕ) (place : ℕ) → place + tagLength ≤ length bytes
+    → ((i : ℕ) → getD bytes i 0 < 256) → bytesOf tagLength (tagAt bytes place) ≡ take tagLength (drop place bytes)
+unfolding bytesOf
+bytesOf-tagAt bytes place h low =
+    let n : length (take tagLength (drop place bytes)) ≡ tagLength =
+    simp (length-take, length-drop) (omega arith) in
+    let each : (i : ℕ) → i < length (take tagLength (drop place bytes)) → getD (take tagLength (drop place bytes)) i 0 < 256 =
+    λ i g. rw (getD-take tagLength (drop place bytes) i 0 (omega arith), getD-drop) (low (place + i)) in
+    rw n at (bytesOf-valueFrom 0 0 (take tagLength (drop place bytes)) each)

@@ -1,0 +1,7 @@
+-- Laws of the tag file's definitions; each function that needs a proof file has its folder beside them.
+pub mod ReadLaws
+pub mod Tables
+pub mod RecordLaws
+pub mod Ended
+pub mod Bytes
+pub mod ItemCount

@@ -1,0 +1,142 @@
+-- The records of a file: what a whole record that was read tells, that fuel enough gives the same records, and the walk's step and
+-- end. Tags one after the other: their number, and one more.
+use mathlib.Core.Path.{_≡_, refl, ap, _∙_}
+use mathlib.Core.List.{List, [], _∷_, _++_}
+use mathlib.Core.Bool.{Bool, true, false, cond}
+use Prim.Native.Nat.{ℕ, zero, suc, _+_, _*_, _≤_}
+use native.Mathlib.Nat.{add-zero}
+use native.Mathlib.Omega.{arith}
+use borrow.Author.Tests.{leb-true}
+use lib.Dec.{leb, eqb}
+use lib.ListN.{length}
+use Rattle.lists.specs.Lists.{sum}
+use Rattle.lists.proofs.Bools.{and-right}
+use Rattle.lists.proofs.Summing.{sum-append}
+use Rattle.sets.specs.declared.Side.{Side}
+use Rattle.sets.specs.declared.Side.the-variants.{Left, Right}
+use Rattle.sets.specs.declared.Refusal.{Refusal}
+use Rattle.sets.specs.declared.Refusal.the-variants.{Malformed}
+use Rattle.tag_file.specs.Format.{tagAt}
+use Rattle.tag_file.specs.Reading.{marked, numberAt, countAt, wholeAt, recordAt, readAt, tagsAt}
+use Rattle.tag_file.specs.Records.{TagRecord, recordLength, totalLength, onward, recordsFrom, recordsAt}
+use Rattle.tag_file.specs.declared.ReadAnswer.{ReadAnswer}
+use Rattle.tag_file.specs.declared.ReadAnswer.the-variants.{Record, NoMore, Refused}
+
+-- ---- tags one after the other
+
+pub length-tagsAt : (n : ℕ) (file : List ℕ) (at : ℕ) → length (tagsAt n file at) ≡ n
+unfolding tagsAt
+length-tagsAt zero file at = refl
+length-tagsAt (suc n) file at = ap suc (length-tagsAt n file (at + 12))
+
+pub tagsAt-last : (n : ℕ) (file : List ℕ) (at : ℕ) → tagsAt (suc n) file at ≡ tagsAt n file at ++ (tagAt file (at + 12 * n) ∷ [])
+unfolding tagsAt
+tagsAt-last zero file at = let e : at ≡ at + 12 * 0 = omega arith in ap (λ (k : ℕ). tagAt file k ∷ []) e
+tagsAt-last (suc n) file at =
+    let e : at + 12 + 12 * n ≡ at + 12 * suc n = omega arith in
+    ap (λ (l : List ℕ). tagAt file at ∷ l) (tagsAt-last n file (at + 12) ∙ ap (λ (k : ℕ). tagsAt n file (at + 12) ++ (tagAt file k ∷ [])) e)
+
+-- ---- a whole record that was read
+
+pub record Whole (file : List ℕ) (at n c p next : ℕ) : Type 0 where
+  pub number : n ≡ numberAt file at
+  pub count : c ≡ countAt file at
+  pub place : p ≡ at + 5
+  pub past : next ≡ p + 12 * c
+  pub within : next ≤ length file
+
+module _ (file : List ℕ) (at : ℕ) (s : Side) (n c p next : ℕ) where
+  whole-found : (side : Side) → wholeAt file at ≡ true
+      → Record side (numberAt file at) (countAt file at) (at + 5) (at + 5 + 12 * countAt file at) ≡ Record s n c p next → Whole file at n c p next
+  whole-found side t e =
+      let room = leb-true (at + 5 + 12 * countAt file at) (length file)
+      (and-right (leb (at + 5) (length file)) (leb (at + 5 + 12 * countAt file at) (length file)) t) in
+      let number : n ≡ numberAt file at = cc in
+      let count : c ≡ countAt file at = cc in
+      let place : p ≡ at + 5 = cc in
+      let past : next ≡ at + 5 + 12 * countAt file at = cc in
+      record { number = number; count = count; place = place; past = omega arith; within = omega arith }
+
+  refused-not : (why : Refusal) → Refused why ≡ Record s n c p next → Whole file at n c p next
+  refused-not why e = let z : _≡_ {A = ℕ} 0 1 = cc in absurd (omega arith)
+
+  no-more-not : NoMore ≡ Record s n c p next → Whole file at n c p next
+  no-more-not e = let z : _≡_ {A = ℕ} 0 1 = cc in absurd (omega arith)
+
+  whole-of : (side : Side) → recordAt side file at ≡ Record s n c p next → Whole file at n c p next
+  whole-of side e = pick (wholeAt file at) refl e
+    where
+      pick : (b : Bool) → wholeAt file at ≡ b
+          → cond b (Record side (numberAt file at) (countAt file at) (at + 5) (at + 5 + 12 * countAt file at)) (Refused (Malformed at)) ≡ Record s n c p next
+          → Whole file at n c p next
+      pick true t e = whole-found side t e
+      pick false t e = refused-not (Malformed at) e
+
+  pub read-whole : readAt file at ≡ Record s n c p next → Whole file at n c p next
+  unfolding readAt
+  read-whole e = at-end (eqb at (length file)) e
+    where
+      right : (b : Bool) → cond b (recordAt Right file at) (Refused (Malformed at)) ≡ Record s n c p next → Whole file at n c p next
+      right true e = whole-of Right e
+      right false e = refused-not (Malformed at) e
+
+      left : (b : Bool) → cond b (recordAt Left file at) (cond (marked Right file at) (recordAt Right file at) (Refused (Malformed at))) ≡ Record s n c p next
+          → Whole file at n c p next
+      left true e = whole-of Left e
+      left false e = right (marked Right file at) e
+
+      at-end : (b : Bool)
+          → cond b NoMore (cond (marked Left file at) (recordAt Left file at) (cond (marked Right file at) (recordAt Right file at) (Refused (Malformed at)))) ≡ Record s n c p next
+          → Whole file at n c p next
+      at-end true e = no-more-not e
+      at-end false e = left (marked Left file at) e
+
+-- ---- the walk
+
+-- with fuel for every byte that is left, the records are the same
+pub records-fuel : (f g : ℕ) (file : List ℕ) (at : ℕ) → length file ≤ at + f → length file ≤ at + g → recordsFrom f file at ≡ recordsFrom g file at
+unfolding recordsFrom
+records-fuel zero zero file at hf hg = refl
+records-fuel zero (suc g) file at hf hg = none (readAt file at) refl
+  where
+    none : (a : ReadAnswer) → readAt file at ≡ a → [] ≡ onward a file (λ next. recordsFrom g file next)
+    none (Record s n c p next) e = let w = read-whole file at s n c p next e in absurd (omega (arith, w .place, w .past, w .within))
+    none NoMore e = refl
+    none (Refused why) e = refl
+records-fuel (suc f) zero file at hf hg = none (readAt file at) refl
+  where
+    none : (a : ReadAnswer) → readAt file at ≡ a → onward a file (λ next. recordsFrom f file next) ≡ []
+    none (Record s n c p next) e = let w = read-whole file at s n c p next e in absurd (omega (arith, w .place, w .past, w .within))
+    none NoMore e = refl
+    none (Refused why) e = refl
+records-fuel (suc f) (suc g) file at hf hg = both (λ next. records-fuel f g file next) (readAt file at) refl
+  where
+    both : ((next : ℕ) → length file ≤ next + f → length file ≤ next + g → recordsFrom f file next ≡ recordsFrom g file next)
+        → (a : ReadAnswer) → readAt file at ≡ a
+        → onward a file (λ next. recordsFrom f file next) ≡ onward a file (λ next. recordsFrom g file next)
+    both again (Record s n c p next) e =
+        let w = read-whole file at s n c p next e in
+        ap (λ (l : List TagRecord). record { side = s; number = n; tags = tagsAt c file p } ∷ l)
+        (again next (omega (arith, w .place, w .past, w .within)) (omega (arith, w .place, w .past, w .within)))
+    both again NoMore e = refl
+    both again (Refused why) e = refl
+
+module _ (file : List ℕ) (at : ℕ) where
+  open-walk : recordsAt file at ≡ onward (readAt file at) file (λ next. recordsAt file next)
+  unfolding recordsFrom
+  open-walk = records-fuel (length file) (suc (length file)) file at (omega arith) (omega arith)
+
+  pub records-next : (s : Side) (n c p next : ℕ) → readAt file at ≡ Record s n c p next
+      → recordsAt file at ≡ record { side = s; number = n; tags = tagsAt c file p } ∷ recordsAt file next
+  records-next s n c p next e = open-walk ∙ rw e
+
+  pub records-end : readAt file at ≡ NoMore → recordsAt file at ≡ []
+  records-end e = open-walk ∙ rw e
+
+  pub records-refused : (why : Refusal) → readAt file at ≡ Refused why → recordsAt file at ≡ []
+  records-refused why e = open-walk ∙ rw e
+
+-- the place after one more record
+pub totalLength-last : (rs : List TagRecord) (r : TagRecord) → totalLength (rs ++ (r ∷ [])) ≡ totalLength rs + recordLength r
+unfolding sum
+totalLength-last rs r = sum-append recordLength rs (r ∷ []) ∙ ap (λ (k : ℕ). totalLength rs + k) (add-zero (recordLength r))

@@ -1,0 +1,49 @@
+-- The bytes of a tag file: tags, and whole records. Document 01, "Tag file", first sentences. A record of a left set is a
+-- kit's, and one of a right set a stack's. A tag is taken as one number, high byte first, so that the order of tags as
+-- unsigned bytes is the order of numbers.
+use Prim.Native.Nat.{ℕ, zero, suc, _+_, _*_, _/_, _%_}
+use mathlib.Core.List.{List, [], _∷_, _++_}
+use lib.ListN.{length, take, drop}
+use Rattle.sets.specs.declared.Side.{Side}
+use Rattle.sets.specs.declared.Side.the-variants.{Left, Right}
+
+-- the bytes of a tag
+abbrev pub tagLength : ℕ
+tagLength = 12
+
+-- the bytes of a record before its tags: mark, number, count
+abbrev pub headLength : ℕ
+headLength = 5
+
+-- v followed by bytes, as one number, high byte first
+unfoldable pub valueFrom : ℕ → List ℕ → ℕ
+valueFrom v [] = v
+valueFrom v (b ∷ bs) = valueFrom (v * 256 + b) bs
+
+-- bytes as one number, high byte first
+abbrev pub value : List ℕ → ℕ
+value bytes = valueFrom 0 bytes
+
+-- a number as n bytes, high byte first
+unfoldable pub bytesOf : ℕ → ℕ → List ℕ
+bytesOf zero v = []
+bytesOf (suc n) v = bytesOf n (v / 256) ++ (v % 256 ∷ [])
+
+-- the tag that stands at a place of a list of bytes
+abbrev pub tagAt : List ℕ → ℕ → ℕ
+tagAt bytes place = value (take tagLength (drop place bytes))
+
+-- tags one after the other, as bytes
+unfoldable pub tagBytes : List ℕ → List ℕ
+tagBytes [] = []
+tagBytes (tag ∷ tags) = bytesOf tagLength tag ++ tagBytes tags
+
+-- the two-byte mark of a side's records
+abbrev pub mark : Side → List ℕ
+mark Left = 0x4B ∷ 0x54 ∷ []
+mark Right = 0x53 ∷ 0x4B ∷ []
+
+-- a whole record: mark, number and count, then the tags
+abbrev pub recordBytes : Side → ℕ → List ℕ → List ℕ
+recordBytes side number tags =
+    mark side ++ (number / 256 ∷ number % 256 ∷ length tags ∷ []) ++ tagBytes tags

@@ -1,0 +1,107 @@
+// The tag file: the record reader and the loader. What a record is, and what the loader fills, is defined in specs/.
+use sets::Refusal;
+use sets::Side;
+ghost use mathlib.Core.Path.{_≡_};
+ghost use Prim.Native.Nat.{_+_, _≤_, _<_};
+ghost use lib.ListN.{length};
+ghost use Rattle.tag_file.specs.Reading.{readAt, recordAt};
+ghost use Rattle.tag_file.specs.Inner.{ByteAt};
+
+// What the record reader answers: a whole record with the place of its first tag and the next place, that there is no
+// more, or why not.
+pub enum ReadAnswer {
+    Record {
+        side: Side,
+        number: u16,
+        count: usize,
+        tags: usize,
+        next: usize,
+    },
+    NoMore,
+    Refused(Refusal),
+}
+
+// The byte at a place.
+pub fn byte_at(file: &[u8], at: usize) -> usize
+    requires { ⌜ at < length (now file) ⌝ }
+    ensures { λ r. ⌜ ByteAt (now (file .entry)) at r ⌝ }
+{
+    file[at] as usize
+}
+
+// A record whose mark is that of the side, and whose head is whole.
+fn record_at(side: Side, file: &[u8], at: usize) -> ReadAnswer
+    requires { ⌜ at + 5 ≤ length (now file) ⌝ }
+    ensures { λ r. ⌜ r ≡ recordAt side (now (file .entry)) at ⌝ }
+{
+    let high = byte_at(file, at + 2);
+    let low = byte_at(file, at + 3);
+    let count = byte_at(file, at + 4);
+    let tags = at + 5;
+    let room = file.len() - tags;
+    if 12 * count <= room {
+        ReadAnswer::Record {
+            side,
+            number: (high * 256 + low) as u16,
+            count,
+            tags,
+            next: tags + 12 * count,
+        }
+    } else {
+        ReadAnswer::Refused(Refusal::Malformed(at))
+    }
+}
+
+// Reads the record at a place of a file.
+pub fn read_at(file: &[u8], at: usize) -> ReadAnswer
+    ensures { λ r. ⌜ r ≡ readAt (now (file .entry)) at ⌝ }
+{
+    let len = file.len();
+    if at == len {
+        return ReadAnswer::NoMore;
+    }
+    if at > len {
+        return ReadAnswer::Refused(Refusal::Malformed(at));
+    }
+    if len - at < 5 {
+        return ReadAnswer::Refused(Refusal::Malformed(at));
+    }
+    let first = byte_at(file, at);
+    let second = byte_at(file, at + 1);
+    let mark = first * 256 + second;
+    if mark == 0x4B54 {
+        return record_at(Side::Left, file, at);
+    }
+    if mark == 0x534B {
+        return record_at(Side::Right, file, at);
+    }
+    ReadAnswer::Refused(Refusal::Malformed(at))
+}
+
+// The record reader: the lent file and the next place. The functions over it are thin: `read_at` does the work, and
+// `read_record` is what others call.
+pub struct Reader<'a> {
+    pub file: &'a [u8],
+    pub at: usize,
+}
+
+// A reader whose next place is given.
+pub fn begin_at<'a>(file: &'a [u8], at: usize) -> Reader<'a>
+    ensures { λ r. ⌜ (r .file ≡ file .entry) × (r .at ≡ at) ⌝ }
+{
+    Reader { file, at }
+}
+
+// The record at the reader's next place.
+pub fn read_next<'a>(r: Reader<'a>) -> ReadAnswer
+    ensures { λ s. ⌜ s ≡ readAt (now (r .entry .file)) (r .entry .at) ⌝ }
+{
+    read_at(r.file, r.at)
+}
+
+// The record at a place of a file, by a reader made for it.
+pub fn read_record(file: &[u8], at: usize) -> ReadAnswer
+    ensures { λ r. ⌜ r ≡ readAt (now (file .entry)) at ⌝ }
+{
+    read_next(begin_at(file, at))
+}

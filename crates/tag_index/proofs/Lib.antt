@@ -1,0 +1,5 @@
+-- Laws of the tag index; each function that needs a proof file has its folder beside them.
+pub mod Words
+pub mod Search
+pub mod Shift
+pub mod AddLaws

@@ -1,0 +1,2 @@
+-- Contents: the index of distinct tags that the loader builds over a file.
+pub mod Index

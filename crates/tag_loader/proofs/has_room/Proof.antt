@@ -1,0 +1,36 @@
+-- `tag_loader::has_room` meets its contract.
+use mathlib.Core.Path.{sym, _∙_}
+use Prim.Native.Nat.{_*_}
+use borrow.Author.Tests.{le-leb, lt-leb, not-true, not-false}
+use borrow.Author.Needs.{needs}
+use Rattle.tag_loader.proofs.has_room.Statement.{statement}
+use Rattle.tag_loader.proofs.has_room.Tie as tie
+
+mul-if1 : tie.Need-mul-if1
+mul-if1 c = search needs
+
+returns : tie.Need-returns
+returns c =
+    let a = c .before .before .args in
+    rw (lt-leb (12 * a .total .tags) (a .tags) (c .if1 .taken))
+
+side-fits-requires : tie.Need-side-fits-requires
+side-fits-requires c κs = search needs
+
+returns-2 : tie.Need-returns-2
+returns-2 c =
+    let a = c .before .before .before .before .args in
+    rw (le-leb (12 * a .total .tags) (a .tags) (c .before .before .if1 .left), sym (c .before .side-fits .ensures) ∙ not-true (c .before .side-fits .result) (c .if2 .taken))
+
+side-fits-requires-2 : tie.Need-side-fits-requires-2
+side-fits-requires-2 c κs = search needs
+
+returns-3 : tie.Need-returns-3
+returns-3 c =
+    let a = c .before .before .before .before .before .args in
+    rw (le-leb (12 * a .total .tags) (a .tags) (c .before .before .before .if1 .left), sym (c .before .before .side-fits .ensures) ∙ not-false (c .before .before .side-fits .result) (c .before .if2 .left)) (c .side-fits2 .ensures)
+
+pub has-room-spec : {M : Type 1} → statement M
+has-room-spec =
+    tie.close
+    (tie.spec mul-if1 returns side-fits-requires returns-2 side-fits-requires-2 returns-3)

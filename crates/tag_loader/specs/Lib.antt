@@ -1,0 +1,2 @@
+-- Contents: what the loader's inner functions ask and promise. What the loader itself promises is defined in tag_file.
+pub mod Passes

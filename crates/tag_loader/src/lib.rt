@@ -1,0 +1,189 @@
+// The loader of tag files: a first pass finds the first record at fault, or the counts and the index of the distinct tags; a second
+// pass fills the seven lent lists. It allocates nothing beyond its own arrays.
+use lists::zero_u8;
+use lists::zero_u16;
+use lists::zero_u32;
+use sets::LoadAnswer;
+use sets::Loaded;
+use sets::Refusal;
+use sets::Side;
+use tag_fill::fill_side;
+use tag_fill::fill_tags;
+use tag_scan::scan;
+ghost use mathlib.Core.Path.{_≡_};
+ghost use Rattle.tag_file.specs.Records.{records};
+ghost use Rattle.tag_file.specs.Loading.{filled, listsOf, loadAnswer, lentAfter};
+ghost use Rattle.tag_scan.specs.Scan.{Limited};
+ghost use Rattle.tag_loader.specs.Passes.{sideFits, Cleared, hasRoom, AllFilled, Fillable};
+
+// Whether lists of these lengths hold the numbers, ends and items of a side.
+fn side_fits(sets: usize, entries: usize, numbers: usize, ends: usize, items: usize) -> bool
+    ensures { λ r. ⌜ r ≡ sideFits sets entries numbers ends items ⌝ }
+{
+    sets <= numbers && (sets <= ends && entries <= items)
+}
+
+// Fills the seven lists with zeros.
+fn clear_lists(
+    tags: &mut [u8],
+    left_numbers: &mut [u16],
+    left_ends: &mut [u32],
+    left_items: &mut [u16],
+    right_numbers: &mut [u16],
+    right_ends: &mut [u32],
+    right_items: &mut [u16],
+)
+    ensures { λ _. ⌜ Cleared (now (tags .entry)) (now («left_numbers» .entry)) (now («left_ends» .entry)) (now («left_items» .entry)) (now («right_numbers» .entry)) (now («right_ends» .entry)) (now («right_items» .entry)) (now (tags .exit)) (now («left_numbers» .exit)) (now («left_ends» .exit)) (now («left_items» .exit)) (now («right_numbers» .exit)) (now («right_ends» .exit)) (now («right_items» .exit)) ⌝ }
+{
+    zero_u8(tags);
+    zero_u16(left_numbers);
+    zero_u32(left_ends);
+    zero_u16(left_items);
+    zero_u16(right_numbers);
+    zero_u32(right_ends);
+    zero_u16(right_items);
+}
+
+// Whether lists of these lengths hold what was counted.
+fn has_room(
+    total: Loaded,
+    tags: usize,
+    left_numbers: usize,
+    left_ends: usize,
+    left_items: usize,
+    right_numbers: usize,
+    right_ends: usize,
+    right_items: usize,
+) -> bool
+    requires { ⌜ Limited total ⌝ }
+    ensures { λ r. ⌜ r ≡ hasRoom total tags «left_numbers» «left_ends» «left_items» «right_numbers» «right_ends» «right_items» ⌝ }
+{
+    if tags < 12 * total.tags {
+        return false;
+    }
+    let left = side_fits(
+        total.left_sets,
+        total.left_entries,
+        left_numbers,
+        left_ends,
+        left_items,
+    );
+    if !left {
+        return false;
+    }
+    side_fits(
+        total.right_sets,
+        total.right_entries,
+        right_numbers,
+        right_ends,
+        right_items,
+    )
+}
+
+// The second pass: fills the seven lists.
+fn fill_lists(
+    file: &[u8],
+    order: &[usize; 4352],
+    n: usize,
+    tags: &mut [u8],
+    left_numbers: &mut [u16],
+    left_ends: &mut [u32],
+    left_items: &mut [u16],
+    right_numbers: &mut [u16],
+    right_ends: &mut [u32],
+    right_items: &mut [u16],
+)
+    requires { ⌜ Fillable (now file) (now order) n (now tags) (now «left_numbers») (now «left_ends») (now «left_items») (now «right_numbers») (now «right_ends») (now «right_items») ⌝ }
+    ensures { λ _. ⌜ AllFilled (records (now (file .entry))) (now (tags .entry)) (now («left_numbers» .entry)) (now («left_ends» .entry)) (now («left_items» .entry)) (now («right_numbers» .entry)) (now («right_ends» .entry)) (now («right_items» .entry)) (now (tags .exit)) (now («left_numbers» .exit)) (now («left_ends» .exit)) (now («left_items» .exit)) (now («right_numbers» .exit)) (now («right_ends» .exit)) (now («right_items» .exit)) ⌝ }
+{
+    fill_tags(file, order, n, tags);
+    fill_side(
+        file,
+        order,
+        n,
+        Side::Left,
+        left_numbers,
+        left_ends,
+        left_items,
+    );
+    fill_side(
+        file,
+        order,
+        n,
+        Side::Right,
+        right_numbers,
+        right_ends,
+        right_items,
+    );
+}
+
+// Loads a tag file into seven lent lists: the tag table, and for each side the record numbers, the ends and the items.
+pub fn load(
+    file: &[u8],
+    tags: &mut [u8],
+    left_numbers: &mut [u16],
+    left_ends: &mut [u32],
+    left_items: &mut [u16],
+    right_numbers: &mut [u16],
+    right_ends: &mut [u32],
+    right_items: &mut [u16],
+) -> LoadAnswer
+    ensures answer { λ r. ⌜ r ≡ loadAnswer (now (file .entry)) (listsOf (now (tags .entry)) (now («left_numbers» .entry)) (now («left_ends» .entry)) (now («left_items» .entry)) (now («right_numbers» .entry)) (now («right_ends» .entry)) (now («right_items» .entry))) ⌝ }
+    ensures tags { λ r. ⌜ now (tags .exit) ≡ lentAfter r (filled (records (now (file .entry))) .tags) (now (tags .entry)) ⌝ }
+    ensures left_numbers { λ r. ⌜ now («left_numbers» .exit) ≡ lentAfter r (filled (records (now (file .entry))) .leftNumbers) (now («left_numbers» .entry)) ⌝ }
+    ensures left_ends { λ r. ⌜ now («left_ends» .exit) ≡ lentAfter r (filled (records (now (file .entry))) .leftEnds) (now («left_ends» .entry)) ⌝ }
+    ensures left_items { λ r. ⌜ now («left_items» .exit) ≡ lentAfter r (filled (records (now (file .entry))) .leftItems) (now («left_items» .entry)) ⌝ }
+    ensures right_numbers { λ r. ⌜ now («right_numbers» .exit) ≡ lentAfter r (filled (records (now (file .entry))) .rightNumbers) (now («right_numbers» .entry)) ⌝ }
+    ensures right_ends { λ r. ⌜ now («right_ends» .exit) ≡ lentAfter r (filled (records (now (file .entry))) .rightEnds) (now («right_ends» .entry)) ⌝ }
+    ensures right_items { λ r. ⌜ now («right_items» .exit) ≡ lentAfter r (filled (records (now (file .entry))) .rightItems) (now («right_items» .entry)) ⌝ }
+{
+    let mut order = [0usize; 4352];
+    let answer = scan(file, &mut order);
+    let LoadAnswer::Loaded(total) = answer else {
+        clear_lists(
+            tags,
+            left_numbers,
+            left_ends,
+            left_items,
+            right_numbers,
+            right_ends,
+            right_items,
+        );
+        return answer;
+    };
+    if !has_room(
+        total,
+        tags.len(),
+        left_numbers.len(),
+        left_ends.len(),
+        left_items.len(),
+        right_numbers.len(),
+        right_ends.len(),
+        right_items.len(),
+    ) {
+        clear_lists(
+            tags,
+            left_numbers,
+            left_ends,
+            left_items,
+            right_numbers,
+            right_ends,
+            right_items,
+        );
+        return LoadAnswer::Refused(Refusal::ShortOutput);
+    }
+    let n = total.tags;
+    fill_lists(
+        file,
+        &order,
+        n,
+        tags,
+        left_numbers,
+        left_ends,
+        left_items,
+        right_numbers,
+        right_ends,
+        right_items,
+    );
+    answer
+}

@@ -1,0 +1,163 @@
+-- The first pass: its invariant over the records seen so far, with its start, its three ends and its step.
+use mathlib.Core.Path.{_≡_, refl, sym, ap, subst, _∙_}
+use mathlib.Core.List.{List, [], _∷_, _++_, append-nil, append-assoc}
+use mathlib.Core.Bool.{true, false}
+use mathlib.Core.Option.{Option, none, some}
+use Prim.Native.Nat.{ℕ, _+_, _<_, _≤_}
+use native.Mathlib.Omega.{arith}
+use lib.ListN.{length, getD, set}
+use Rattle.lists.specs.Lists.{keep, sum, rising}
+use Rattle.sets.specs.declared.Side.{Side}
+use Rattle.sets.specs.declared.Refusal.{Refusal}
+use Rattle.sets.specs.declared.Refusal.the-variants.{NumberUsed, TooMany}
+use Rattle.sets.specs.declared.Loaded.{Loaded}
+use Rattle.sets.specs.declared.LoadAnswer.the-variants as load
+use Rattle.tag_file.specs.Reading.{readAt, tagsAt}
+use Rattle.tag_file.specs.Records.{TagRecord, totalLength, recordsAt, records, insertAll, allTags, tagTable}
+use Rattle.tag_file.specs.Loading.{numberUsed, tooMany, faultOf, earlier, firstFault, refusalOf, fileFault, countsOf, unless}
+use Rattle.tag_file.specs.declared.ReadAnswer.{ReadAnswer}
+use Rattle.tag_file.specs.declared.ReadAnswer.the-variants.{Record, Refused}
+use Rattle.tag_file.proofs.RecordLaws.{length-tagsAt, read-whole, records-next, totalLength-last}
+use Rattle.tag_index.specs.Index.{tableOf, Sorted, Ready, AllAdded}
+use Rattle.tag_index.proofs.Search.{length-tableOf}
+use Rattle.tag_scan.specs.Scan.{keyOf, grownBy, isOver, Limited, Scanned}
+use Rattle.tag_scan.proofs.Numbers.{Noted, noted-step}
+use Rattle.tag_scan.proofs.Counting.{tagTable-last, grown-counts, grown-tags, over-tooMany, limited-grown}
+
+-- what the reading of a file ends with
+abbrev pub lastRefusal : List ℕ → Option Refusal
+lastRefusal file = refusalOf (readAt file (totalLength (records file)))
+
+pub record Scanning (file used order : List ℕ) (total : Loaded) (at : ℕ) : Type 0 where
+  pub seen : List TagRecord
+  pub split : records file ≡ seen ++ recordsAt file at
+  pub place : at ≡ totalLength seen
+  pub within : at ≤ length file
+  pub fault : fileFault file ≡ firstFault seen (recordsAt file at) (lastRefusal file)
+  pub noted : Noted used seen
+  pub sorted : Sorted file (total .tags) order
+  pub before : (j : ℕ) → j < total .tags → getD order j 0 + 12 ≤ at
+  pub table : tableOf file (total .tags) order ≡ tagTable seen
+  pub counts : total ≡ countsOf seen
+  pub limited : Limited total
+
+pub scanning-start : (file order used : List ℕ) (total : Loaded) → length order ≡ 4352 → Noted used [] → total ≡ countsOf [] → Scanning file used order total 0
+unfolding fileFault sum tableOf rising insertAll allTags keep
+scanning-start file order used total full noted e =
+    let zero-tags : total .tags ≡ 0 = ap (λ (t : Loaded). t .tags) e in
+    let empty : tableOf file (total .tags) order ≡ [] = ap (λ (n : ℕ). tableOf file n order) zero-tags in
+    record {
+      seen = [];
+      split = refl;
+      place = refl;
+      within = omega arith;
+      fault = refl;
+      noted = noted;
+      sorted = record { full = full; room = omega arith; rises = ap rising empty; inside = λ j h. absurd (omega arith) };
+      before = λ j h. absurd (omega arith);
+      table = empty;
+      counts = e;
+      limited = record {
+        left-sets = omega (arith, ap (λ (t : Loaded). t .«left_sets») e);
+        right-sets = omega (arith, ap (λ (t : Loaded). t .«right_sets») e);
+        left-entries = omega (arith, ap (λ (t : Loaded). t .«left_entries») e);
+        right-entries = omega (arith, ap (λ (t : Loaded). t .«right_entries») e);
+        tags = omega (arith, zero-tags);
+      };
+    }
+
+-- a fault is what the file is refused with
+pub refused : {file order : List ℕ} (why : Refusal) → fileFault file ≡ some why → Scanned file order (load.Refused why)
+refused why e =
+    record { answer = rw e; index = λ n. never (sym e ∙ n); limited = λ n. never (sym e ∙ n) }
+  where
+    never : {A : Type 0} {w : Refusal} → some w ≡ none → A
+    never e = let z : _≡_ {A = ℕ} 0 1 = cc in absurd (omega arith)
+
+module _ {file used order : List ℕ} {total : Loaded} {at : ℕ} (s : Scanning file used order total at) where
+  -- the reading ended: there are no records from here on
+  pub scanning-stop : (a : ReadAnswer) → readAt file at ≡ a → recordsAt file at ≡ [] → Scanned file order (unless (refusalOf a) (load.Loaded total))
+  unfolding firstFault
+  scanning-stop a e stop =
+      record {
+        answer = ap (λ (o : Option Refusal). unless o (load.Loaded total)) (sym ends) ∙ ap (λ (t : Loaded). unless (fileFault file) (load.Loaded t)) (s .counts ∙ ap countsOf (sym all));
+        index = λ n. record {
+          sorted = subst (λ (k : ℕ). Sorted file k order) size (s .sorted);
+          table = ap (λ (k : ℕ). tableOf file k order) (sym size) ∙ s .table ∙ ap tagTable (sym all);
+        };
+        limited = λ n. subst (λ (t : Loaded). Limited t) (s .counts ∙ ap countsOf (sym all)) (s .limited);
+      }
+    where
+      all : records file ≡ s .seen
+      all = s .split ∙ ap (λ (l : List TagRecord). s .seen ++ l) stop ∙ append-nil (s .seen)
+
+      size : total .tags ≡ length (tagTable (records file))
+      size = ap (λ (t : Loaded). t .tags) (s .counts) ∙ ap (λ (l : List TagRecord). length (tagTable l)) (sym all)
+
+      ends : fileFault file ≡ refusalOf a
+      ends =
+          s .fault ∙ ap (λ (l : List TagRecord). firstFault (s .seen) l (lastRefusal file)) stop
+          ∙ ap refusalOf (ap (readAt file) (ap totalLength all ∙ sym (s .place)) ∙ e)
+
+  module _ (side : Side) (n c p next : ℕ) (e : readAt file at ≡ Record side n c p next) where
+    abbrev pub this : TagRecord
+    this = record { side = side; number = n; tags = tagsAt c file p }
+
+    here : fileFault file ≡ earlier (faultOf (s .seen) this) (firstFault (s .seen ++ (this ∷ [])) (recordsAt file next) (lastRefusal file))
+    unfolding firstFault
+    here = s .fault ∙ ap (λ (l : List TagRecord). firstFault (s .seen) l (lastRefusal file)) (records-next file at side n c p next e)
+
+    -- the record's number was used
+    pub scanning-used : numberUsed (s .seen) this ≡ true → fileFault file ≡ some (NumberUsed at)
+    unfolding faultOf
+    scanning-used t = here ∙ rw (t, ← s .place)
+
+    -- the record passes a limit
+    pub scanning-past : numberUsed (s .seen) this ≡ false → tooMany side (s .seen ++ (this ∷ [])) ≡ true → fileFault file ≡ some (TooMany at)
+    unfolding faultOf
+    scanning-past f t = here ∙ rw (f, t, ← s .place)
+
+    pub scanning-ready : c < 256 → Ready file p c (total .tags) order
+    scanning-ready byte =
+        let w = read-whole file at side n c p next e in
+        record {
+          sorted = s .sorted;
+          before = λ j h. omega (arith, s .before j h, w .place);
+          inside = omega (arith, w .past, w .within);
+          room = omega (arith, s .limited .tags);
+        }
+
+    module _ {tags fresh : ℕ} {is : List ℕ} (added : AllAdded file p c (total .tags) order tags fresh is) where
+      table-next : tableOf file tags is ≡ tagTable (s .seen ++ (this ∷ []))
+      table-next = added .table ∙ ap (λ (l : List ℕ). insertAll l (tagsAt c file p)) (s .table) ∙ sym (tagTable-last (s .seen) this)
+
+      counts-next : grownBy total side tags fresh ≡ countsOf (s .seen ++ (this ∷ []))
+      counts-next =
+          ap (λ (t : Loaded). grownBy t side tags fresh) (s .counts)
+          ∙ grown-counts (s .seen) this tags fresh
+          (sym (length-tableOf file tags is (omega (arith, added .sorted .full, added .sorted .room))) ∙ ap length table-next) (added .counted)
+
+      -- what the limits say of it
+      pub scanning-over : isOver (grownBy total side tags fresh) side ≡ tooMany side (s .seen ++ (this ∷ []))
+      scanning-over = ap (λ (t : Loaded). isOver t side) counts-next ∙ over-tooMany side (s .seen ++ (this ∷ []))
+
+      pub scanning-next : n < 65536 → numberUsed (s .seen) this ≡ false → isOver (grownBy total side tags fresh) side ≡ false
+          → Scanning file (set used (keyOf side n) 1) is (grownBy total side tags fresh) next
+      unfolding faultOf
+      scanning-next small f limit =
+          let w = read-whole file at side n c p next e in
+          let same = grown-tags total side tags fresh in
+          record {
+            seen = s .seen ++ (this ∷ []);
+            split = s .split ∙ ap (λ (l : List TagRecord). s .seen ++ l) (records-next file at side n c p next e)
+                ∙ sym (append-assoc (s .seen) (this ∷ []) (recordsAt file next));
+            place = omega (arith, totalLength-last (s .seen) this, s .place, length-tagsAt c file p, w .place, w .past);
+            within = w .within;
+            fault = here ∙ rw (f, sym scanning-over ∙ limit);
+            noted = noted-step this small (s .noted);
+            sorted = subst (λ (k : ℕ). Sorted file k is) (sym same) (added .sorted);
+            before = λ j h. omega (arith, added .before j (subst (λ (k : ℕ). j < k) same h), w .past);
+            table = ap (λ (k : ℕ). tableOf file k is) same ∙ table-next;
+            counts = counts-next;
+            limited = limited-grown total side tags fresh (s .limited) limit;
+          }

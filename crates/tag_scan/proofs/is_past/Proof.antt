@@ -1,0 +1,19 @@
+-- `tag_scan::is_past` meets its contract.
+use borrow.Author.Tests.{lt-ltb, le-ltb}
+use Rattle.tag_scan.proofs.is_past.Statement.{statement}
+use Rattle.tag_scan.proofs.is_past.Tie as tie
+
+returns : tie.Need-returns
+returns c =
+    rw (lt-ltb 4096 (c .before .args .sets) (c .if1 .taken))
+
+returns-2 : tie.Need-returns-2
+returns-2 c =
+    rw (le-ltb 4096 (c .before .before .args .sets) (c .before .if1 .left), lt-ltb 65535 (c .before .before .args .entries) (c .if2 .taken))
+
+returns-3 : tie.Need-returns-3
+returns-3 c =
+    rw (le-ltb 4096 (c .before .before .args .sets) (c .before .if1 .left), le-ltb 65535 (c .before .before .args .entries) (c .if2 .left))
+
+pub is-past-spec : {M : Type 1} → statement M
+is-past-spec = tie.close (tie.spec returns returns-2 returns-3)

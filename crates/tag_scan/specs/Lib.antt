@@ -1,0 +1,2 @@
+-- Contents: what the loader's first pass asks and promises.
+pub mod Scan

@@ -1,0 +1,75 @@
+-- The loader's first pass: what its functions ask and promise.
+use Prim.Native.Nat.{ℕ, _+_, _≤_}
+use mathlib.Core.Path.{_≡_}
+use mathlib.Core.List.{List}
+use mathlib.Core.Bool.{Bool, _||_}
+use mathlib.Core.Option.{none}
+use lib.Dec.{eqb, ltb}
+use lib.ListN.{length, getD, set}
+use Rattle.lists.specs.Lists.{one}
+use Rattle.sets.specs.Limits.{maxItems, maxSets, maxEntries}
+use Rattle.sets.specs.declared.Side.{Side}
+use Rattle.sets.specs.declared.Side.the-variants.{Left, Right}
+use Rattle.sets.specs.declared.Loaded.{Loaded}
+use Rattle.sets.specs.declared.LoadAnswer.{LoadAnswer}
+use Rattle.sets.specs.declared.LoadAnswer.the-variants as load
+use Rattle.tag_file.specs.Records.{records, tagTable}
+use Rattle.tag_file.specs.Loading.{fileFault, countsOf, unless}
+use Rattle.tag_index.specs.Index.{tableOf, Sorted}
+
+-- where the loader notes that a number was used by a side
+abbrev pub keyOf : Side → ℕ → ℕ
+keyOf Left number = number
+keyOf Right number = 65536 + number
+
+-- a number was noted: r tells whether it was before
+pub record Claimed (was : List ℕ) (key : ℕ) (r : Bool) (is : List ℕ) : Type 0 where
+  pub before : r ≡ eqb (getD was key 0) 1
+  pub noted : is ≡ set was key 1
+
+-- the counts with one more record of a side: the index has so many tags, and the record so many distinct ones
+abbrev pub grownBy : Loaded → Side → ℕ → ℕ → Loaded
+grownBy t Left tags fresh =
+    record {
+      «left_sets» = t .«left_sets» + 1;
+      «right_sets» = t .«right_sets»;
+      «left_entries» = t .«left_entries» + fresh;
+      «right_entries» = t .«right_entries»;
+      tags = tags;
+    }
+grownBy t Right tags fresh =
+    record {
+      «left_sets» = t .«left_sets»;
+      «right_sets» = t .«right_sets» + 1;
+      «left_entries» = t .«left_entries»;
+      «right_entries» = t .«right_entries» + fresh;
+      tags = tags;
+    }
+
+-- whether counts pass a limit
+abbrev pub passes : ℕ → ℕ → ℕ → Bool
+passes sets entries tags = ltb maxSets sets || (ltb maxEntries entries || ltb maxItems tags)
+
+-- the same, for one side
+abbrev pub isOver : Loaded → Side → Bool
+isOver t Left = passes (t .«left_sets») (t .«left_entries») (t .tags)
+isOver t Right = passes (t .«right_sets») (t .«right_entries») (t .tags)
+
+-- the counts are within the limits
+pub record Limited (t : Loaded) : Type 0 where
+  pub left-sets : t .«left_sets» ≤ maxSets
+  pub right-sets : t .«right_sets» ≤ maxSets
+  pub left-entries : t .«left_entries» ≤ maxEntries
+  pub right-entries : t .«right_entries» ≤ maxEntries
+  pub tags : t .tags ≤ maxItems
+
+-- the index of all tags of a file
+pub record Indexed (file : List ℕ) (order : List ℕ) : Type 0 where
+  pub sorted : Sorted file (length (tagTable (records file))) order
+  pub table : tableOf file (length (tagTable (records file))) order ≡ tagTable (records file)
+
+-- the first pass: the first fault of the file, or its counts; and then the index of its tags
+pub record Scanned (file : List ℕ) (order : List ℕ) (r : LoadAnswer) : Type 0 where
+  pub answer : r ≡ unless (fileFault file) (load.Loaded (countsOf (records file)))
+  pub index : fileFault file ≡ none → Indexed file order
+  pub limited : fileFault file ≡ none → Limited (countsOf (records file))
