@@ -1,0 +1,66 @@
+-- What the statement of the round trip is made of: the seven lists after a load, the part of each that was filled, and the
+-- writer's answer and output over such lists. Document 01, "Tag file", "What loader and writer don't fill is as before".
+use mathlib.Core.Path.{_≡_}
+use Prim.Native.Nat.{ℕ, _*_}
+use mathlib.Core.List.{List}
+use mathlib.Core.Bool.{true}
+use lib.ListN.{length, take}
+use Rattle.sets.specs.declared.Loaded.{Loaded}
+use Rattle.sets.specs.declared.LoadAnswer.the-variants as load
+use Rattle.sets.specs.declared.WriteAnswer.{WriteAnswer}
+use Rattle.sets.specs.declared.WriteAnswer.the-variants as write
+use Rattle.tag_file.specs.Format.{tagLength}
+use Rattle.tag_file.specs.Records.{records}
+use Rattle.tag_file.specs.Loading.{Lists, filled, roomFor, loadAnswer, lentAfter}
+use Rattle.tag_writer.specs.Writer.{writeAnswer, fileAfter}
+use Rattle.tag_round_trip.specs.Rewritten.{bytesOfLists}
+
+-- the seven lent lists after a load, as the loader's contract has them
+abbrev pub listsAfter : List ℕ → Lists → Lists
+listsAfter file lent =
+    record {
+      tags = lentAfter (loadAnswer file lent) (filled (records file) .tags) (lent .tags);
+      leftNumbers = lentAfter (loadAnswer file lent) (filled (records file) .leftNumbers) (lent .leftNumbers);
+      leftEnds = lentAfter (loadAnswer file lent) (filled (records file) .leftEnds) (lent .leftEnds);
+      leftItems = lentAfter (loadAnswer file lent) (filled (records file) .leftItems) (lent .leftItems);
+      rightNumbers = lentAfter (loadAnswer file lent) (filled (records file) .rightNumbers) (lent .rightNumbers);
+      rightEnds = lentAfter (loadAnswer file lent) (filled (records file) .rightEnds) (lent .rightEnds);
+      rightItems = lentAfter (loadAnswer file lent) (filled (records file) .rightItems) (lent .rightItems);
+    }
+
+-- the parts of seven lists that a load with these counts filled
+abbrev pub partsOf : Loaded → Lists → Lists
+partsOf counts l =
+    record {
+      tags = take (tagLength * counts .tags) (l .tags);
+      leftNumbers = take (counts .«left_sets») (l .leftNumbers);
+      leftEnds = take (counts .«left_sets») (l .leftEnds);
+      leftItems = take (counts .«left_entries») (l .leftItems);
+      rightNumbers = take (counts .«right_sets») (l .rightNumbers);
+      rightEnds = take (counts .«right_sets») (l .rightEnds);
+      rightItems = take (counts .«right_entries») (l .rightItems);
+    }
+
+-- what the loader filled
+abbrev pub loadedFrom : List ℕ → Lists → Loaded → Lists
+loadedFrom file lent counts = partsOf counts (listsAfter file lent)
+
+-- the writer's answer over seven lists, with room for so many bytes
+abbrev pub writeOf : ℕ → Lists → ℕ → WriteAnswer
+writeOf T l room =
+    writeAnswer T (l .tags) (l .leftNumbers) (l .leftEnds) (l .leftItems) (l .rightNumbers) (l .rightEnds) (l .rightItems) room
+
+-- the first bytes of the writer's output list, as many as the file has
+abbrev pub writtenTo : ℕ → Lists → List ℕ → List ℕ
+writtenTo T l out = take (length (bytesOfLists l)) (fileAfter (writeOf T l (length out)) (bytesOfLists l) out)
+
+-- a load of a file into lent lists is accepted with these counts, and fills these lists
+pub record Loads (file : List ℕ) (lent : Lists) (counts : Loaded) (got : Lists) : Type 0 where
+  pub answer : loadAnswer file lent ≡ load.Loaded counts
+  pub lists : loadedFrom file lent counts ≡ got
+
+-- the round trip from lists that were loaded, through an output list: the writer writes the file, and every load of it into lists
+-- that are long enough is accepted with the same counts and fills the same lists
+pub record Trip (counts : Loaded) (got : Lists) (out : List ℕ) : Type 0 where
+  pub written : writeOf (counts .tags) got (length out) ≡ write.Written (length (bytesOfLists got))
+  pub again : (lent : Lists) → roomFor got lent ≡ true → Loads (writtenTo (counts .tags) got out) lent counts got

@@ -1,0 +1,48 @@
+-- Laws of records as bytes: marks, the tags of a set one after the other, and the lengths.
+use mathlib.Core.Path.{_≡_, refl}
+use Prim.Native.Nat.{ℕ, zero, suc, _+_, _*_, _/_, _%_, _≤_, _<_}
+use mathlib.Core.List.{List, [], _∷_, _++_}
+use native.Mathlib.Omega.{arith}
+use lib.ListN.{length, take, drop, getD, length-append, length-map}
+use Rattle.sets.specs.Collections.{between}
+use Rattle.sets.proofs.Between.{between-cons}
+use Rattle.sets.specs.declared.Side.{Side}
+use Rattle.sets.specs.declared.Side.the-variants.{Left, Right}
+use Rattle.tag_file.specs.Format.{tagLength, headLength, bytesOf, tagBytes, mark}
+use Rattle.tag_writer.specs.Writer.{tagOf, tagsOf}
+use Rattle.tag_file.proofs.Bytes.{bytesOf-tagAt}
+
+-- a record before its tags
+abbrev pub headOf : Side → ℕ → ℕ → List ℕ
+headOf side number count = mark side ++ (number / 256 ∷ number % 256 ∷ count ∷ [])
+
+pub mark-bytes : (side : Side) → mark side ≡ getD (mark side) 0 0 ∷ getD (mark side) 1 0 ∷ []
+mark-bytes Left = refl
+mark-bytes Right = refl
+
+pub length-head : (side : Side) (number count : ℕ) → length (headOf side number count) ≡ headLength
+length-head Left number count = refl
+length-head Right number count = refl
+
+pub length-bytesOf : (n v : ℕ) → length (bytesOf n v) ≡ n
+unfolding bytesOf
+length-bytesOf zero v = refl
+length-bytesOf (suc n) v = rw (length-append, length-bytesOf n (v / 256)) (omega arith)
+
+pub length-tagBytes : (tags : List ℕ) → length (tagBytes tags) ≡ tagLength * length tags
+unfolding tagBytes
+length-tagBytes [] = refl
+length-tagBytes (tag ∷ tags) =
+    rw (length-append, length-bytesOf tagLength tag, length-tagBytes tags) (omega arith)
+
+pub length-tagsOf : (tags set : List ℕ) → length (tagsOf tags set) ≡ length set
+length-tagsOf tags set = length-map set (tagOf tags)
+
+-- the tags of the items from a place on: the first one's bytes in the table, then the others
+pub tags-run : (tags items : List ℕ) (i end : ℕ) → i < end → end ≤ length items
+    → tagLength * getD items i 0 + tagLength ≤ length tags → ((k : ℕ) → getD tags k 0 < 256)
+    → tagBytes (tagsOf tags (between i end items))
+    ≡ take tagLength (drop (tagLength * getD items i 0) tags) ++ tagBytes (tagsOf tags (between (i + 1) end items))
+unfolding tagBytes
+tags-run tags items i end more inside known low =
+    rw (between-cons i end items more inside, bytesOf-tagAt tags (tagLength * getD items i 0) known low)

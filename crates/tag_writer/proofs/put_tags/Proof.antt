@@ -1,0 +1,129 @@
+-- `put_tags` meets its contract. The loop's invariant: putting the tags that are left gives what putting all of them gave at
+-- the start. The measure is the number of items left.
+use mathlib.Core.Path.{_≡_, refl, sym, ap, _∙_}
+use mathlib.Core.List.{List}
+use Prim.Native.Nat.{ℕ, _+_, _*_, _-_, _≤_, _<_}
+use native.Mathlib.Omega.{arith}
+use lib.ListN.{length, take, drop, getD, length-take, length-drop}
+use Rattle.sets.specs.Collections.{between}
+use Rattle.tag_file.specs.Format.{tagLength, tagBytes}
+use Rattle.tag_writer.specs.Put.{put}
+use Rattle.tag_writer.specs.Room.{ItemsFit}
+use Rattle.tag_writer.specs.Writer.{tagsOf}
+use Rattle.tag_writer.proofs.PutLaws.{put-nil, put-then, length-put}
+use Rattle.tag_writer.proofs.Records.{tags-run}
+use Rattle.tag_writer.proofs.put_tags.Statement.{statement}
+use Rattle.tag_writer.proofs.put_tags.Tie as tie
+
+-- the tags of the items from start up to end, as bytes
+abbrev run : List ℕ → List ℕ → ℕ → ℕ → List ℕ
+run tags items start end = tagBytes (tagsOf tags (between start end items))
+
+record Copying (tags items : List ℕ) (start end : ℕ) (file₀ : List ℕ) (at : ℕ) (file : List ℕ) (i to : ℕ) : Type 0 where
+  above : start ≤ i
+  within : i ≤ end
+  long : length file ≡ length file₀
+  place : to + tagLength * (end - i) ≡ at + tagLength * (end - start)
+  left : put file to (run tags items i end) ≡ put file₀ at (run tags items start end)
+
+copying-start : (tags items : List ℕ) (start end : ℕ) (file : List ℕ) (at : ℕ) → start ≤ end
+    → Copying tags items start end file at file start at
+copying-start tags items start end file at h = record { above = omega arith; within = h; long = refl; place = refl; left = refl }
+
+copying-step : (tags items : List ℕ) (start end : ℕ) (file₀ : List ℕ) (at : ℕ) (file : List ℕ) (i to : ℕ) (file′ : List ℕ)
+    → ItemsFit tags items start end → at + tagLength * (end - start) ≤ length file₀ → ((k : ℕ) → getD tags k 0 < 256)
+    → i < end → Copying tags items start end file₀ at file i to
+    → file′ ≡ put file to (take tagLength (drop (tagLength * getD items i 0) tags))
+    → Copying tags items start end file₀ at file′ (i + 1) (to + tagLength)
+copying-step tags items start end file₀ at file i to file′ fit room low more so e =
+    let known : tagLength * getD items i 0 + tagLength ≤ length tags = fit .known i (so .above) more in
+    let n : length (take tagLength (drop (tagLength * getD items i 0) tags)) ≡ tagLength =
+    simp (length-take, length-drop) (omega arith) in
+    let enough : to + tagLength ≤ length file = omega (arith, so .long, so .place) in
+    record {
+      above = omega (arith, so .above);
+      within = omega arith;
+      long = ap length e ∙ length-put file to _ (omega arith) ∙ so .long;
+      place = omega (arith, so .place);
+      left =
+          rw e
+          (sym (put-then file to _ (run tags items (i + 1) end) tagLength n enough)
+          ∙ ap (put file to) (sym (tags-run tags items i end more (fit .inside) known low)) ∙ so .left);
+    }
+
+copying-end : (tags items : List ℕ) (start end : ℕ) (file₀ : List ℕ) (at : ℕ) (file : List ℕ) (i to : ℕ)
+    → end ≤ i → Copying tags items start end file₀ at file i to → file ≡ put file₀ at (run tags items start end)
+unfolding tagBytes
+copying-end tags items start end file₀ at file i to done so =
+    let none : end - i ≡ 0 = omega arith in
+    sym (put-nil file to)
+    ∙ ap (λ (k : ℕ). put file to (tagBytes (tagsOf tags (take k (drop i items))))) (sym none) ∙ so .left
+
+abbrev Inv-loop : tie.InvT-loop
+Inv-loop tags items start end file₀ at i₀ to₀ file i to = Copying tags items start end file₀ at file i to
+
+abbrev μ-loop : tie.MeasureT-loop
+μ-loop tags items start end file₀ at i₀ to₀ file i to = end - i
+
+loop-holds : tie.Need-loop-holds Inv-loop μ-loop
+loop-holds c = copying-start _ _ _ _ _ _ (c .before .before .before .pre .0 .rise)
+
+mul-from : tie.Need-mul-from Inv-loop μ-loop
+mul-from c = omega arith
+
+shared-slice-read-from : tie.Need-shared-slice-read-from Inv-loop μ-loop
+shared-slice-read-from c = omega arith
+
+cast-from : tie.Need-cast-from Inv-loop μ-loop
+cast-from c = omega (arith, c .shared-slice-known3 .given (c .before .before .loop .i))
+
+mul-from-2 : tie.Need-mul-from-2 Inv-loop μ-loop
+mul-from-2 c = omega (arith, c .shared-slice-known3 .given (c .before .before .loop .i))
+
+put-tag-requires : tie.Need-put-tag-requires Inv-loop μ-loop
+put-tag-requires c κs =
+    let test = c .before .before in
+    let entry = test .before .before .before .before .before in
+    let so = test .before .loop .inv in
+    (entry .pre .0 .known _ (so .above) (test .loop-test .taken), omega (arith, so .long, so .place, entry .pre .1, test .loop-test .taken))
+
+add-to : tie.Need-add-to Inv-loop μ-loop
+add-to c = omega arith
+
+add-i : tie.Need-add-i Inv-loop μ-loop
+add-i c = omega arith
+
+loop-less : tie.Need-loop-less Inv-loop μ-loop
+loop-less c = omega arith
+
+loop-again : tie.Need-loop-again Inv-loop μ-loop
+loop-again c =
+    let test = c .before .before .before .before .before in
+    let bytes = test .before .before .before .before in
+    copying-step _ _ _ _ _ _ _ _ _ _ (bytes .before .pre .0) (bytes .before .pre .1) (λ k. bytes .shared-slice-known .given k .fits)
+    (test .loop-test .taken) (test .before .loop .inv) (c .before .before .put-tag .ensures)
+
+same-length : tie.Need-same-length Inv-loop μ-loop
+same-length c = c .before .loop .inv .long
+
+returns : tie.Need-returns Inv-loop μ-loop
+returns c = copying-end _ _ _ _ _ _ _ _ _ (c .loop-test .left) (c .before .loop .inv)
+
+pub put-tags-spec : {M : Type 1} → statement M
+put-tags-spec =
+    tie.close
+    (tie.spec
+    Inv-loop
+    μ-loop
+    loop-holds
+    mul-from
+    shared-slice-read-from
+    cast-from
+    mul-from-2
+    put-tag-requires
+    add-to
+    add-i
+    loop-less
+    loop-again
+    same-length
+    returns)

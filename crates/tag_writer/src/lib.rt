@@ -1,0 +1,258 @@
+// The writer of a tag file (document 01, "Tag file"): a record for each left set (kit), then for each right set (stack). What
+// it answers and leaves in the lent output is defined in specs/. A record is put by one function, whatever its side.
+ghost use mathlib.Core.Path.{_≡_};
+ghost use Prim.Native.Nat.{_+_, _*_, _-_, _/_, _%_, _≤_, _<_};
+ghost use mathlib.Core.List.{_∷_, [], _++_};
+ghost use lib.ListN.{length, take, drop, getD};
+ghost use Rattle.tag_file.specs.Format.{tagLength, headLength, tagBytes, mark, recordBytes};
+ghost use Rattle.tag_writer.specs.Put.{put};
+ghost use Rattle.sets.specs.Limits.{maxSets, maxEntries, maxSetLength};
+ghost use Rattle.sets.specs.Collections.{between, entries};
+ghost use Rattle.tag_writer.specs.Writer.{tagsOf, sideBytes, fileBytes, sideVerdict, writtenWithin, writeAnswer, fileAfter};
+ghost use Rattle.tag_writer.specs.Room.{ItemsFit, GoodSide};
+use sets::MAX_ITEMS;
+use sets::Refusal;
+use sets::Side;
+use sets::Verdict;
+use sets::WriteAnswer;
+
+// The bytes of a tag.
+const TAG_LENGTH: usize = 12;
+// The bytes of a record before its tags.
+const HEAD_LENGTH: usize = 5;
+
+// The tag at a place of the tag table goes to a place of the file.
+fn put_tag(tags: &[u8], from: usize, file: &mut [u8], at: usize)
+    requires { ⌜ (from + tagLength ≤ length (now tags)) × (at + tagLength ≤ length (now file)) ⌝ }
+    ensures { λ r. ⌜ now (file .exit) ≡ put (now (file .entry)) at (take tagLength (drop from (now (tags .entry)))) ⌝ }
+{
+    let mut i: usize = 0;
+    while i < TAG_LENGTH {
+        file[at + i] = tags[from + i];
+        i += 1;
+    }
+}
+
+// The first byte of the mark of a side's records.
+fn first_mark(side: Side) -> u8
+    ensures { λ r. ⌜ r ≡ getD (mark side) 0 0 ⌝ }
+{
+    match side {
+        Side::Left => 0x4B,
+        Side::Right => 0x53,
+    }
+}
+
+// The second byte of the mark of a side's records.
+fn second_mark(side: Side) -> u8
+    ensures { λ r. ⌜ r ≡ getD (mark side) 1 0 ⌝ }
+{
+    match side {
+        Side::Left => 0x54,
+        Side::Right => 0x4B,
+    }
+}
+
+// The mark, the number and the count of a record go to a place of the file.
+fn put_head(side: Side, number: u16, count: u8, file: &mut [u8], at: usize)
+    requires { ⌜ at + headLength ≤ length (now file) ⌝ }
+    ensures { λ r. ⌜ now (file .exit) ≡ put (now (file .entry)) at (mark side ++ (number / 256 ∷ number % 256 ∷ count ∷ [])) ⌝ }
+{
+    let first = first_mark(side);
+    let second = second_mark(side);
+    file[at] = first;
+    file[at + 1] = second;
+    file[at + 2] = (number / 256) as u8;
+    file[at + 3] = (number % 256) as u8;
+    file[at + 4] = count;
+}
+
+// The tags of the items from start up to end go to a place of the file.
+fn put_tags(tags: &[u8], items: &[u16], start: usize, end: usize, file: &mut [u8], at: usize)
+    requires { ⌜ ItemsFit (now tags) (now items) start end ⌝ }
+    requires { ⌜ at + tagLength * (end - start) ≤ length (now file) ⌝ }
+    ensures { λ r. ⌜ now (file .exit) ≡ put (now (file .entry)) at
+        (tagBytes (tagsOf (now (tags .entry)) (between start end (now (items .entry))))) ⌝ }
+{
+    let mut i = start;
+    let mut to = at;
+    while i < end {
+        let from = TAG_LENGTH * (items[i] as usize);
+        put_tag(tags, from, file, to);
+        to += TAG_LENGTH;
+        i += 1;
+    }
+}
+
+// The record of the set of the items from start up to end goes to a place of the file.
+fn put_record(
+    side: Side,
+    number: u16,
+    tags: &[u8],
+    items: &[u16],
+    start: usize,
+    end: usize,
+    file: &mut [u8],
+    at: usize,
+)
+    requires { ⌜ ItemsFit (now tags) (now items) start end ⌝ }
+    requires { ⌜ (end - start ≤ maxSetLength) × (at + (headLength + tagLength * (end - start)) ≤ length (now file)) ⌝ }
+    ensures { λ r. ⌜ now (file .exit) ≡ put (now (file .entry)) at
+        (recordBytes side number (tagsOf (now (tags .entry)) (between start end (now (items .entry))))) ⌝ }
+{
+    let count = (end - start) as u8;
+    put_head(side, number, count, file, at);
+    put_tags(tags, items, start, end, file, at + HEAD_LENGTH);
+}
+
+// The records of a side, by place, go to a place of the file.
+fn put_side(
+    side: Side,
+    tags: &[u8],
+    numbers: &[u16],
+    ends: &[u32],
+    items: &[u16],
+    file: &mut [u8],
+    at: usize,
+)
+    requires { ⌜ GoodSide (now tags) (now numbers) (now ends) (now items) ⌝ }
+    requires { ⌜ at + length (sideBytes side (now tags) (now numbers) (now ends) (now items)) ≤ length (now file) ⌝ }
+    ensures { λ r. ⌜ now (file .exit) ≡ put (now (file .entry)) at
+        (sideBytes side (now (tags .entry)) (now (numbers .entry)) (now (ends .entry)) (now (items .entry))) ⌝ }
+{
+    let mut k: usize = 0;
+    let mut start: usize = 0;
+    let mut to = at;
+    while k < ends.len() {
+        let end = ends[k] as usize;
+        let number = numbers[k];
+        put_record(side, number, tags, items, start, end, file, to);
+        to += HEAD_LENGTH + TAG_LENGTH * (end - start);
+        start = end;
+        k += 1;
+    }
+}
+
+// The bytes that the records of a side take.
+fn side_length(ends: &[u32]) -> usize
+    requires { ⌜ (length (now ends) ≤ maxSets) × (entries (now ends) ≤ maxEntries) ⌝ }
+    ensures { λ r. ⌜ r ≡ headLength * length (now (ends .entry)) + tagLength * entries (now (ends .entry)) ⌝ }
+{
+    let entries = sets::count_entries(ends);
+    HEAD_LENGTH * ends.len() + TAG_LENGTH * entries
+}
+
+// The place of a side's fault: its first bad set, then the shorter length where it hasn't as many numbers as sets.
+fn side_verdict(t: u32, numbers: &[u16], ends: &[u32], items: &[u16]) -> Verdict
+    ensures { λ r. ⌜ r ≡ sideVerdict t (now (numbers .entry)) (now (ends .entry)) (now (items .entry)) ⌝ }
+{
+    let verdict = sets::first_bad(t, ends, items);
+    match verdict {
+        Verdict::Bad(place) => Verdict::Bad(place),
+        Verdict::Good => {
+            if numbers.len() == ends.len() {
+                return Verdict::Good;
+            }
+            if numbers.len() < ends.len() {
+                return Verdict::Bad(numbers.len());
+            }
+            Verdict::Bad(ends.len())
+        }
+    }
+}
+
+// The whole file, where neither side has a fault.
+fn write_good(
+    tags: &[u8],
+    left_numbers: &[u16],
+    left_ends: &[u32],
+    left_items: &[u16],
+    right_numbers: &[u16],
+    right_ends: &[u32],
+    right_items: &[u16],
+    file: &mut [u8],
+) -> WriteAnswer
+    requires { ⌜ GoodSide (now tags) (now «left_numbers») (now «left_ends») (now «left_items») ⌝ }
+    requires { ⌜ GoodSide (now tags) (now «right_numbers») (now «right_ends») (now «right_items») ⌝ }
+    ensures answer { λ r. ⌜ r ≡ writtenWithin (length (now (file .entry)))
+        (fileBytes (now (tags .entry)) (now («left_numbers» .entry)) (now («left_ends» .entry)) (now («left_items» .entry))
+        (now («right_numbers» .entry)) (now («right_ends» .entry)) (now («right_items» .entry))) ⌝ }
+    ensures file { λ r. ⌜ now (file .exit) ≡ fileAfter r
+        (fileBytes (now (tags .entry)) (now («left_numbers» .entry)) (now («left_ends» .entry)) (now («left_items» .entry))
+        (now («right_numbers» .entry)) (now («right_ends» .entry)) (now («right_items» .entry))) (now (file .entry)) ⌝ }
+{
+    let left = side_length(left_ends);
+    let right = side_length(right_ends);
+    if file.len() < left + right {
+        lists::zero_u8(file);
+        return WriteAnswer::Refused(Refusal::ShortOutput);
+    }
+    put_side(
+        Side::Left,
+        tags,
+        left_numbers,
+        left_ends,
+        left_items,
+        file,
+        0,
+    );
+    put_side(
+        Side::Right,
+        tags,
+        right_numbers,
+        right_ends,
+        right_items,
+        file,
+        left,
+    );
+    WriteAnswer::Written(left + right)
+}
+
+// Writes the left sets' records, then the right sets', and answers with the length.
+pub fn write(
+    t: u32,
+    tags: &[u8],
+    left_numbers: &[u16],
+    left_ends: &[u32],
+    left_items: &[u16],
+    right_numbers: &[u16],
+    right_ends: &[u32],
+    right_items: &[u16],
+    file: &mut [u8],
+) -> WriteAnswer
+    ensures answer { λ r. ⌜ r ≡ writeAnswer t (now (tags .entry))
+        (now («left_numbers» .entry)) (now («left_ends» .entry)) (now («left_items» .entry))
+        (now («right_numbers» .entry)) (now («right_ends» .entry)) (now («right_items» .entry)) (length (now (file .entry))) ⌝ }
+    ensures file { λ r. ⌜ now (file .exit) ≡ fileAfter
+        (writeAnswer t (now (tags .entry)) (now («left_numbers» .entry)) (now («left_ends» .entry)) (now («left_items» .entry))
+        (now («right_numbers» .entry)) (now («right_ends» .entry)) (now («right_items» .entry)) (length (now (file .entry))))
+        (fileBytes (now (tags .entry)) (now («left_numbers» .entry)) (now («left_ends» .entry)) (now («left_items» .entry))
+        (now («right_numbers» .entry)) (now («right_ends» .entry)) (now («right_items» .entry))) (now (file .entry)) ⌝ }
+{
+    if MAX_ITEMS < t {
+        return WriteAnswer::Refused(Refusal::BadSettings);
+    }
+    if tags.len() != TAG_LENGTH * (t as usize) {
+        return WriteAnswer::Refused(Refusal::BadSettings);
+    }
+    let left = side_verdict(t, left_numbers, left_ends, left_items);
+    match left {
+        Verdict::Bad(place) => WriteAnswer::Refused(Refusal::BadSet(Side::Left, place)),
+        Verdict::Good => {
+            let right = side_verdict(t, right_numbers, right_ends, right_items);
+            match right {
+                Verdict::Bad(place) => WriteAnswer::Refused(Refusal::BadSet(Side::Right, place)),
+                Verdict::Good => write_good(
+                    tags,
+                    left_numbers,
+                    left_ends,
+                    left_items,
+                    right_numbers,
+                    right_ends,
+                    right_items,
+                    file,
+                ),
+            }
+        }
+    }
+}
