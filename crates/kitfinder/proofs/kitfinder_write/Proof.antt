@@ -1,0 +1,24 @@
+-- `kitfinder_write` meets its contract: the words of what the writer answers, and the file that it leaves.
+use mathlib.Core.Path.{ap, _∙_}
+use Rattle.kitfinder.specs.Words.{writeWords}
+use borrow.Author.Needs.{needs}
+use Rattle.kitfinder.proofs.kitfinder_write.Statement.{statement}
+use Rattle.kitfinder.proofs.kitfinder_write.Tie as tie
+
+write-requires : tie.Need-write-requires
+write-requires c κs = search needs
+
+write-words-requires : tie.Need-write-words-requires
+write-words-requires c κs = search needs
+
+same-length : tie.Need-same-length
+same-length c = search needs
+
+returns : tie.Need-returns
+returns c = (
+  c .write-words .ensures ∙ ap writeWords (c .before .before .before .write .ensures .0),
+  c .before .before .before .write .ensures .1,
+)
+
+pub kitfinder-write-spec : {M : Type 1} → statement M
+kitfinder-write-spec = tie.close (tie.spec write-requires write-words-requires same-length returns)

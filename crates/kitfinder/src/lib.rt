@@ -1,0 +1,422 @@
+// The static library for C and Rust: thin exported functions, each over one proved operation. Names, parameters and answer words
+// are those of include/kitfinder.h; what the words hold is defined in specs/.
+use sets::JoinAnswer;
+use sets::LoadAnswer;
+use sets::OrderAnswer;
+use sets::Refusal;
+use sets::Rule;
+use sets::Side;
+use sets::Weights;
+use sets::WriteAnswer;
+use tag_file::ReadAnswer;
+ghost use mathlib.Core.Path.{_≡_};
+ghost use mathlib.Core.Bool.{true, not};
+ghost use lib.Dec.{eqb};
+ghost use lib.ListN.{length, getD};
+ghost use Rattle.sets.specs.Refusals.{number, detail, sideNumber};
+ghost use Rattle.tag_file.specs.Reading.{readAt};
+ghost use Rattle.sets.specs.Collections.{setsOf};
+ghost use Rattle.join_spec.specs.PairList.{pairList};
+ghost use Rattle.join_spec.specs.Answer.{pairsAfter, workKept};
+ghost use Rattle.item_order.specs.Order.{orderAnswer, orderRanks};
+ghost use Rattle.tag_file.specs.Loading.{listsOf, loadAnswer};
+ghost use Rattle.tag_writer.specs.Writer.{fileBytes, writeAnswer, fileAfter};
+ghost use Rattle.kitfinder.specs.Numbered.{ruleOf, weightsOf, numberedAnswer};
+ghost use Rattle.kitfinder.specs.LoadedLists.{loadedList};
+ghost use Rattle.kitfinder.specs.Words.{joinWords, orderWords, loadWords, writeWords, readWords};
+
+// The three words that every answer begins with: the number of a refusal, and what is returned with it.
+pub struct Head {
+    pub number: u64,
+    pub first: u64,
+    pub second: u64,
+}
+
+fn side_word(side: Side) -> u64
+    ensures { λ r. ⌜ r ≡ sideNumber side ⌝ }
+{
+    match side {
+        Side::Left => 0,
+        Side::Right => 1,
+    }
+}
+
+fn head_of(why: Refusal) -> Head
+    ensures { λ r. ⌜ (r .number ≡ number why) × (r .first ≡ getD (detail why) 0 0) × (r .second ≡ getD (detail why) 1 0) ⌝ }
+{
+    match why {
+        Refusal::Malformed(place) => Head {
+            number: 1,
+            first: place as u64,
+            second: 0,
+        },
+        Refusal::NumberUsed(place) => Head {
+            number: 2,
+            first: place as u64,
+            second: 0,
+        },
+        Refusal::TooMany(place) => Head {
+            number: 3,
+            first: place as u64,
+            second: 0,
+        },
+        Refusal::ShortOutput => Head {
+            number: 4,
+            first: 0,
+            second: 0,
+        },
+        Refusal::BadSet(side, place) => Head {
+            number: 5,
+            first: side_word(side),
+            second: place as u64,
+        },
+        Refusal::BadSettings => Head {
+            number: 6,
+            first: 0,
+            second: 0,
+        },
+        Refusal::ShortWork => Head {
+            number: 7,
+            first: 0,
+            second: 0,
+        },
+        Refusal::Spent => Head {
+            number: 8,
+            first: 0,
+            second: 0,
+        },
+        Refusal::ShortPairs => Head {
+            number: 9,
+            first: 0,
+            second: 0,
+        },
+    }
+}
+
+fn join_words(answer: JoinAnswer) -> [u64; 9]
+    ensures { λ r. ⌜ r ≡ joinWords answer ⌝ }
+{
+    match answer {
+        JoinAnswer::Joined(counts) => [
+            0,
+            0,
+            0,
+            counts.pairs as u64,
+            counts.by_path as u64,
+            counts.confirmed as u64,
+            counts.checks as u64,
+            counts.dropped as u64,
+            counts.false_drops as u64,
+        ],
+        JoinAnswer::Refused(why) => {
+            let head = head_of(why);
+            [head.number, head.first, head.second, 0, 0, 0, 0, 0, 0]
+        }
+    }
+}
+
+fn order_words(answer: OrderAnswer) -> [u64; 3]
+    ensures { λ r. ⌜ r ≡ orderWords answer ⌝ }
+{
+    match answer {
+        OrderAnswer::Ordered => [0, 0, 0],
+        OrderAnswer::Refused(why) => {
+            let head = head_of(why);
+            [head.number, head.first, head.second]
+        }
+    }
+}
+
+fn load_words(answer: LoadAnswer) -> [u64; 8]
+    ensures { λ r. ⌜ r ≡ loadWords answer ⌝ }
+{
+    match answer {
+        LoadAnswer::Loaded(loaded) => [
+            0,
+            0,
+            0,
+            loaded.left_sets as u64,
+            loaded.right_sets as u64,
+            loaded.left_entries as u64,
+            loaded.right_entries as u64,
+            loaded.tags as u64,
+        ],
+        LoadAnswer::Refused(why) => {
+            let head = head_of(why);
+            [head.number, head.first, head.second, 0, 0, 0, 0, 0]
+        }
+    }
+}
+
+fn write_words(answer: WriteAnswer) -> [u64; 4]
+    ensures { λ r. ⌜ r ≡ writeWords answer ⌝ }
+{
+    match answer {
+        WriteAnswer::Written(length) => [0, 0, 0, length as u64],
+        WriteAnswer::Refused(why) => {
+            let head = head_of(why);
+            [head.number, head.first, head.second, 0]
+        }
+    }
+}
+
+fn read_words(answer: ReadAnswer) -> [u64; 9]
+    ensures { λ r. ⌜ r ≡ readWords answer ⌝ }
+{
+    match answer {
+        ReadAnswer::Record {
+            side,
+            number,
+            count,
+            tags,
+            next,
+        } => {
+            [
+                0,
+                0,
+                0,
+                0,
+                side_word(side),
+                number as u64,
+                count as u64,
+                tags as u64,
+                next as u64,
+            ]
+        }
+        ReadAnswer::NoMore => [0, 0, 0, 1, 0, 0, 0, 0, 0],
+        ReadAnswer::Refused(why) => {
+            let head = head_of(why);
+            [head.number, head.first, head.second, 0, 0, 0, 0, 0, 0]
+        }
+    }
+}
+
+// The rule of a number: 0 Merge, 1 Check, else Weighed.
+fn rule_of(number: u32, weights: Weights) -> Rule
+    ensures { λ r. ⌜ r ≡ ruleOf number weights ⌝ }
+{
+    if number == 0 {
+        return Rule::Merge;
+    }
+    if number == 1 {
+        return Rule::Check;
+    }
+    Rule::Weighed(weights)
+}
+
+// A join whose rule is a number: one above 2 is refused as a bad setting.
+fn join_numbered(
+    t: u32,
+    left_ends: &[u32],
+    left_items: &[u16],
+    right_ends: &[u32],
+    right_items: &[u16],
+    limit: u32,
+    ranks: &[u16],
+    budget: u32,
+    number: u32,
+    weights: Weights,
+    work: &mut [u32],
+    pairs: &mut [u16],
+) -> JoinAnswer
+    ensures answer { λ r. ⌜ r ≡ numberedAnswer t (now («left_ends» .entry)) (now («left_items» .entry)) (now («right_ends» .entry))
+        (now («right_items» .entry)) limit (now (ranks .entry)) budget number
+        weights (length (now (work .entry))) (length (now (pairs .entry))) ⌝ }
+    ensures pairs { λ r. ⌜ now (pairs .exit) ≡ pairsAfter r
+        (pairList (setsOf (now («left_ends» .entry)) (now («left_items» .entry)))
+        (setsOf (now («right_ends» .entry)) (now («right_items» .entry)))) (now (pairs .entry)) ⌝ }
+    ensures work_size { λ r. ⌜ length (now (work .exit)) ≡ length (now (work .entry)) ⌝ }
+    ensures work_kept { λ r. ⌜ (workKept r ≡ true → now (work .exit) ≡ now (work .entry)) ⌝ }
+{
+    if 2 < number {
+        return JoinAnswer::Refused(Refusal::BadSettings);
+    }
+    let rule = rule_of(number, weights);
+    join::run(
+        t,
+        left_ends,
+        left_items,
+        right_ends,
+        right_items,
+        limit,
+        ranks,
+        budget,
+        rule,
+        work,
+        pairs,
+    )
+}
+
+// Joins two collections.
+#[no_mangle]
+pub extern "C" fn kitfinder_join(
+    t: u32,
+    left_ends: &[u32],
+    left_items: &[u16],
+    right_ends: &[u32],
+    right_items: &[u16],
+    limit: u32,
+    ranks: &[u16],
+    budget: u32,
+    number: u32,
+    a: f64,
+    b: f64,
+    g: f64,
+    h: f64,
+    work: &mut [u32],
+    pairs: &mut [u16],
+    answer: &mut [u64; 9],
+)
+    ensures answer { λ _. ⌜ now (answer .exit) ≡ joinWords (numberedAnswer t (now («left_ends» .entry)) (now («left_items» .entry)) (now («right_ends» .entry))
+        (now («right_items» .entry)) limit (now (ranks .entry)) budget number
+        (weightsOf a b g h) (length (now (work .entry))) (length (now (pairs .entry)))) ⌝ }
+    ensures pairs { λ _. ⌜ now (pairs .exit) ≡ pairsAfter (numberedAnswer t (now («left_ends» .entry)) (now («left_items» .entry)) (now («right_ends» .entry))
+        (now («right_items» .entry)) limit (now (ranks .entry)) budget number
+        (weightsOf a b g h) (length (now (work .entry))) (length (now (pairs .entry))))
+        (pairList (setsOf (now («left_ends» .entry)) (now («left_items» .entry)))
+        (setsOf (now («right_ends» .entry)) (now («right_items» .entry)))) (now (pairs .entry)) ⌝ }
+    ensures work_size { λ _. ⌜ length (now (work .exit)) ≡ length (now (work .entry)) ⌝ }
+    ensures work_kept { λ _. ⌜ (workKept (numberedAnswer t (now («left_ends» .entry)) (now («left_items» .entry)) (now («right_ends» .entry))
+        (now («right_items» .entry)) limit (now (ranks .entry)) budget number
+        (weightsOf a b g h) (length (now (work .entry))) (length (now (pairs .entry)))) ≡ true
+        → now (work .exit) ≡ now (work .entry)) ⌝ }
+{
+    let weights = Weights { a, b, g, h };
+    *answer = join_words(join_numbered(
+        t,
+        left_ends,
+        left_items,
+        right_ends,
+        right_items,
+        limit,
+        ranks,
+        budget,
+        number,
+        weights,
+        work,
+        pairs,
+    ));
+}
+
+// Reads the record at a place of a tag file.
+#[no_mangle]
+pub extern "C" fn kitfinder_read_record(file: &[u8], at: usize, answer: &mut [u64; 9])
+    ensures answer { λ _. ⌜ now (answer .exit) ≡ readWords (readAt (now (file .entry)) at) ⌝ }
+{
+    *answer = read_words(tag_file::read_record(file, at));
+}
+
+// Ranks the items by frequency.
+#[no_mangle]
+pub extern "C" fn kitfinder_order(
+    t: u32,
+    left_ends: &[u32],
+    left_items: &[u16],
+    right_ends: &[u32],
+    right_items: &[u16],
+    falling: u32,
+    ranks: &mut [u16],
+    answer: &mut [u64; 3],
+)
+    ensures answer { λ _. ⌜ now (answer .exit) ≡ orderWords
+        (orderAnswer t (now («left_ends» .entry)) (now («left_items» .entry)) (now («right_ends» .entry)) (now («right_items» .entry))
+        (now (ranks .entry))) ⌝ }
+    ensures ranks { λ _. ⌜ now (ranks .exit) ≡ orderRanks t (now («left_ends» .entry)) (now («left_items» .entry))
+        (now («right_ends» .entry)) (now («right_items» .entry)) (not (eqb falling 0)) (now (ranks .entry)) ⌝ }
+{
+    *answer = order_words(item_order::order(
+        t,
+        left_ends,
+        left_items,
+        right_ends,
+        right_items,
+        falling != 0,
+        ranks,
+    ));
+}
+
+// Loads a tag file.
+#[no_mangle]
+pub extern "C" fn kitfinder_load(
+    file: &[u8],
+    tags: &mut [u8],
+    left_numbers: &mut [u16],
+    left_ends: &mut [u32],
+    left_items: &mut [u16],
+    right_numbers: &mut [u16],
+    right_ends: &mut [u32],
+    right_items: &mut [u16],
+    answer: &mut [u64; 8],
+)
+    ensures answer { λ _. ⌜ now (answer .exit) ≡ loadWords (loadAnswer (now (file .entry)) (listsOf (now (tags .entry))
+        (now («left_numbers» .entry)) (now («left_ends» .entry)) (now («left_items» .entry)) (now («right_numbers» .entry))
+        (now («right_ends» .entry)) (now («right_items» .entry)))) ⌝ }
+    ensures tags { λ _. ⌜ now (tags .exit) ≡ loadedList (λ l. l .tags) (now (file .entry)) (listsOf (now (tags .entry))
+        (now («left_numbers» .entry)) (now («left_ends» .entry)) (now («left_items» .entry)) (now («right_numbers» .entry))
+        (now («right_ends» .entry)) (now («right_items» .entry))) ⌝ }
+    ensures left_numbers { λ _. ⌜ now («left_numbers» .exit) ≡ loadedList (λ l. l .leftNumbers) (now (file .entry)) (listsOf (now (tags .entry))
+        (now («left_numbers» .entry)) (now («left_ends» .entry)) (now («left_items» .entry)) (now («right_numbers» .entry))
+        (now («right_ends» .entry)) (now («right_items» .entry))) ⌝ }
+    ensures left_ends { λ _. ⌜ now («left_ends» .exit) ≡ loadedList (λ l. l .leftEnds) (now (file .entry)) (listsOf (now (tags .entry))
+        (now («left_numbers» .entry)) (now («left_ends» .entry)) (now («left_items» .entry)) (now («right_numbers» .entry))
+        (now («right_ends» .entry)) (now («right_items» .entry))) ⌝ }
+    ensures left_items { λ _. ⌜ now («left_items» .exit) ≡ loadedList (λ l. l .leftItems) (now (file .entry)) (listsOf (now (tags .entry))
+        (now («left_numbers» .entry)) (now («left_ends» .entry)) (now («left_items» .entry)) (now («right_numbers» .entry))
+        (now («right_ends» .entry)) (now («right_items» .entry))) ⌝ }
+    ensures right_numbers { λ _. ⌜ now («right_numbers» .exit) ≡ loadedList (λ l. l .rightNumbers) (now (file .entry)) (listsOf (now (tags .entry))
+        (now («left_numbers» .entry)) (now («left_ends» .entry)) (now («left_items» .entry)) (now («right_numbers» .entry))
+        (now («right_ends» .entry)) (now («right_items» .entry))) ⌝ }
+    ensures right_ends { λ _. ⌜ now («right_ends» .exit) ≡ loadedList (λ l. l .rightEnds) (now (file .entry)) (listsOf (now (tags .entry))
+        (now («left_numbers» .entry)) (now («left_ends» .entry)) (now («left_items» .entry)) (now («right_numbers» .entry))
+        (now («right_ends» .entry)) (now («right_items» .entry))) ⌝ }
+    ensures right_items { λ _. ⌜ now («right_items» .exit) ≡ loadedList (λ l. l .rightItems) (now (file .entry)) (listsOf (now (tags .entry))
+        (now («left_numbers» .entry)) (now («left_ends» .entry)) (now («left_items» .entry)) (now («right_numbers» .entry))
+        (now («right_ends» .entry)) (now («right_items» .entry))) ⌝ }
+{
+    *answer = load_words(tag_loader::load(
+        file,
+        tags,
+        left_numbers,
+        left_ends,
+        left_items,
+        right_numbers,
+        right_ends,
+        right_items,
+    ));
+}
+
+// Writes a tag file.
+#[no_mangle]
+pub extern "C" fn kitfinder_write(
+    t: u32,
+    tags: &[u8],
+    left_numbers: &[u16],
+    left_ends: &[u32],
+    left_items: &[u16],
+    right_numbers: &[u16],
+    right_ends: &[u32],
+    right_items: &[u16],
+    file: &mut [u8],
+    answer: &mut [u64; 4],
+)
+    ensures answer { λ _. ⌜ now (answer .exit) ≡ writeWords
+        (writeAnswer t (now (tags .entry)) (now («left_numbers» .entry)) (now («left_ends» .entry)) (now («left_items» .entry))
+        (now («right_numbers» .entry)) (now («right_ends» .entry)) (now («right_items» .entry)) (length (now (file .entry)))) ⌝ }
+    ensures file { λ _. ⌜ now (file .exit) ≡ fileAfter
+        (writeAnswer t (now (tags .entry)) (now («left_numbers» .entry)) (now («left_ends» .entry)) (now («left_items» .entry))
+        (now («right_numbers» .entry)) (now («right_ends» .entry)) (now («right_items» .entry)) (length (now (file .entry))))
+        (fileBytes (now (tags .entry)) (now («left_numbers» .entry)) (now («left_ends» .entry)) (now («left_items» .entry))
+        (now («right_numbers» .entry)) (now («right_ends» .entry)) (now («right_items» .entry))) (now (file .entry)) ⌝ }
+{
+    *answer = write_words(tag_writer::write(
+        t,
+        tags,
+        left_numbers,
+        left_ends,
+        left_items,
+        right_numbers,
+        right_ends,
+        right_items,
+        file,
+    ));
+}

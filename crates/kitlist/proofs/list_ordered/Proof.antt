@@ -1,0 +1,110 @@
+-- `list_ordered` is safe: the filled part of the pair list has whole pairs of places within the two collections.
+use mathlib.Core.Path.{sym, _∙_}
+use native.Mathlib.Omega.{arith}
+use lib.ListN.{length}
+use lib.Seq.{length-take-le}
+use Rattle.sets.specs.declared.Rule.the-variants.{Merge}
+use Rattle.join_spec.proofs.Inputs.{Collections, Settings}
+use Rattle.kitlist.proofs.PairPlaces.{places-enough, places-within}
+use borrow.Author.Needs.{needs}
+use Rattle.kitlist.proofs.list_ordered.Statement.{statement}
+use Rattle.kitlist.proofs.list_ordered.Tie as tie
+
+new-work-requires : tie.Need-new-work-requires
+new-work-requires c κs = search needs
+
+new-pairs-requires : tie.Need-new-pairs-requires
+new-pairs-requires c κs = search needs
+
+slice-aggregate-run : tie.Need-slice-aggregate-run
+slice-aggregate-run c = search needs
+
+slice-aggregate-run-2 : tie.Need-slice-aggregate-run-2
+slice-aggregate-run-2 c = search needs
+
+run-requires : tie.Need-run-requires
+run-requires c κs = search needs
+
+enum-known-answer : tie.Need-enum-known-answer
+enum-known-answer c = search needs
+
+print-counts-requires : tie.Need-print-counts-requires
+print-counts-requires c κs = search needs
+
+cast-places : tie.Need-cast-places
+cast-places c = search needs
+
+mul-places : tie.Need-mul-places
+mul-places c = search needs
+
+array-share-prefix-pairs : tie.Need-array-share-prefix-pairs
+array-share-prefix-pairs c =
+    let a = c .before .before .before .before .before .before .before .before .before .before .before .before .before .before .before .before .before .before .before .args in
+    let run = c .before .before .before .before .before .before .before .run in
+    let work = c .before .before .before .before .before .before .before .before .before .before .before .new-work in
+    let lent = c .before .before .before .before .before .before .before .before .before .before .new-pairs in
+    let collections : Collections =
+    record { T = a .t; leftEnds = a .left-ends .now; leftItems = a .left-items .now; rightEnds = a .right-ends .now; rightItems = a .right-items .now } in
+    let settings : Settings =
+    record { limit = 2; ranks = a .ranks .now; budget = 4294967295; rule = Merge; words = length (work .result); room = length (lent .result) } in
+    let joins = sym (run .ensures .0) ∙ c .before .before .before .answer .given .1 in
+    omega (arith, places-enough collections settings _ joins, run .kept .1 .1 .1 .1 .1 .1 .1 .1 .1 .1 .0)
+
+slice-aggregate-print-pairs : tie.Need-slice-aggregate-print-pairs
+slice-aggregate-print-pairs c =
+    let a = c .before .before .before .before .before .before .before .before .before .before .before .before .before .before .before .before .before .before .before .before .args in
+    let run = c .before .before .before .before .before .before .before .before .run in
+    let work = c .before .before .before .before .before .before .before .before .before .before .before .before .new-work in
+    let lent = c .before .before .before .before .before .before .before .before .before .before .before .new-pairs in
+    let collections : Collections =
+    record { T = a .t; leftEnds = a .left-ends .now; leftItems = a .left-items .now; rightEnds = a .right-ends .now; rightItems = a .right-items .now } in
+    let settings : Settings =
+    record { limit = 2; ranks = a .ranks .now; budget = 4294967295; rule = Merge; words = length (work .result); room = length (lent .result) } in
+    let joins = sym (run .ensures .0) ∙ c .before .before .before .before .answer .given .1 in
+    sym (length-take-le _ _ (omega (arith, places-enough collections settings _ joins, run .kept .1 .1 .1 .1 .1 .1 .1 .1 .1 .1 .0)))
+
+print-pairs-requires : tie.Need-print-pairs-requires
+print-pairs-requires c κs =
+    let a = c .before .before .before .before .before .before .before .before .before .before .before .before .before .before .before .before .before .before .before .before .args in
+    let run = c .before .before .before .before .before .before .before .before .run in
+    let work = c .before .before .before .before .before .before .before .before .before .before .before .before .new-work in
+    let lent = c .before .before .before .before .before .before .before .before .before .before .before .new-pairs in
+    let collections : Collections =
+    record { T = a .t; leftEnds = a .left-ends .now; leftItems = a .left-items .now; rightEnds = a .right-ends .now; rightItems = a .right-items .now } in
+    let settings : Settings =
+    record { limit = 2; ranks = a .ranks .now; budget = 4294967295; rule = Merge; words = length (work .result); room = length (lent .result) } in
+    let joins = sym (run .ensures .0) ∙ c .before .before .before .before .answer .given .1 in
+    places-within collections settings _ joins _ _ (lent .result) _ _ (c .before .before .before .before .before .before .before .before .before .before .before .before .before .before .before .before .before .before .before .before .pre .0) (c .before .before .before .before .before .before .before .before .before .before .before .before .before .before .before .before .before .before .before .before .pre .1) (run .ensures .0) (run .ensures .1 .0)
+
+enum-known-answer-2 : tie.Need-enum-known-answer-2
+enum-known-answer-2 c = search needs
+
+print-refusal-requires : tie.Need-print-refusal-requires
+print-refusal-requires c κs = search needs
+
+returns : tie.Need-returns
+returns c = search needs
+
+returns-2 : tie.Need-returns-2
+returns-2 c = search needs
+
+pub list-ordered-spec : {M : Type 1} → statement M
+list-ordered-spec =
+    tie.close
+    (tie.spec
+    new-work-requires
+    new-pairs-requires
+    slice-aggregate-run
+    slice-aggregate-run-2
+    run-requires
+    enum-known-answer
+    print-counts-requires
+    cast-places
+    mul-places
+    array-share-prefix-pairs
+    slice-aggregate-print-pairs
+    print-pairs-requires
+    enum-known-answer-2
+    print-refusal-requires
+    returns
+    returns-2)

@@ -1,0 +1,2 @@
+-- Contents: what the inner functions of the program ask.
+pub mod Places

@@ -1,0 +1,23 @@
+-- What the inner functions of the program ask of the lists: pairs of places that lie within the lists of record numbers, and room for
+-- what was loaded.
+use Prim.Native.Nat.{ℕ, _≤_}
+use mathlib.Core.List.{List, [], _∷_}
+use mathlib.Core.Bool.{Bool, true, false, _&&_}
+use lib.Dec.{ltb}
+use lib.ListN.{length}
+use Rattle.sets.specs.declared.Loaded.{Loaded}
+
+-- whether each pair is of a place below m and one below n; a half pair is none
+unfoldable pub pairsWithin : ℕ → ℕ → List ℕ → Bool
+pairsWithin m n [] = true
+pairsWithin m n (x ∷ []) = false
+pairsWithin m n (x ∷ y ∷ rest) = (ltb x m && ltb y n) && pairsWithin m n rest
+
+-- the counts lie within lists of numbers, ends and ranks
+pub record Within (loaded : Loaded) (leftNumbers leftEnds rightNumbers rightEnds ranks : List ℕ) : Type 0 where
+  pub few-items : loaded .tags ≤ 4096
+  pub left-numbered : loaded .«left_sets» ≤ length leftNumbers
+  pub left-ended : loaded .«left_sets» ≤ length leftEnds
+  pub right-numbered : loaded .«right_sets» ≤ length rightNumbers
+  pub right-ended : loaded .«right_sets» ≤ length rightEnds
+  pub ranked : loaded .tags ≤ length ranks

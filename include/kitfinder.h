@@ -1,0 +1,99 @@
+/* The kit finder: a set containment join of kits and stacks, the order of tags, and the tag file's loader and writer.
+ *
+ * Link libkitfinder.a, which `rt staticlib kitfinder` writes to target/staticlib. Every function is proved to meet its contract
+ * (crates/kitfinder/src/lib.rt); it allocates nothing, keeps nothing, and calls nothing outside.
+ *
+ * A list is a pointer and then its length in elements. A pointer may be anything but null where the length is 0. Lists that a
+ * function writes must not overlap any other list of the call. Left sets are kits, right sets are stacks.
+ *
+ * A collection is a list of ends and a list of items: set k holds the items from the end of set k-1 (0 for k = 0) up to its own.
+ *
+ * `answer` has as many words as the function says. answer[0] is 0 when the input is accepted, else the number of the refusal:
+ *   1 a record with another mark, or cut short      answer[1] the record's byte place
+ *   2 a number used before by the same kind         answer[1] the record's byte place
+ *   3 too many sets, entries or tags                answer[1] the record's byte place
+ *   4 an output list too short
+ *   5 a bad set                                     answer[1] the side (0 kits, 1 stacks), answer[2] its place
+ *   6 a setting out of range, ranks no permutation, a list of the wrong length
+ *   7 the work list too short
+ *   8 more checks than the allowance
+ *   9 the pair list too short
+ * answer[1] and answer[2] are 0 where nothing is said above. The values from answer[3] on are 0 in a refusal.
+ */
+#ifndef KITFINDER_H
+#define KITFINDER_H
+
+#include <stddef.h>
+#include <stdint.h>
+
+#ifdef __cplusplus
+extern "C" {
+#endif
+
+enum { KITFINDER_MERGE = 0, KITFINDER_CHECK = 1, KITFINDER_WEIGHED = 2 };
+
+/* Lists every pair of a kit and a stack that contains it: two places a pair, kit then stack, rising by kit, then stack.
+ * t items; limit 1 to 255; ranks: a permutation of 0 .. t-1 by item; budget: the allowance of checks; rule: one of the three
+ * above, with the weights a, b, g and h of KITFINDER_WEIGHED. The work list needs 16n + 64 words, where n is the number of kits,
+ * stacks, their items and t; its content is free afterwards. The pair list needs two places a pair; it stays as it was beyond
+ * them and becomes zeros after 8 and 9.
+ * answer[3] pairs, [4] by path, [5] confirmed, [6] checks, [7] dropped, [8] false. */
+void kitfinder_join(uint32_t t,
+                    const uint32_t *left_ends, size_t left_ends_len,
+                    const uint16_t *left_items, size_t left_items_len,
+                    const uint32_t *right_ends, size_t right_ends_len,
+                    const uint16_t *right_items, size_t right_items_len,
+                    uint32_t limit,
+                    const uint16_t *ranks, size_t ranks_len,
+                    uint32_t budget, uint32_t rule, double a, double b, double g, double h,
+                    uint32_t *work, size_t work_len,
+                    uint16_t *pairs, size_t pairs_len,
+                    uint64_t answer[9]);
+
+/* Ranks the items by frequency, rising, or falling where `falling` is not 0; ties go to the lower item. ranks_len must be t. */
+void kitfinder_order(uint32_t t,
+                     const uint32_t *left_ends, size_t left_ends_len,
+                     const uint16_t *left_items, size_t left_items_len,
+                     const uint32_t *right_ends, size_t right_ends_len,
+                     const uint16_t *right_items, size_t right_items_len,
+                     uint32_t falling,
+                     uint16_t *ranks, size_t ranks_len,
+                     uint64_t answer[3]);
+
+/* Loads a tag file: the tag table, 12 bytes a tag by item, and for each side the record numbers, ends and items. The lists stay as
+ * they were beyond what is filled, and become zeros in a refusal.
+ * answer[3] kits, [4] stacks, [5] kit entries, [6] stack entries, [7] tags. */
+void kitfinder_load(const uint8_t *file, size_t file_len,
+                    uint8_t *tags, size_t tags_len,
+                    uint16_t *left_numbers, size_t left_numbers_len,
+                    uint32_t *left_ends, size_t left_ends_len,
+                    uint16_t *left_items, size_t left_items_len,
+                    uint16_t *right_numbers, size_t right_numbers_len,
+                    uint32_t *right_ends, size_t right_ends_len,
+                    uint16_t *right_items, size_t right_items_len,
+                    uint64_t answer[8]);
+
+/* Writes a tag file: kits, then stacks, by place, tags by item. tags_len must be 12 times t. The file stays as it was beyond its
+ * length and becomes zeros where it is too short (4).
+ * answer[3] the length. */
+void kitfinder_write(uint32_t t,
+                     const uint8_t *tags, size_t tags_len,
+                     const uint16_t *left_numbers, size_t left_numbers_len,
+                     const uint32_t *left_ends, size_t left_ends_len,
+                     const uint16_t *left_items, size_t left_items_len,
+                     const uint16_t *right_numbers, size_t right_numbers_len,
+                     const uint32_t *right_ends, size_t right_ends_len,
+                     const uint16_t *right_items, size_t right_items_len,
+                     uint8_t *file, size_t file_len,
+                     uint64_t answer[4]);
+
+/* Reads the record at a byte place of a tag file.
+ * answer[3] 0 for a whole record, 1 where the file ends; [4] 0 for a kit, 1 for a stack; [5] its number; [6] the count of its tags;
+ * [7] the byte place of the first tag; [8] that of the next record. */
+void kitfinder_read_record(const uint8_t *file, size_t file_len, size_t at, uint64_t answer[9]);
+
+#ifdef __cplusplus
+}
+#endif
+
+#endif

@@ -1,0 +1,134 @@
+//! Random tag files, whole and damaged, and random collections for the writer.
+
+use crate::joins;
+use crate::oracle::*;
+use crate::random::Random;
+
+/// Bytes whose order differs where they are taken as signed.
+const BYTES: [u8; 6] = [0x00, 0x01, 0x7F, 0x80, 0xFE, 0xFF];
+
+/// A tag that differs from others in a few places only.
+fn tag(random: &mut Random) -> Tag {
+    let mut tag = [0; 12];
+    for _ in 0..random.within(0, 3) {
+        tag[random.below(12)] = random.pick(&BYTES);
+    }
+    if random.one_in(8) {
+        tag.iter_mut().for_each(|byte| *byte = random.word() as u8);
+    }
+    tag
+}
+
+pub fn record(right: bool, number: u16, tags: &[Tag]) -> Vec<u8> {
+    let mut bytes = if right { b"SK".to_vec() } else { b"KT".to_vec() };
+    bytes.extend(number.to_be_bytes());
+    bytes.push(tags.len() as u8);
+    bytes.extend(tags.concat());
+    bytes
+}
+
+/// A file of whole records with tags of one pool, in any order and with repeats. Numbers seldom repeat.
+pub fn file(random: &mut Random) -> Vec<u8> {
+    let pool: Vec<Tag> = (0..random.within(1, 24)).map(|_| tag(random)).collect();
+    let most = random.pick(&[0, 2, 5, 12]);
+    let mut numbers: Vec<u16> = (0..40).map(|k| random.pick(&[k, k * 257, 65535 - k])).collect();
+    random.shuffle(&mut numbers);
+    let mut file = Vec::new();
+    for k in 0..random.within(0, most) {
+        let count = match random.below(40) {
+            0 => 255,
+            1 => random.within(100, 254),
+            _ => random.within(0, 9),
+        };
+        let mut tags: Vec<Tag> = (0..count).map(|_| random.pick(&pool)).collect();
+        if random.one_in(3) && count > 1 {
+            tags[0] = tags[count - 1];
+        }
+        let number = if random.one_in(60) { numbers[0] } else { numbers[k] };
+        file.extend(record(random.one_in(2), number, &tags));
+    }
+    file
+}
+
+/// Damages a file in one way: a byte changed, bytes cut off, put in or taken out.
+pub fn damage(random: &mut Random, file: &mut Vec<u8>) {
+    if file.is_empty() {
+        file.extend((0..random.within(1, 20)).map(|k| b"KT\x00\x01\x01SK"[k % 7]));
+        return;
+    }
+    let at = random.below(file.len());
+    match random.below(7) {
+        0 => file[at] ^= 1 << random.below(8),
+        1 => file[at] = random.pick(&[0x4B, 0x54, 0x53, 0x00, 0xFF]),
+        2 => file.truncate(at),
+        3 => drop(file.pop()),
+        4 => file.insert(at, random.word() as u8),
+        5 => drop(file.remove(at)),
+        _ => file.extend((0..random.within(1, 6)).map(|k| b"KT\x00\x09\x00S"[k])),
+    }
+}
+
+/// Lengths of the seven lists: what is needed, with a list too short or longer now and then.
+pub fn lengths(random: &mut Random, needed: [usize; 7]) -> [usize; 7] {
+    let mut lengths = needed;
+    match random.below(4) {
+        0 => {
+            let list = random.below(7);
+            lengths[list] = lengths[list].saturating_sub(random.pick(&[1, 1, 1, 12]));
+        }
+        1 => lengths.iter_mut().for_each(|length| *length += random.within(0, 15)),
+        2 => {
+            let list = random.below(7);
+            lengths[list] += random.within(1, 30);
+        }
+        _ => {}
+    }
+    lengths
+}
+
+/// What a writer is asked: good collections over any tag table, with a fault now and then, and room around the need.
+pub fn write_query(random: &mut Random) -> WriteQuery {
+    let (t, left, right) = joins::collections(random);
+    let tags = (0..t).flat_map(|_| tag(random)).collect();
+    let mut number = |_: &u32| random.pick(&[0, 1, 255, 256, 257, 0x4B54, 65535]);
+    let left_numbers = left.ends.iter().map(&mut number).collect();
+    let right_numbers = right.ends.iter().map(&mut number).collect();
+    let mut q = WriteQuery { t, tags, left_numbers, left, right_numbers, right, room: 0 };
+    if random.one_in(4) {
+        spoil_writing(random, &mut q);
+    }
+    q.room = usize::MAX;
+    let needed = if write_refusal(&q).is_none() { written(&q).len() } else { 40 };
+    q.room = match random.below(6) {
+        0 => needed.saturating_sub(1),
+        1 => random.below(needed + 1),
+        2 => needed + random.within(1, 40),
+        _ => needed,
+    };
+    q
+}
+
+fn spoil_writing(random: &mut Random, q: &mut WriteQuery) {
+    for _ in 0..random.within(1, 2) {
+        match random.below(7) {
+            0 => q.tags.push(0),
+            1 => drop(q.tags.pop()),
+            2 if random.one_in(4) => {
+                q.t = 4097;
+                q.tags = vec![7; 12 * 4097];
+            }
+            3 => spoil_numbers(random, &mut q.left_numbers),
+            4 => spoil_numbers(random, &mut q.right_numbers),
+            5 => joins::spoil(random, q.t, &mut q.left),
+            _ => joins::spoil(random, q.t, &mut q.right),
+        }
+    }
+}
+
+fn spoil_numbers(random: &mut Random, numbers: &mut Vec<u16>) {
+    if random.one_in(2) {
+        numbers.push(3);
+    } else {
+        numbers.pop();
+    }
+}

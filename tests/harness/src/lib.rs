@@ -1,0 +1,10 @@
+//! What the tests share: a random source, plain oracles that follow document 01 and share no code with the library, lent lists
+//! with guards around them, generators, and the comparison of a call with its oracle.
+
+pub mod calls;
+pub mod files;
+pub mod joins;
+pub mod lent;
+pub mod oracle;
+pub mod random;
+pub mod run;
