@@ -1,7 +1,7 @@
 -- Demand 3 over the contract of `run`: what any calls of it show, whatever their settings and lists. A call is given by its collections, its
 -- settings with the lengths of its lent lists, and the clauses that `run` ensures of its answer and pair list.
 use Prim.Native.Nat.{ℕ, _+_, _*_, _≤_, _<_}
-use mathlib.Core.Path.{_≡_, sym, ap, subst, _∙_}
+use mathlib.Core.Path.{_≡_, sym, ap, _∙_}
 use mathlib.Core.List.{List}
 use lib.ListN.{length, take, drop}
 use Rattle.sets.specs.declared.Counts.{Counts}

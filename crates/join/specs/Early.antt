@@ -3,19 +3,17 @@
 use Prim.Native.Nat.{ℕ, _≤_}
 use mathlib.Core.Path.{_≡_}
 use mathlib.Core.List.{List}
-use mathlib.Core.Bool.{true, cond}
+use mathlib.Core.Bool.{cond}
 use lib.Dec.{ltb}
 use lib.ListN.{length}
 use Rattle.sets.specs.Collections.{firstBad}
 use Rattle.sets.specs.Refusals.{unlessBad}
-use Rattle.sets.specs.declared.Rule.{Rule}
 use Rattle.sets.specs.declared.Side.the-variants.{Left, Right}
 use Rattle.sets.specs.declared.Verdict.the-variants.{Good}
 use Rattle.sets.specs.declared.Refusal.the-variants.{BadSettings, ShortWork}
 use Rattle.sets.specs.declared.JoinAnswer.{JoinAnswer}
 use Rattle.sets.specs.declared.JoinAnswer.the-variants as join
-use Rattle.join_spec.specs.Query.{query}
-use Rattle.join_spec.specs.Answer.{badSettings, workNeeded, walkAnswer}
+use Rattle.join_spec.specs.Answer.{badSettings, workNeeded}
 use Rattle.join_spec.proofs.Inputs.{GoodSettings}
 use Rattle.join.specs.declared.Early.{Early}
 use Rattle.join.specs.declared.Early.the-variants.{Refused, Ready}

@@ -1,7 +1,7 @@
 -- What a join answers, and what its lent lists hold afterwards: the rows of "When no list is made" in their order.
 use Prim.Native.Nat.{ℕ, _+_, _*_}
 use mathlib.Core.List.{List, _++_}
-use mathlib.Core.Bool.{Bool, true, false, not, cond, _||_}
+use mathlib.Core.Bool.{Bool, false, not, cond, _||_}
 use lib.Dec.{eqb, ltb}
 use lib.ListN.{length, drop, replicate}
 use Rattle.sets.specs.Limits.{maxItems, maxLimit}
@@ -13,7 +13,7 @@ use Rattle.sets.specs.declared.Side.the-variants.{Left, Right}
 use Rattle.sets.specs.declared.Refusal.the-variants.{BadSettings, ShortWork, Spent, ShortPairs}
 use Rattle.sets.specs.declared.JoinAnswer.{JoinAnswer}
 use Rattle.sets.specs.declared.JoinAnswer.the-variants.{Joined, Refused}
-use Rattle.join_spec.specs.PairList.{pairList, pairCount}
+use Rattle.join_spec.specs.PairList.{pairCount}
 use Rattle.join_spec.specs.Query.{Query, query}
 use Rattle.join_spec.specs.Counting.{countsOf, checksOf}
 

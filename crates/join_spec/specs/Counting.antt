@@ -1,6 +1,5 @@
 -- The six counts of a join, each a sum over left and right sets.
 use Prim.Native.Nat.{ℕ}
-use mathlib.Core.List.{List}
 use mathlib.Core.Bool.{Bool, true, false, _||_}
 use Rattle.lists.specs.Lists.{sum, count}
 use Rattle.sets.specs.declared.Counts.{Counts}

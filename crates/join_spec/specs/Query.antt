@@ -1,6 +1,6 @@
 -- A join's accepted input: the items' count and ranks, the settings that bear on the walk, and both collections as sets.
 use Prim.Native.Nat.{ℕ}
-use mathlib.Core.List.{List, map}
+use mathlib.Core.List.{List}
 use Rattle.sets.specs.Collections.{setsOf}
 use Rattle.sets.specs.Ordered.{ordered}
 use Rattle.sets.specs.declared.Rule.{Rule}

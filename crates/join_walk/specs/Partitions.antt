@@ -1,10 +1,10 @@
 -- The whole walk: left sets by first rank, each partition with the right sets seen at it. What is known before it, and what it
 -- answers.
-use Prim.Native.Nat.{ℕ, suc, _+_, _-_, _*_, _≤_, _<_}
+use Prim.Native.Nat.{ℕ, suc, _+_, _-_, _≤_, _<_}
 use mathlib.Core.Path.{_≡_}
 use mathlib.Core.List.{List, [], _∷_}
 use mathlib.Core.Bool.{true, false}
-use lib.ListN.{length, take}
+use lib.ListN.{length}
 use Rattle.sets.specs.Limits.{maxLimit}
 use Rattle.join_spec.specs.Query.{Query}
 use Rattle.join_spec.specs.Counting.{total, isByPath, isConfirmed, isDropped, isFalse, isCheck}
@@ -12,9 +12,8 @@ use Rattle.join_index.specs.Grouping.{keyAt, groupsFrom}
 use Rattle.join_index.specs.declared.Layout.{Layout}
 use Rattle.join_check.specs.Asking.{Index}
 use Rattle.join_check.specs.Runs.{run}
-use Rattle.join_check.specs.Checks.{checksIn}
 use Rattle.join_check.specs.declared.Tally.{Tally}
-use Rattle.join_walk.specs.Visiting.{Underway, Added, Visited, Framed, beginners}
+use Rattle.join_walk.specs.Visiting.{Underway, Visited, Framed, beginners}
 use Rattle.join_walk.specs.declared.visit.Settings.{Settings}
 use Rattle.join_walk.specs.declared.visit.Walked.{Walked}
 

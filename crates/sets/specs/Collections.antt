@@ -1,8 +1,8 @@
 -- Collections: a list of ends and a list of items. Which set is bad, and where the first bad one stands.
 -- Document 01, "Sets and settings", first paragraph. A left set is a kit there, and a right set a stack.
-use Prim.Native.Nat.{ℕ, suc, _+_, _-_}
+use Prim.Native.Nat.{ℕ, suc, _-_}
 use mathlib.Core.List.{List, [], _∷_}
-use mathlib.Core.Bool.{Bool, true, false, not, cond, _&&_, _||_}
+use mathlib.Core.Bool.{Bool, not, cond, _&&_, _||_}
 use lib.Dec.{ltb, leb}
 use lib.ListN.{length, take, drop}
 use Rattle.lists.specs.Lists.{all, rising, subset}

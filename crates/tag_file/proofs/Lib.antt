@@ -3,5 +3,6 @@ pub mod ReadLaws
 pub mod Tables
 pub mod RecordLaws
 pub mod Ended
+pub mod FaultLaws
 pub mod Bytes
 pub mod ItemCount

@@ -2,13 +2,12 @@
 -- used only if it was read whole". A left set's record is a kit's there, a right set's a stack's.
 use Prim.Native.Nat.{ℕ, zero, suc, _+_, _*_}
 use mathlib.Core.List.{List, [], _∷_}
-use mathlib.Core.Bool.{Bool, true, false, cond, _&&_}
+use mathlib.Core.Bool.{Bool, cond, _&&_}
 use lib.Dec.{eqb, leb}
 use lib.ListN.{length, getD, drop}
 use Rattle.lists.specs.Lists.{prefix}
 use Rattle.sets.specs.declared.Side.{Side}
 use Rattle.sets.specs.declared.Side.the-variants.{Left, Right}
-use Rattle.sets.specs.declared.Refusal.{Refusal}
 use Rattle.sets.specs.declared.Refusal.the-variants.{Malformed}
 use Rattle.tag_file.specs.Format.{tagLength, headLength, tagAt, mark}
 use Rattle.tag_file.specs.declared.ReadAnswer.{ReadAnswer}

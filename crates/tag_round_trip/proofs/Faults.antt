@@ -3,7 +3,7 @@
 use mathlib.Core.Path.{_≡_, refl, sym, ap, _∙_}
 use Prim.Native.Nat.{ℕ, _≤_}
 use mathlib.Core.List.{List, [], _∷_, _++_, map, append-assoc, append-nil, map-append}
-use mathlib.Core.Bool.{Bool, true, false, cond, _&&_, _||_}
+use mathlib.Core.Bool.{Bool, true, false, _&&_, _||_}
 use mathlib.Core.Option.{Option, none, some}
 use native.Mathlib.Nat.{le-trans}
 use native.Mathlib.Omega.{arith}
@@ -19,9 +19,9 @@ use Rattle.sets.specs.Limits.{maxItems, maxSets, maxEntries}
 use Rattle.sets.specs.declared.Side.{Side}
 use Rattle.sets.specs.declared.Side.the-variants.{Left, Right}
 use Rattle.sets.specs.declared.Refusal.{Refusal}
-use Rattle.sets.specs.declared.Refusal.the-variants.{NumberUsed, TooMany}
-use Rattle.tag_file.specs.Records.{TagRecord, totalLength, sameSide, ofSide, insertAll, allTags, tagTable, entriesOf}
+use Rattle.tag_file.specs.Records.{TagRecord, sameSide, ofSide, insertAll, allTags, tagTable, entriesOf}
 use Rattle.tag_file.specs.Loading.{numberUsed, tooMany, faultOf, earlier, firstFault, numbersOf}
+use Rattle.tag_file.proofs.FaultLaws.{fault-none, fault-clear}
 use Rattle.tag_file.proofs.Tables.{insertAll-append, rising-collapse}
 use Rattle.tag_round_trip.specs.Rewritten.{rewritten}
 use Rattle.tag_round_trip.proofs.Rewriting.{numbers-rewritten, places-rewritten, entries-rewritten, table-rewritten}
@@ -145,19 +145,13 @@ no-earlier : (first later : Option Refusal) → earlier first later ≡ none →
 no-earlier none later e = (refl, e)
 no-earlier (some why) later e = let z : _≡_ {A = ℕ} 0 1 = cc in absurd (omega arith)
 
-no-fault : (used many : Bool) (a b : Refusal) → cond used (some a) (cond many (some b) none) ≡ none → (used ≡ false) × (many ≡ false)
-no-fault true many a b e = let z : _≡_ {A = ℕ} 0 1 = cc in absurd (omega arith)
-no-fault false true a b e = let z : _≡_ {A = ℕ} 0 1 = cc in absurd (omega arith)
-no-fault false false a b e = (refl, refl)
-
 pub free-from : (seen rs : List TagRecord) (last : Option Refusal) → FaultFree seen → firstFault seen rs last ≡ none
     → FaultFree (seen ++ rs) × (last ≡ none)
-unfolding firstFault faultOf
+unfolding firstFault
 free-from seen [] last so e = (rw append-nil so, e)
 free-from seen (r ∷ rs) last so e =
     let both = no-earlier (faultOf seen r) (firstFault (seen ++ (r ∷ [])) rs last) e in
-    let many = tooMany (r .side) (seen ++ (r ∷ [])) in
-    let clear = no-fault (numberUsed seen r) many (NumberUsed (totalLength seen)) (TooMany (totalLength seen)) (both .0) in
+    let clear = fault-clear seen r (both .0) in
     let rest = free-from (seen ++ (r ∷ [])) rs last (free-step seen r so (clear .0) (clear .1)) (both .1) in
     (rw (append-assoc seen (r ∷ []) rs) at (rest .0), rest .1)
 
@@ -194,7 +188,7 @@ numbers-around seen r rs =
     ∙ rw (same-self (r .side)) (map-append (λ s. s .number) (ofSide (r .side) seen) (r ∷ ofSide (r .side) rs))
 
 pub free-none : (seen rs : List TagRecord) → FaultFree (seen ++ rs) → firstFault seen rs none ≡ none
-unfolding firstFault faultOf
+unfolding firstFault
 free-none seen [] so = refl
 free-none seen (r ∷ rs) so =
     let whole : FaultFree ((seen ++ (r ∷ [])) ++ rs) = rw (append-assoc seen (r ∷ []) rs) so in
@@ -207,7 +201,7 @@ free-none seen (r ∷ rs) so =
     (le-trans (places-grow (seen ++ (r ∷ [])) rs (r .side)) (whole .places (r .side)))
     (le-trans (entries-grow (seen ++ (r ∷ [])) rs (r .side)) (whole .entries (r .side)))
     (le-trans (tags-grow (seen ++ (r ∷ [])) rs) (whole .tags)) in
-    rw (unused, few) (free-none (seen ++ (r ∷ [])) rs whole)
+    rw (fault-none seen r unused few) (free-none (seen ++ (r ∷ [])) rs whole)
 
 -- rewritten records have no fault where the records have none
 pub free-rewritten : (rs : List TagRecord) → FaultFree rs → FaultFree (rewritten rs)
