@@ -1,8 +1,8 @@
 //! What the benchmarks share: the workloads, the plain Rust methods, measuring and tables. Every method is measured in turn, several
 //! times over, and the best of all counts.
 
+pub mod files;
 pub mod joins;
-pub mod loaders;
 pub mod plot;
 pub mod random;
 pub mod workloads;

@@ -1,11 +1,12 @@
--- Bytes as a number and a number as bytes: the two undo each other.
-use mathlib.Core.Path.{_≡_, _∙_}
+-- Bytes as a number and a number as bytes: the two undo each other. A tag's bytes, four by four.
+use mathlib.Core.Path.{_≡_, ap, _∙_}
 use Prim.Native.Nat.{ℕ, suc, _+_, _*_, _≤_, _<_}
 use mathlib.Core.List.{List, [], _∷_, _++_, append-assoc, append-nil}
-use native.Mathlib.Nat.{add-zero}
+use native.Mathlib.Nat.{add-zero, add-assoc}
+use native.Mathlib.Numerals.{add-one}
 use native.Mathlib.Omega.{arith}
 use lib.ListN.{length, take, drop, getD, length-take, length-drop}
-use lib.Seq.{getD-take, getD-drop}
+use lib.Seq.{getD-take, getD-drop, drop-cons, drop-drop, take-add}
 use lib.Arith.{digits-div, digits-mod}
 use Rattle.tag_file.specs.Format.{valueFrom, bytesOf, tagLength, tagAt}
 
@@ -31,3 +32,31 @@ bytesOf-tagAt bytes place h low =
     let each : (i : ℕ) → i < length (take tagLength (drop place bytes)) → getD (take tagLength (drop place bytes)) i 0 < 256 =
     λ i g. rw (getD-take tagLength (drop place bytes) i 0 (omega arith), getD-drop) (low (place + i)) in
     rw n at (bytesOf-valueFrom 0 0 (take tagLength (drop place bytes)) each)
+
+drop-next : (l : List ℕ) (i : ℕ) → i < length l → drop i l ≡ getD l i 0 ∷ drop (i + 1) l
+drop-next l i h = drop-cons l i 0 h ∙ rw (add-one i)
+
+-- four bytes from a place on
+pub four-bytes : (l : List ℕ) (i : ℕ) → i + 4 ≤ length l
+    → take 4 (drop i l) ≡ getD l i 0 ∷ getD l (i + 1) 0 ∷ getD l (i + 2) 0 ∷ getD l (i + 3) 0 ∷ []
+four-bytes l i h =
+    let two : i + 1 + 1 ≡ i + 2 = omega arith in
+    let three : i + 2 + 1 ≡ i + 3 = omega arith in
+    rw (
+      drop-next l i (omega arith),
+      drop-next l (i + 1) (omega arith),
+      two,
+      drop-next l (i + 2) (omega arith),
+      three,
+      drop-next l (i + 3) (omega arith),
+    )
+
+-- a tag's bytes, four by four
+pub tag-bytes : (l : List ℕ) (i : ℕ)
+    → take tagLength (drop i l) ≡ take 4 (drop i l) ++ (take 4 (drop (i + 4) l) ++ take 4 (drop (i + 8) l))
+tag-bytes l i =
+    take-add 4 8 (drop i l)
+    ∙ ap (λ (m : List ℕ). take 4 (drop i l) ++ m)
+    (ap (take 8) (drop-drop 4 i l) ∙ take-add 4 4 (drop (i + 4) l)
+    ∙ ap (λ (m : List ℕ). take 4 (drop (i + 4) l) ++ take 4 m)
+    (drop-drop 4 (i + 4) l ∙ ap (λ (k : ℕ). drop k l) (add-assoc i 4 4)))

@@ -21,16 +21,30 @@ const TAG_LENGTH: usize = 12;
 // The bytes of a record before its tags.
 const HEAD_LENGTH: usize = 5;
 
+// Four bytes of the tag table go to a place of the file. All are read before the first is stored, so that they can move as one
+// word.
+fn put_four(tags: &[u8], from: usize, file: &mut [u8], at: usize)
+    requires { ⌜ (from + 4 ≤ length (now tags)) × (at + 4 ≤ length (now file)) ⌝ }
+    ensures { λ r. ⌜ now (file .exit) ≡ put (now (file .entry)) at (take 4 (drop from (now (tags .entry)))) ⌝ }
+{
+    let a = tags[from];
+    let b = tags[from + 1];
+    let c = tags[from + 2];
+    let d = tags[from + 3];
+    file[at] = a;
+    file[at + 1] = b;
+    file[at + 2] = c;
+    file[at + 3] = d;
+}
+
 // The tag at a place of the tag table goes to a place of the file.
 fn put_tag(tags: &[u8], from: usize, file: &mut [u8], at: usize)
     requires { ⌜ (from + tagLength ≤ length (now tags)) × (at + tagLength ≤ length (now file)) ⌝ }
     ensures { λ r. ⌜ now (file .exit) ≡ put (now (file .entry)) at (take tagLength (drop from (now (tags .entry)))) ⌝ }
 {
-    let mut i: usize = 0;
-    while i < TAG_LENGTH {
-        file[at + i] = tags[from + i];
-        i += 1;
-    }
+    put_four(tags, from, file, at);
+    put_four(tags, from + 4, file, at + 4);
+    put_four(tags, from + 8, file, at + 8);
 }
 
 // The first byte of the mark of a side's records.

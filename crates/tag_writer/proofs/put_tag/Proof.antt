@@ -1,105 +1,83 @@
--- `put_tag` meets its contract. The loop's invariant: putting what is left of the tag gives what putting all of it gave at the
--- start. The measure is the number of bytes left.
-use mathlib.Core.Path.{_≡_, refl, sym, ap, _∙_}
-use Prim.Native.Nat.{ℕ, _+_, _-_, _≤_, _<_}
-use mathlib.Core.List.{List, [], _∷_}
-use native.Mathlib.Nat.{add-zero, add-assoc}
+-- `put_tag` meets its contract: a tag is put four bytes by four.
+use mathlib.Core.Path.{_≡_, sym, ap, _∙_}
+use mathlib.Core.List.{List, _++_}
+use Prim.Native.Nat.{ℕ, _+_, _≤_}
+use native.Mathlib.Nat.{add-assoc}
 use native.Mathlib.Omega.{arith}
-use lib.ListN.{length, take, drop, getD, set, length-set}
-use Rattle.sets.specs.Collections.{between}
-use Rattle.sets.proofs.Between.{between-cons, between-nil}
+use lib.ListN.{length, take, drop, length-take, length-drop}
+use borrow.Author.Needs.{needs}
 use Rattle.tag_file.specs.Format.{tagLength}
+use Rattle.tag_file.proofs.Bytes.{tag-bytes}
 use Rattle.tag_writer.specs.Put.{put}
-use Rattle.tag_writer.proofs.PutLaws.{put-nil, put-cons}
+use Rattle.tag_writer.proofs.PutLaws.{put-then, length-put}
 use Rattle.tag_writer.proofs.put_tag.Statement.{statement}
 use Rattle.tag_writer.proofs.put_tag.Tie as tie
 
--- the bytes of the tag from the i-th on
-abbrev rest : List ℕ → ℕ → ℕ → List ℕ
-rest tags from i = between (from + i) (from + tagLength) tags
+length-four : (tags : List ℕ) (from : ℕ) → from + 4 ≤ length tags → length (take 4 (drop from tags)) ≡ 4
+length-four tags from whole = simp (length-take, length-drop) (omega arith)
 
-record Copying (tags : List ℕ) (from : ℕ) (file₀ : List ℕ) (at : ℕ) (file : List ℕ) (i : ℕ) : Type 0 where
-  within : i ≤ tagLength
-  long : length file ≡ length file₀
-  left : put file (at + i) (rest tags from i) ≡ put file₀ at (take tagLength (drop from tags))
+put-fours : (tags : List ℕ) (from : ℕ) (file : List ℕ) (at : ℕ) → from + tagLength ≤ length tags → at + tagLength ≤ length file
+    → put (put (put file at (take 4 (drop from tags))) (at + 4) (take 4 (drop (from + 4) tags))) (at + 8) (take 4 (drop (from + 8) tags))
+    ≡ put file at (take tagLength (drop from tags))
+put-fours tags from file at whole room =
+    let a = take 4 (drop from tags) in
+    let b = take 4 (drop (from + 4) tags) in
+    let c = take 4 (drop (from + 8) tags) in
+    let first : length a ≡ 4 = length-four tags from (omega arith) in
+    let second : length b ≡ 4 = length-four tags (from + 4) (omega arith) in
+    let long : length (put file at a) ≡ length file = length-put file at a (omega (arith, first)) in
+    sym
+    (ap (put file at) (tag-bytes tags from)
+    ∙ put-then file at a (b ++ c) 4 first (omega arith)
+    ∙ put-then (put file at a) (at + 4) b c 4 second (omega (arith, long))
+    ∙ ap (λ (k : ℕ). put (put (put file at a) (at + 4) b) k c) (add-assoc at 4 4))
 
-abbrev Inv-loop : tie.InvT-loop
-Inv-loop tags from file₀ at i₀ file i = Copying tags from file₀ at file i
+put-four-requires : tie.Need-put-four-requires
+put-four-requires c κs = search needs
 
-abbrev μ-loop : tie.MeasureT-loop
-μ-loop tags from file₀ at i₀ file i = tagLength - i
+add-put-four : tie.Need-add-put-four
+add-put-four c = search needs
 
-copying-start : (tags : List ℕ) (from : ℕ) (file : List ℕ) (at : ℕ) → Copying tags from file at file 0
-copying-start tags from file at =
-    let all : from + tagLength - from ≡ tagLength = omega arith in
-    record { within = omega arith; long = refl; left = rw (add-zero at, add-zero from, all) }
+add-put-four-2 : tie.Need-add-put-four-2
+add-put-four-2 c = search needs
 
-copying-step : (tags : List ℕ) (from : ℕ) (file₀ : List ℕ) (at : ℕ) (file : List ℕ) (i : ℕ)
-    → from + tagLength ≤ length tags → at + tagLength ≤ length file₀ → i < tagLength → Copying tags from file₀ at file i
-    → Copying tags from file₀ at (set file (at + i) (getD tags (from + i) 0)) (i + 1)
-copying-step tags from file₀ at file i whole room more so =
-    let byte = getD tags (from + i) 0 in
-    let later = between (from + i + 1) (from + tagLength) tags in
-    let long : length file ≡ length file₀ = so .long in
-    let split : rest tags from i ≡ byte ∷ later = between-cons (from + i) (from + tagLength) tags (omega arith) whole in
-    let stored : put file (at + i) (byte ∷ later) ≡ put (set file (at + i) byte) (at + i + 1) later = put-cons file (at + i) byte later (omega arith) in
-    record {
-      within = omega arith;
-      long = rw length-set (so .long);
-      left = rw (← (add-assoc at i 1), ← (add-assoc from i 1)) (sym stored ∙ rw (← split) (so .left));
-    }
+put-four-requires-2 : tie.Need-put-four-requires-2
+put-four-requires-2 c κs = search needs
 
-copying-end : (tags : List ℕ) (from : ℕ) (file₀ : List ℕ) (at : ℕ) (file : List ℕ) (i : ℕ)
-    → tagLength ≤ i → Copying tags from file₀ at file i → file ≡ put file₀ at (take tagLength (drop from tags))
-copying-end tags from file₀ at file i done so =
-    let none : rest tags from i ≡ [] = between-nil (from + i) (from + tagLength) tags (omega arith) in
-    sym (put-nil file (at + i)) ∙ ap (put file (at + i)) (sym none) ∙ so .left
+add-put-four-3 : tie.Need-add-put-four-3
+add-put-four-3 c = search needs
 
-loop-holds : tie.Need-loop-holds Inv-loop μ-loop
-loop-holds c = copying-start _ _ _ _
+add-put-four-4 : tie.Need-add-put-four-4
+add-put-four-4 c = search needs
 
-add-file : tie.Need-add-file Inv-loop μ-loop
-add-file c = omega arith
+put-four-requires-3 : tie.Need-put-four-requires-3
+put-four-requires-3 c κs = search needs
 
-shared-slice-read-file : tie.Need-shared-slice-read-file Inv-loop μ-loop
-shared-slice-read-file c = omega arith
+same-length : tie.Need-same-length
+same-length c = search needs
 
-add-file-2 : tie.Need-add-file-2 Inv-loop μ-loop
-add-file-2 c = omega arith
-
-slice-write-file : tie.Need-slice-write-file Inv-loop μ-loop
-slice-write-file c = omega arith
-
-add-i : tie.Need-add-i Inv-loop μ-loop
-add-i c = omega arith
-
-loop-less : tie.Need-loop-less Inv-loop μ-loop
-loop-less c = omega arith
-
-loop-again : tie.Need-loop-again Inv-loop μ-loop
-loop-again c =
-    copying-step _ _ _ _ _ _ (c .before .before .before .pre .0) (c .before .before .before .pre .1)
-    (c .before .loop-test .taken) (c .before .before .loop .inv)
-
-same-length : tie.Need-same-length Inv-loop μ-loop
-same-length c = c .before .loop .inv .long
-
-returns : tie.Need-returns Inv-loop μ-loop
-returns c = copying-end _ _ _ _ _ _ (c .loop-test .left) (c .before .loop .inv)
+returns : tie.Need-returns
+returns c =
+    let third = c .before .before in
+    let second = third .before .before .before .before in
+    let first = second .before .before .before .before in
+    let start = first .before .before .before .before in
+    let four : ℕ → List ℕ = λ k. take 4 (drop (start .args .from + k) (start .args .tags .now)) in
+    third .put-four3 .ensures
+    ∙ ap (λ (l : List ℕ). put l (start .args .at + 8) (four 8))
+    (second .put-four2 .ensures ∙ ap (λ (l : List ℕ). put l (start .args .at + 4) (four 4)) (first .put-four .ensures))
+    ∙ put-fours (start .args .tags .now) (start .args .from) (start .args .file .now) (start .args .at) (start .pre .0) (start .pre .1)
 
 pub put-tag-spec : {M : Type 1} → statement M
 put-tag-spec =
     tie.close
     (tie.spec
-    Inv-loop
-    μ-loop
-    loop-holds
-    add-file
-    shared-slice-read-file
-    add-file-2
-    slice-write-file
-    add-i
-    loop-less
-    loop-again
+    put-four-requires
+    add-put-four
+    add-put-four-2
+    put-four-requires-2
+    add-put-four-3
+    add-put-four-4
+    put-four-requires-3
     same-length
     returns)

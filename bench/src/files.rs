@@ -1,4 +1,5 @@
-//! A tag file's loader as one would write it in Rust: a hash map from tag to item, sets sorted at the end.
+//! A tag file's loader and writer as one would write them in Rust: the loader has a hash map from tag to item and sorts the sets at
+//! the end, the writer copies.
 
 use crate::workloads::Sets;
 use std::collections::{HashMap, HashSet};
@@ -13,7 +14,7 @@ pub struct Loaded {
 /// The fault of a file: document 01's number and the byte place of the record.
 pub struct Fault(pub u8, pub usize);
 
-pub fn hash_map(file: &[u8]) -> Result<Loaded, Fault> {
+pub fn load(file: &[u8]) -> Result<Loaded, Fault> {
     let mut loaded = Loaded::default();
     let mut known: HashMap<[u8; 12], u16> = HashMap::new();
     let mut used = [HashSet::new(), HashSet::new()];
@@ -63,4 +64,17 @@ pub fn hash_map(file: &[u8]) -> Result<Loaded, Fault> {
     }
     loaded.tags = order.into_iter().map(|(tag, _)| tag).collect();
     Ok(loaded)
+}
+
+/// Appends a record for each set, those of the left side first.
+pub fn write(from: &Loaded, file: &mut Vec<u8>) {
+    for ((mark, numbers), sets) in [b"KT", b"SK"].into_iter().zip(&from.numbers).zip(&from.sets) {
+        for (k, number) in numbers.iter().enumerate() {
+            let set = sets.set(k);
+            file.extend(mark);
+            file.extend(number.to_be_bytes());
+            file.push(set.len() as u8);
+            set.iter().for_each(|&item| file.extend(from.tags[item as usize]));
+        }
+    }
 }
