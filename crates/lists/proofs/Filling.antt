@@ -17,6 +17,10 @@ sets-append w at (x ∷ a) b =
     let next : suc at + length a ≡ at + suc (length a) = omega arith in
     sets-append (set w at x) (suc at) a b ∙ ap (λ (n : ℕ). sets (sets (set w at x) (suc at) a) n b) next
 
+-- the same, the first run's length known
+pub sets-then : (w : List ℕ) (at : ℕ) (a b : List ℕ) (n : ℕ) → length a ≡ n → sets w at (a ++ b) ≡ sets (sets w at a) (at + n) b
+sets-then w at a b n e = sets-append w at a b ∙ ap (λ (k : ℕ). sets (sets w at a) (at + k) b) e
+
 -- what is stored from the beginning on stands in front
 pub sets-front : (list w : List ℕ) → length list ≤ length w → sets w 0 list ≡ list ++ drop (length list) w
 sets-front list w room =

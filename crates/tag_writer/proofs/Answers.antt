@@ -19,10 +19,10 @@ use Rattle.sets.specs.declared.WriteAnswer.{WriteAnswer}
 use Rattle.sets.specs.declared.WriteAnswer.the-variants.{Written, Refused}
 use Rattle.sets.proofs.Good.{good-places, good-entries}
 use Rattle.tag_file.specs.Format.{tagLength, headLength}
-use Rattle.tag_writer.specs.Put.{put}
+use lib.Seq.{sets}
 use Rattle.tag_writer.specs.Room.{GoodSide}
 use Rattle.tag_writer.specs.Writer.{sideBytes, fileBytes, numbersVerdict, andThen, sideVerdict, writtenWithin, writeAnswer, fileAfter}
-use Rattle.tag_writer.proofs.PutLaws.{put-then, put-front}
+use Rattle.lists.proofs.Filling.{sets-then, sets-front}
 use Rattle.tag_writer.proofs.Sides.{records-length}
 
 -- a side without a fault, from its verdict
@@ -69,17 +69,17 @@ module _ (tags leftNumbers leftEnds leftItems rightNumbers rightEnds rightItems 
   file-size = length-append (sideBytes Left tags leftNumbers leftEnds leftItems) _
 
   pub put-sides : (file file′ file″ : List ℕ) (left : ℕ) → length (sideBytes Left tags leftNumbers leftEnds leftItems) ≡ left
-      → left ≤ length file
-      → file′ ≡ put file 0 (sideBytes Left tags leftNumbers leftEnds leftItems)
-      → file″ ≡ put file′ left (sideBytes Right tags rightNumbers rightEnds rightItems)
+      → length whole ≤ length file
+      → file′ ≡ sets file 0 (sideBytes Left tags leftNumbers leftEnds leftItems)
+      → file″ ≡ sets file′ left (sideBytes Right tags rightNumbers rightEnds rightItems)
       → file″ ≡ whole ++ drop (length whole) file
   unfolding fileBytes
   put-sides file file′ file″ left n room e₁ e₂ =
-      let both : put file 0 whole ≡ put (put file 0 (sideBytes Left tags leftNumbers leftEnds leftItems)) left
+      let both : sets file 0 whole ≡ sets (sets file 0 (sideBytes Left tags leftNumbers leftEnds leftItems)) left
       (sideBytes Right tags rightNumbers rightEnds rightItems) =
-      rw zero-add at (put-then file 0 (sideBytes Left tags leftNumbers leftEnds leftItems)
-      (sideBytes Right tags rightNumbers rightEnds rightItems) left n (omega arith)) in
-      e₂ ∙ rw e₁ (sym both ∙ put-front file whole)
+      rw zero-add at (sets-then file 0 (sideBytes Left tags leftNumbers leftEnds leftItems)
+      (sideBytes Right tags rightNumbers rightEnds rightItems) left n) in
+      e₂ ∙ rw e₁ (sym both ∙ sets-front whole file room)
 
   pub sides-size : (left right : ℕ) → GoodSide tags leftNumbers leftEnds leftItems → GoodSide tags rightNumbers rightEnds rightItems
       → left ≡ headLength * length leftEnds + tagLength * entries leftEnds

@@ -5,7 +5,7 @@ ghost use Prim.Native.Nat.{_+_, _*_, _-_, _/_, _%_, _≤_, _<_};
 ghost use mathlib.Core.List.{_∷_, [], _++_};
 ghost use lib.ListN.{length, take, drop, getD};
 ghost use Rattle.tag_file.specs.Format.{tagLength, headLength, tagBytes, mark, recordBytes};
-ghost use Rattle.tag_writer.specs.Put.{put};
+ghost use lib.Seq.{sets};
 ghost use Rattle.sets.specs.Limits.{maxSets, maxEntries, maxSetLength};
 ghost use Rattle.sets.specs.Collections.{between, entries};
 ghost use Rattle.tag_writer.specs.Writer.{tagsOf, sideBytes, fileBytes, sideVerdict, writtenWithin, writeAnswer, fileAfter};
@@ -25,7 +25,7 @@ const HEAD_LENGTH: usize = 5;
 // word.
 fn put_four(tags: &[u8], from: usize, file: &mut [u8], at: usize)
     requires { ⌜ (from + 4 ≤ length (now tags)) × (at + 4 ≤ length (now file)) ⌝ }
-    ensures { λ r. ⌜ now (file .exit) ≡ put (now (file .entry)) at (take 4 (drop from (now (tags .entry)))) ⌝ }
+    ensures { λ r. ⌜ now (file .exit) ≡ sets (now (file .entry)) at (take 4 (drop from (now (tags .entry)))) ⌝ }
 {
     let a = tags[from];
     let b = tags[from + 1];
@@ -40,7 +40,7 @@ fn put_four(tags: &[u8], from: usize, file: &mut [u8], at: usize)
 // The tag at a place of the tag table goes to a place of the file.
 fn put_tag(tags: &[u8], from: usize, file: &mut [u8], at: usize)
     requires { ⌜ (from + tagLength ≤ length (now tags)) × (at + tagLength ≤ length (now file)) ⌝ }
-    ensures { λ r. ⌜ now (file .exit) ≡ put (now (file .entry)) at (take tagLength (drop from (now (tags .entry)))) ⌝ }
+    ensures { λ r. ⌜ now (file .exit) ≡ sets (now (file .entry)) at (take tagLength (drop from (now (tags .entry)))) ⌝ }
 {
     put_four(tags, from, file, at);
     put_four(tags, from + 4, file, at + 4);
@@ -70,7 +70,7 @@ fn second_mark(side: Side) -> u8
 // The mark, the number and the count of a record go to a place of the file.
 fn put_head(side: Side, number: u16, count: u8, file: &mut [u8], at: usize)
     requires { ⌜ at + headLength ≤ length (now file) ⌝ }
-    ensures { λ r. ⌜ now (file .exit) ≡ put (now (file .entry)) at (mark side ++ (number / 256 ∷ number % 256 ∷ count ∷ [])) ⌝ }
+    ensures { λ r. ⌜ now (file .exit) ≡ sets (now (file .entry)) at (mark side ++ (number / 256 ∷ number % 256 ∷ count ∷ [])) ⌝ }
 {
     let first = first_mark(side);
     let second = second_mark(side);
@@ -85,7 +85,7 @@ fn put_head(side: Side, number: u16, count: u8, file: &mut [u8], at: usize)
 fn put_tags(tags: &[u8], items: &[u16], start: usize, end: usize, file: &mut [u8], at: usize)
     requires { ⌜ ItemsFit (now tags) (now items) start end ⌝ }
     requires { ⌜ at + tagLength * (end - start) ≤ length (now file) ⌝ }
-    ensures { λ r. ⌜ now (file .exit) ≡ put (now (file .entry)) at
+    ensures { λ r. ⌜ now (file .exit) ≡ sets (now (file .entry)) at
         (tagBytes (tagsOf (now (tags .entry)) (between start end (now (items .entry))))) ⌝ }
 {
     let mut i = start;
@@ -111,7 +111,7 @@ fn put_record(
 )
     requires { ⌜ ItemsFit (now tags) (now items) start end ⌝ }
     requires { ⌜ (end - start ≤ maxSetLength) × (at + (headLength + tagLength * (end - start)) ≤ length (now file)) ⌝ }
-    ensures { λ r. ⌜ now (file .exit) ≡ put (now (file .entry)) at
+    ensures { λ r. ⌜ now (file .exit) ≡ sets (now (file .entry)) at
         (recordBytes side number (tagsOf (now (tags .entry)) (between start end (now (items .entry))))) ⌝ }
 {
     let count = (end - start) as u8;
@@ -131,7 +131,7 @@ fn put_side(
 )
     requires { ⌜ GoodSide (now tags) (now numbers) (now ends) (now items) ⌝ }
     requires { ⌜ at + length (sideBytes side (now tags) (now numbers) (now ends) (now items)) ≤ length (now file) ⌝ }
-    ensures { λ r. ⌜ now (file .exit) ≡ put (now (file .entry)) at
+    ensures { λ r. ⌜ now (file .exit) ≡ sets (now (file .entry)) at
         (sideBytes side (now (tags .entry)) (now (numbers .entry)) (now (ends .entry)) (now (items .entry))) ⌝ }
 {
     let mut k: usize = 0;

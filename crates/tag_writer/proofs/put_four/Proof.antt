@@ -1,20 +1,27 @@
 -- `put_four` meets its contract: four stores one after the other put the bytes that were read.
-use mathlib.Core.Path.{_≡_}
+use mathlib.Core.Path.{_≡_, sym, ap, _∙_}
 use mathlib.Core.List.{List, [], _∷_}
 use Prim.Native.Nat.{ℕ, _+_, _≤_}
 use native.Mathlib.Omega.{arith}
 use native.Mathlib.Numerals.{towards-suc}
-use lib.ListN.{length, set, length-set}
+use lib.ListN.{length, take, drop, getD, set, length-set}
 use borrow.Author.Needs.{needs}
 use Rattle.tag_file.proofs.Bytes.{four-bytes}
-use Rattle.tag_writer.specs.Put.{put}
-use Rattle.tag_writer.proofs.PutLaws.{put-stores}
+use lib.Seq.{sets}
 use Rattle.tag_writer.proofs.put_four.Statement.{statement}
 use Rattle.tag_writer.proofs.put_four.Tie as tie
 
-four-stores : (file : List ℕ) (at a b c d : ℕ) → at + 4 ≤ length file
-    → set (set (set (set file at a) (at + 1) b) (at + 2) c) (at + 3) d ≡ put file at (a ∷ b ∷ c ∷ d ∷ [])
-four-stores file at a b c d room = simp towards-suc (put-stores file at (a ∷ b ∷ c ∷ d ∷ []) room)
+stores : (file : List ℕ) (at a b c d : ℕ)
+    → set (set (set (set file at a) (at + 1) b) (at + 2) c) (at + 3) d ≡ sets file at (a ∷ b ∷ c ∷ d ∷ [])
+stores file at a b c d = simp towards-suc
+
+four-stores : (tags : List ℕ) (from : ℕ) (file : List ℕ) (at : ℕ) → from + 4 ≤ length tags
+    → set (set (set (set file at (getD tags from 0)) (at + 1) (getD tags (from + 1) 0)) (at + 2) (getD tags (from + 2) 0))
+    (at + 3) (getD tags (from + 3) 0)
+    ≡ sets file at (take 4 (drop from tags))
+four-stores tags from file at whole =
+    stores file at (getD tags from 0) (getD tags (from + 1) 0) (getD tags (from + 2) 0) (getD tags (from + 3) 0)
+    ∙ ap (sets file at) (sym (four-bytes tags from whole))
 
 shared-slice-read-a : tie.Need-shared-slice-read-a
 shared-slice-read-a c = search needs
@@ -64,7 +71,7 @@ same-length c = search needs
 returns : tie.Need-returns
 returns c =
     let start = c .before .before .before .before in
-    rw (four-bytes (start .args .tags .now) (start .args .from) (start .pre .0)) (four-stores _ _ _ _ _ _ (start .pre .1))
+    four-stores (start .args .tags .now) (start .args .from) (start .args .file .now) (start .args .at) (start .pre .0)
 
 pub put-four-spec : {M : Type 1} → statement M
 put-four-spec =

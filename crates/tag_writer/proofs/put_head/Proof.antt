@@ -1,15 +1,14 @@
 -- `put_head` meets its contract: five stores one after the other put the record's head.
 use mathlib.Core.Path.{_≡_}
-use mathlib.Core.List.{List, [], _∷_}
+use mathlib.Core.List.{List}
 use Prim.Native.Nat.{ℕ, _+_, _/_, _%_, _≤_}
 use native.Mathlib.Omega.{arith}
 use native.Mathlib.Numerals.{towards-suc}
 use lib.ListN.{length, getD, set, length-set}
 use borrow.Author.Needs.{needs}
 use Rattle.sets.specs.declared.Side.{Side}
-use Rattle.tag_writer.specs.Put.{put}
+use lib.Seq.{sets}
 use Rattle.tag_file.specs.Format.{mark, headLength}
-use Rattle.tag_writer.proofs.PutLaws.{put-stores}
 use Rattle.tag_writer.proofs.Records.{mark-bytes, headOf}
 use Rattle.tag_writer.proofs.put_head.Statement.{statement}
 use Rattle.tag_writer.proofs.put_head.Tie as tie
@@ -17,11 +16,10 @@ use Rattle.tag_writer.proofs.put_head.Tie as tie
 head-stores : (side : Side) (file : List ℕ) (at number count first second : ℕ) → at + headLength ≤ length file
     → first ≡ getD (mark side) 0 0 → second ≡ getD (mark side) 1 0
     → set (set (set (set (set file at first) (at + 1) second) (at + 2) (number / 256)) (at + 3) (number % 256)) (at + 4) count
-    ≡ put file at (headOf side number count)
+    ≡ sets file at (headOf side number count)
 head-stores side file at number count first second room e₁ e₂ =
     rw (mark-bytes side, ← e₁, ← e₂)
-    (simp towards-suc
-    (put-stores file at (first ∷ second ∷ number / 256 ∷ number % 256 ∷ count ∷ []) room))
+    (simp towards-suc)
 
 first-mark-requires : tie.Need-first-mark-requires
 first-mark-requires c κs = search needs

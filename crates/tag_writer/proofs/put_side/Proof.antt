@@ -11,10 +11,10 @@ use Rattle.sets.specs.declared.Verdict.the-variants.{Good}
 use Rattle.sets.proofs.Between.{length-between}
 use Rattle.sets.proofs.Good.{GoodSet, good-step, good-next}
 use Rattle.tag_file.specs.Format.{tagLength, headLength, recordBytes}
-use Rattle.tag_writer.specs.Put.{put}
+use lib.Seq.{sets, length-sets}
 use Rattle.tag_writer.specs.Room.{ItemsFit, GoodSide}
 use Rattle.tag_writer.specs.Writer.{tagsOf, recordsOf}
-use Rattle.tag_writer.proofs.PutLaws.{put-nil, put-then, length-put}
+use Rattle.lists.proofs.Filling.{sets-then}
 use Rattle.tag_writer.proofs.Sides.{fit-items, length-record, records-next}
 use Rattle.tag_writer.proofs.put_side.Statement.{statement}
 use Rattle.tag_writer.proofs.put_side.Tie as tie
@@ -28,7 +28,7 @@ record Writing (side : Side) (tags numbers ends items file₀ : List ℕ) (at : 
   long : length file ≡ length file₀
   good : firstBadFrom (length tags / tagLength) k start (drop k ends) items ≡ Good
   place : to + length (rest side tags numbers ends items k start) ≡ at + length (rest side tags numbers ends items 0 0)
-  left : put file to (rest side tags numbers ends items k start) ≡ put file₀ at (rest side tags numbers ends items 0 0)
+  left : sets file to (rest side tags numbers ends items k start) ≡ sets file₀ at (rest side tags numbers ends items 0 0)
 
 writing-start : (side : Side) (tags numbers ends items file : List ℕ) (at : ℕ) → GoodSide tags numbers ends items
     → Writing side tags numbers ends items file at file 0 0 at
@@ -70,32 +70,31 @@ module _ (side : Side) (tags numbers ends items file₀ : List ℕ) (at : ℕ) (
       }
 
   writing-step : (file′ : List ℕ)
-      → file′ ≡ put file to (recordBytes side (getD numbers k 0) (tagsOf tags (between start (getD ends k 0) items)))
+      → file′ ≡ sets file to (recordBytes side (getD numbers k 0) (tagsOf tags (between start (getD ends k 0) items)))
       → Writing side tags numbers ends items file₀ at file′ (k + 1) (getD ends k 0)
       (to + (headLength + tagLength * (getD ends k 0 - start)))
   writing-step file′ e =
       let n = size (turn .set) in
       let l = split in
-      let room = turn .room in
+      let bytes = recordBytes side (getD numbers k 0) (tagsOf tags (between start (getD ends k 0) items)) in
       record {
         within = omega arith;
-        long = ap length e ∙ length-put file to _ (omega arith) ∙ so .long;
+        long = ap length e ∙ length-sets file to bytes ∙ so .long;
         good = good-next (length tags / tagLength) ends items k start more (so .good);
         place = omega (arith, so .place);
         left =
             rw e
-            (sym (put-then file to _ (rest side tags numbers ends items (k + 1) (getD ends k 0)) _ n room)
-            ∙ ap (put file to) (sym (records-next side tags numbers ends items k start more (whole .numbered))) ∙ so .left);
+            (sym (sets-then file to bytes (rest side tags numbers ends items (k + 1) (getD ends k 0)) _ n)
+            ∙ ap (sets file to) (sym (records-next side tags numbers ends items k start more (whole .numbered))) ∙ so .left);
       }
 
 writing-end : (side : Side) (tags numbers ends items file₀ : List ℕ) (at : ℕ) (file : List ℕ) (k start to : ℕ)
     → GoodSide tags numbers ends items → length ends ≤ k → Writing side tags numbers ends items file₀ at file k start to
-    → file ≡ put file₀ at (rest side tags numbers ends items 0 0)
+    → file ≡ sets file₀ at (rest side tags numbers ends items 0 0)
 unfolding recordsOf setsFrom
 writing-end side tags numbers ends items file₀ at file k start to whole done so =
     let none : drop k numbers ≡ [] = drop-of-length-le numbers {i = k} (omega (arith, whole .numbered)) in
-    sym (put-nil file to)
-    ∙ ap (λ (l : List ℕ). put file to (recordsOf side tags l (setsFrom start (drop k ends) items))) (sym none) ∙ so .left
+    ap (λ (l : List ℕ). sets file to (recordsOf side tags l (setsFrom start (drop k ends) items))) (sym none) ∙ so .left
 
 abbrev Inv-loop : tie.InvT-loop
 Inv-loop side tags numbers ends items file₀ at k₀ start₀ to₀ file k start to =

@@ -8,8 +8,8 @@ use lib.ListN.{length, take, drop, length-take, length-drop}
 use borrow.Author.Needs.{needs}
 use Rattle.tag_file.specs.Format.{tagLength}
 use Rattle.tag_file.proofs.Bytes.{tag-bytes}
-use Rattle.tag_writer.specs.Put.{put}
-use Rattle.tag_writer.proofs.PutLaws.{put-then, length-put}
+use lib.Seq.{sets}
+use Rattle.lists.proofs.Filling.{sets-then}
 use Rattle.tag_writer.proofs.put_tag.Statement.{statement}
 use Rattle.tag_writer.proofs.put_tag.Tie as tie
 
@@ -17,20 +17,19 @@ length-four : (tags : List ℕ) (from : ℕ) → from + 4 ≤ length tags → le
 length-four tags from whole = simp (length-take, length-drop) (omega arith)
 
 put-fours : (tags : List ℕ) (from : ℕ) (file : List ℕ) (at : ℕ) → from + tagLength ≤ length tags → at + tagLength ≤ length file
-    → put (put (put file at (take 4 (drop from tags))) (at + 4) (take 4 (drop (from + 4) tags))) (at + 8) (take 4 (drop (from + 8) tags))
-    ≡ put file at (take tagLength (drop from tags))
+    → sets (sets (sets file at (take 4 (drop from tags))) (at + 4) (take 4 (drop (from + 4) tags))) (at + 8) (take 4 (drop (from + 8) tags))
+    ≡ sets file at (take tagLength (drop from tags))
 put-fours tags from file at whole room =
     let a = take 4 (drop from tags) in
     let b = take 4 (drop (from + 4) tags) in
     let c = take 4 (drop (from + 8) tags) in
     let first : length a ≡ 4 = length-four tags from (omega arith) in
     let second : length b ≡ 4 = length-four tags (from + 4) (omega arith) in
-    let long : length (put file at a) ≡ length file = length-put file at a (omega (arith, first)) in
     sym
-    (ap (put file at) (tag-bytes tags from)
-    ∙ put-then file at a (b ++ c) 4 first (omega arith)
-    ∙ put-then (put file at a) (at + 4) b c 4 second (omega (arith, long))
-    ∙ ap (λ (k : ℕ). put (put (put file at a) (at + 4) b) k c) (add-assoc at 4 4))
+    (ap (sets file at) (tag-bytes tags from)
+    ∙ sets-then file at a (b ++ c) 4 first
+    ∙ sets-then (sets file at a) (at + 4) b c 4 second
+    ∙ ap (λ (k : ℕ). sets (sets (sets file at a) (at + 4) b) k c) (add-assoc at 4 4))
 
 put-four-requires : tie.Need-put-four-requires
 put-four-requires c κs = search needs
@@ -64,8 +63,8 @@ returns c =
     let start = first .before .before .before .before in
     let four : ℕ → List ℕ = λ k. take 4 (drop (start .args .from + k) (start .args .tags .now)) in
     third .put-four3 .ensures
-    ∙ ap (λ (l : List ℕ). put l (start .args .at + 8) (four 8))
-    (second .put-four2 .ensures ∙ ap (λ (l : List ℕ). put l (start .args .at + 4) (four 4)) (first .put-four .ensures))
+    ∙ ap (λ (l : List ℕ). sets l (start .args .at + 8) (four 8))
+    (second .put-four2 .ensures ∙ ap (λ (l : List ℕ). sets l (start .args .at + 4) (four 4)) (first .put-four .ensures))
     ∙ put-fours (start .args .tags .now) (start .args .from) (start .args .file .now) (start .args .at) (start .pre .0) (start .pre .1)
 
 pub put-tag-spec : {M : Type 1} → statement M

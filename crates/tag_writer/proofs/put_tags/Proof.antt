@@ -7,10 +7,10 @@ use native.Mathlib.Omega.{arith}
 use lib.ListN.{length, take, drop, getD, length-take, length-drop}
 use Rattle.sets.specs.Collections.{between}
 use Rattle.tag_file.specs.Format.{tagLength, tagBytes}
-use Rattle.tag_writer.specs.Put.{put}
+use lib.Seq.{sets, length-sets}
 use Rattle.tag_writer.specs.Room.{ItemsFit}
 use Rattle.tag_writer.specs.Writer.{tagsOf}
-use Rattle.tag_writer.proofs.PutLaws.{put-nil, put-then, length-put}
+use Rattle.lists.proofs.Filling.{sets-then}
 use Rattle.tag_writer.proofs.Records.{tags-run}
 use Rattle.tag_writer.proofs.put_tags.Statement.{statement}
 use Rattle.tag_writer.proofs.put_tags.Tie as tie
@@ -24,7 +24,7 @@ record Copying (tags items : List ℕ) (start end : ℕ) (file₀ : List ℕ) (a
   within : i ≤ end
   long : length file ≡ length file₀
   place : to + tagLength * (end - i) ≡ at + tagLength * (end - start)
-  left : put file to (run tags items i end) ≡ put file₀ at (run tags items start end)
+  left : sets file to (run tags items i end) ≡ sets file₀ at (run tags items start end)
 
 copying-start : (tags items : List ℕ) (start end : ℕ) (file : List ℕ) (at : ℕ) → start ≤ end
     → Copying tags items start end file at file start at
@@ -33,31 +33,30 @@ copying-start tags items start end file at h = record { above = omega arith; wit
 copying-step : (tags items : List ℕ) (start end : ℕ) (file₀ : List ℕ) (at : ℕ) (file : List ℕ) (i to : ℕ) (file′ : List ℕ)
     → ItemsFit tags items start end → at + tagLength * (end - start) ≤ length file₀ → ((k : ℕ) → getD tags k 0 < 256)
     → i < end → Copying tags items start end file₀ at file i to
-    → file′ ≡ put file to (take tagLength (drop (tagLength * getD items i 0) tags))
+    → file′ ≡ sets file to (take tagLength (drop (tagLength * getD items i 0) tags))
     → Copying tags items start end file₀ at file′ (i + 1) (to + tagLength)
 copying-step tags items start end file₀ at file i to file′ fit room low more so e =
     let known : tagLength * getD items i 0 + tagLength ≤ length tags = fit .known i (so .above) more in
-    let n : length (take tagLength (drop (tagLength * getD items i 0) tags)) ≡ tagLength =
+    let tag = take tagLength (drop (tagLength * getD items i 0) tags) in
+    let n : length tag ≡ tagLength =
     simp (length-take, length-drop) (omega arith) in
-    let enough : to + tagLength ≤ length file = omega (arith, so .long, so .place) in
     record {
       above = omega (arith, so .above);
       within = omega arith;
-      long = ap length e ∙ length-put file to _ (omega arith) ∙ so .long;
+      long = ap length e ∙ length-sets file to tag ∙ so .long;
       place = omega (arith, so .place);
       left =
           rw e
-          (sym (put-then file to _ (run tags items (i + 1) end) tagLength n enough)
-          ∙ ap (put file to) (sym (tags-run tags items i end more (fit .inside) known low)) ∙ so .left);
+          (sym (sets-then file to tag (run tags items (i + 1) end) tagLength n)
+          ∙ ap (sets file to) (sym (tags-run tags items i end more (fit .inside) known low)) ∙ so .left);
     }
 
 copying-end : (tags items : List ℕ) (start end : ℕ) (file₀ : List ℕ) (at : ℕ) (file : List ℕ) (i to : ℕ)
-    → end ≤ i → Copying tags items start end file₀ at file i to → file ≡ put file₀ at (run tags items start end)
+    → end ≤ i → Copying tags items start end file₀ at file i to → file ≡ sets file₀ at (run tags items start end)
 unfolding tagBytes
 copying-end tags items start end file₀ at file i to done so =
     let none : end - i ≡ 0 = omega arith in
-    sym (put-nil file to)
-    ∙ ap (λ (k : ℕ). put file to (tagBytes (tagsOf tags (take k (drop i items))))) (sym none) ∙ so .left
+    ap (λ (k : ℕ). sets file to (tagBytes (tagsOf tags (take k (drop i items))))) (sym none) ∙ so .left
 
 abbrev Inv-loop : tie.InvT-loop
 Inv-loop tags items start end file₀ at i₀ to₀ file i to = Copying tags items start end file₀ at file i to

@@ -88,7 +88,7 @@ returns-2 c =
     let first = c .before .before .before .before .before .before in
     let room = first .before .before .if1 .left in
     let put = put-sides (a .tags .now) (a .left-numbers .now) (a .left-ends .now) (a .left-items .now)
-    (a .right-numbers .now) (a .right-ends .now) (a .right-items .now) _ _ _ _ (n₁ ∙ sym e₁) (omega arith)
+    (a .right-numbers .now) (a .right-ends .now) (a .right-items .now) _ _ _ _ (n₁ ∙ sym e₁) (omega (arith, n, room))
     (first .put-side .ensures) (c .before .before .put-side2 .ensures) in
     (within (length (a .file .now)) bytes _ n room, put)
 
