@@ -38,6 +38,11 @@ pub or-cases : {P : Type 0} (a b : Bool) → (a || b) ≡ true → (a ≡ true �
 or-cases true b e left right = left refl
 or-cases false b e left right = right e
 
+pub or-swap : (a b c : Bool) → (a || (b || c)) ≡ (b || (a || c))
+or-swap true true c = refl
+or-swap true false c = refl
+or-swap false b c = refl
+
 pub or-left-false : (a b : Bool) → (a || b) ≡ false → a ≡ false
 or-left-false true b e = e
 or-left-false false b e = refl

@@ -1,18 +1,17 @@
 -- A record has as many items as distinct tags, where the table has its tags. So the items of a side's sets are as many as the
 -- collapsed entries; and the other lengths of the filled lists.
 use mathlib.Core.Path.{_≡_, refl, sym, ap, _∙_}
-use mathlib.Core.List.{List, [], _∷_, _++_, map}
-use mathlib.Core.Bool.{Bool, true, false, _&&_, _||_}
-use Prim.Native.Nat.{ℕ, zero, suc, _+_, _*_, _/_, _%_, _<_, _≤_}
+use mathlib.Core.List.{List, [], _∷_, map}
+use mathlib.Core.Bool.{Bool, true, false, _&&_}
+use Prim.Native.Nat.{ℕ, zero, suc, _+_, _*_, _/_, _%_}
 use native.Mathlib.Omega.{arith}
-use lib.Dec.{eqb}
 use lib.ListN.{length, drop, getD, length-append, length-map, drop-of-length-le}
 use lib.Seq.{drop-cons}
 use Rattle.lists.specs.Lists.{one, onto, count, keep, sum, memb, range, upto, rising}
-use Rattle.lists.proofs.Bools.{by-test, same-test, or-left, or-right}
-use Rattle.lists.proofs.Membership.{memb-head, memb-tail, memb-cons, memb-nil}
+use Rattle.lists.proofs.Bools.{by-test, or-left, or-right}
+use Rattle.lists.proofs.Membership.{memb-append}
 use Rattle.lists.proofs.Filtering.{length-keep, memb-keep}
-use Rattle.lists.proofs.Rising.{risingAfter-memb, risingAfter-rising, rising-least, rising-keep}
+use Rattle.lists.proofs.Rising.{rising-same, rising-keep}
 use Rattle.sets.specs.declared.Side.{Side}
 use Rattle.tag_file.specs.Format.{bytesOf, tagBytes}
 use Rattle.tag_file.specs.Records.{TagRecord, sameSide, ofSide, collapse, allTags, tagTable, itemsOf, entriesOf, setsOfSide}
@@ -21,29 +20,10 @@ use Rattle.tag_file.proofs.Tables.{rising-collapse, memb-collapse}
 
 -- ---- the numbers of a rising table that are among others are those others, collapsed
 
-same-members : (xs ys : List ℕ) → rising xs ≡ true → rising ys ≡ true → ((z : ℕ) → memb z xs ≡ memb z ys) → xs ≡ ys
-unfolding rising
-same-members [] [] r s h = refl
-same-members [] (y ∷ ys) r s h = memb-nil y (h y ∙ memb-head y ys)
-same-members (x ∷ xs) [] r s h = memb-nil x (sym (h x) ∙ memb-head x xs)
-same-members (x ∷ xs) (y ∷ ys) r s h = rw first (ap (λ (l : List ℕ). y ∷ l) (same-members xs ys (risingAfter-rising x xs r) (risingAfter-rising y ys s) later))
-  where
-    first : x ≡ y
-    first =
-        let a : x ≤ y = rising-least x xs r y (h y ∙ memb-head y ys) in
-        let b : y ≤ x = rising-least y ys s x (sym (h x) ∙ memb-head x xs) in
-        omega arith
-
-    later : (z : ℕ) → memb z xs ≡ memb z ys
-    later z =
-        same-test (memb z xs) (memb z ys)
-        (λ m. memb-cons z y ys (sym (h z) ∙ memb-tail z x xs m) (λ e. let g : x < z = risingAfter-memb x xs r z m in absurd (omega (arith, first))) (λ t. t))
-        (λ m. memb-cons z x xs (h z ∙ memb-tail z y ys m) (λ e. let g : y < z = risingAfter-memb y ys s z m in absurd (omega (arith, first))) (λ t. t))
-
 module _ (table tags : List ℕ) (r : rising table ≡ true) (held : (y : ℕ) → memb y tags ≡ true → memb y table ≡ true) where
   kept : keep (λ t. memb t tags) table ≡ collapse tags
   kept =
-      same-members (keep (λ t. memb t tags) table) (collapse tags) (rising-keep (λ t. memb t tags) table r) (rising-collapse tags)
+      rising-same (keep (λ t. memb t tags) table) (collapse tags) (rising-keep (λ t. memb t tags) table r) (rising-collapse tags)
       (λ z. memb-keep (λ t. memb t tags) table z ∙ both z ∙ sym (memb-collapse z tags))
     where
       both : (z : ℕ) → (memb z table && memb z tags) ≡ memb z tags
@@ -53,7 +33,8 @@ module _ (table tags : List ℕ) (r : rising table ≡ true) (held : (y : ℕ) �
           never true = refl
           never false = refl
 
-  by-place : (from n : ℕ) → from + n ≡ length table → count (λ i. memb (getD table i 0) tags) (range from n) ≡ count (λ t. memb t tags) (drop from table)
+  by-place : (from n : ℕ) → from + n ≡ length table
+      → count (λ i. memb (getD table i 0) tags) (range from n) ≡ count (λ t. memb t tags) (drop from table)
   unfolding count range
   by-place from zero e = rw (drop-of-length-le table {i = from} (omega arith))
   by-place from (suc n) e =
@@ -77,7 +58,7 @@ unfolding tagBytes
 length-tagBytes [] = refl
 length-tagBytes (t ∷ ts) = length-append (bytesOf 12 t) (tagBytes ts) ∙ omega (arith, length-bytesOf 12 t, length-tagBytes ts)
 
-length-endsFrom : (start : ℕ) (sets : List (List ℕ)) → length (endsFrom start sets) ≡ length sets
+pub length-endsFrom : (start : ℕ) (sets : List (List ℕ)) → length (endsFrom start sets) ≡ length sets
 unfolding endsFrom
 length-endsFrom start [] = refl
 length-endsFrom start (s ∷ ss) = ap suc (length-endsFrom (start + length s) ss)
@@ -89,15 +70,6 @@ module _ (side : Side) (rs : List TagRecord) where
   pub length-endsOf : length (endsOf side rs) ≡ length (ofSide side rs)
   length-endsOf =
       length-endsFrom 0 (setsOfSide side (tagTable rs) rs) ∙ length-map (ofSide side rs) (λ r. itemsOf (tagTable rs) (r .tags))
-
-pub memb-append : (y : ℕ) (xs ys : List ℕ) → memb y (xs ++ ys) ≡ (memb y xs || memb y ys)
-unfolding memb
-memb-append y [] ys = refl
-memb-append y (x ∷ xs) ys = ap (λ (b : Bool). eqb y x || b) (memb-append y xs ys) ∙ regroup (eqb y x) (memb y xs) (memb y ys)
-  where
-    regroup : (a b c : Bool) → (a || (b || c)) ≡ ((a || b) || c)
-    regroup true b c = refl
-    regroup false b c = refl
 
 -- over a table that has all tags of the records
 joined-count : (side : Side) (table : List ℕ) (rs : List TagRecord) → rising table ≡ true → ((y : ℕ) → memb y (allTags rs) ≡ true → memb y table ≡ true)

@@ -18,9 +18,15 @@ use Rattle.sets.specs.declared.Refusal.{Refusal}
 use Rattle.sets.specs.declared.Refusal.the-variants.{Malformed}
 use Rattle.tag_file.specs.Format.{tagAt}
 use Rattle.tag_file.specs.Reading.{marked, numberAt, countAt, wholeAt, recordAt, readAt, tagsAt}
-use Rattle.tag_file.specs.Records.{TagRecord, recordLength, totalLength, onward, recordsFrom, recordsAt}
+use Rattle.tag_file.specs.Records.{TagRecord, recordLength, totalLength, onward, recordsFrom, recordsAt, sameSide}
 use Rattle.tag_file.specs.declared.ReadAnswer.{ReadAnswer}
 use Rattle.tag_file.specs.declared.ReadAnswer.the-variants.{Record, NoMore, Refused}
+
+pub same-side : (a b : Side) → sameSide a b ≡ true → a ≡ b
+same-side Left Left e = refl
+same-side Left Right e = let z : _≡_ {A = ℕ} 0 1 = cc in absurd (omega arith)
+same-side Right Left e = let z : _≡_ {A = ℕ} 0 1 = cc in absurd (omega arith)
+same-side Right Right e = refl
 
 -- ---- tags one after the other
 

@@ -18,7 +18,7 @@ use Rattle.tag_file.specs.Reading.{readAt, tagsAt}
 use Rattle.tag_file.specs.Records.{TagRecord, sameSide, recordsAt, records, allTags, tagTable, itemsOf, setsOfSide}
 use Rattle.tag_file.specs.Loading.{numbersOf, endsFrom, endsOf, join, joinedItems}
 use Rattle.tag_file.specs.declared.ReadAnswer.the-variants.{Record}
-use Rattle.tag_file.proofs.ItemCount.{memb-append}
+use Rattle.lists.proofs.Membership.{memb-append}
 use Rattle.tag_file.proofs.RecordLaws.{read-whole, records-next}
 use Rattle.tag_file.proofs.Tables.{memb-collapse}
 use Rattle.tag_index.specs.Index.{tableOf, Sorted}

@@ -20,7 +20,7 @@ use Rattle.tag_file.specs.Records.{TagRecord, ofSide, records, tagTable, itemsO
 use Rattle.tag_file.specs.Loading.{Lists, filled, countsOf, fileFault, unless, roomFor, loadAnswer, lentAfter, numbersOf, endsOf, joinedItems}
 use Rattle.tag_writer.proofs.Records.{length-tagBytes}
 use Rattle.tag_round_trip.specs.Trips.{loadedFrom}
-use Rattle.tag_round_trip.proofs.Decoding.{length-endsFrom}
+use Rattle.tag_file.proofs.ItemCount.{length-endsFrom}
 use Rattle.tag_round_trip.proofs.Refilled.{length-filled}
 
 -- no fault, room in every list, and the counts

@@ -26,8 +26,3 @@ setsFrom-joined before start (set ∷ sets) e =
 
 pub sets-joined : (sets : List (List ℕ)) → setsOf (endsFrom 0 sets) (join sets) ≡ sets
 sets-joined sets = setsFrom-joined [] 0 sets refl
-
-pub length-endsFrom : (start : ℕ) (sets : List (List ℕ)) → length (endsFrom start sets) ≡ length sets
-unfolding endsFrom
-length-endsFrom start [] = refl
-length-endsFrom start (set ∷ sets) = rw (length-endsFrom (start + length set) sets)

@@ -23,6 +23,7 @@ use Rattle.tag_file.specs.Records.{TagRecord, sameSide, ofSide, insertAll, allT
 use Rattle.tag_file.specs.Loading.{numberUsed, tooMany, faultOf, earlier, firstFault, numbersOf}
 use Rattle.tag_file.proofs.FaultLaws.{fault-none, fault-clear}
 use Rattle.tag_file.proofs.Tables.{insertAll-append, rising-collapse}
+use Rattle.tag_file.proofs.RecordLaws.{same-side}
 use Rattle.tag_round_trip.specs.Rewritten.{rewritten}
 use Rattle.tag_round_trip.proofs.Rewriting.{numbers-rewritten, places-rewritten, entries-rewritten, table-rewritten}
 use Rattle.tag_round_trip.proofs.Sorted.{insertAll-grows}
@@ -76,12 +77,6 @@ module _ (side : Side) (seen : List TagRecord) (r : TagRecord) where
 
   numbers-own : sameSide side (r .side) ≡ true → numbersOf side (seen ++ (r ∷ [])) ≡ numbersOf side seen ++ (r .number ∷ [])
   numbers-own t = ap (map (λ s. s .number)) (side-own t) ∙ map-append (λ s. s .number) (ofSide side seen) (r ∷ [])
-
-same-side : (a b : Side) → sameSide a b ≡ true → a ≡ b
-same-side Left Left e = refl
-same-side Left Right e = let z : _≡_ {A = ℕ} 0 1 = cc in absurd (omega arith)
-same-side Right Left e = let z : _≡_ {A = ℕ} 0 1 = cc in absurd (omega arith)
-same-side Right Right e = refl
 
 -- the limits, from the test
 module _ (side : Side) (rs : List TagRecord) (few : tooMany side rs ≡ false) where

@@ -2,16 +2,16 @@
 use mathlib.Core.Path.{_≡_, refl, sym, ap, _∙_}
 use Prim.Native.Nat.{ℕ, suc, _+_, _≤_}
 use mathlib.Core.List.{List, [], _∷_, _++_, map, append-assoc}
-use mathlib.Core.Bool.{Bool, true, false, _||_}
+use mathlib.Core.Bool.{true, _||_}
 use native.Mathlib.Omega.{arith}
 use borrow.Author.Tests.{le-leb, leb-true, eq-eqb}
 use lib.Dec.{leb}
 use lib.ListN.{length, length-append, length-map}
-use Rattle.lists.specs.Lists.{all, keep, onto, memb, rising, sum, subset}
+use Rattle.lists.specs.Lists.{all, memb, rising, sum, subset}
 use Rattle.lists.proofs.Bools.{and-both, and-left, and-right, or-left, or-right}
 use Rattle.lists.proofs.Membership.{memb-append}
 use Rattle.lists.proofs.Throughout.{subset-intro}
-use Rattle.lists.proofs.Filtering.{all-keep}
+use Rattle.lists.proofs.Filtering.{all-keep, all-kept}
 use Rattle.sets.specs.Limits.{maxSets, maxEntries, maxSetLength}
 use Rattle.sets.specs.Collections.{between, setsOf, goodItems, goodEnd, firstBad, firstBadFrom}
 use Rattle.sets.specs.declared.Side.{Side}
@@ -22,26 +22,13 @@ use Rattle.tag_file.specs.Format.{tagBytes}
 use Rattle.tag_file.specs.Records.{TagRecord, sameSide, ofSide, collapse, allTags, tagTable, itemsOf, entriesOf, setsOfSide}
 use Rattle.tag_file.specs.Loading.{endsFrom, join, numbersOf, endsOf, joinedItems, filled}
 use Rattle.tag_file.proofs.Tables.{rising-collapse, memb-collapse}
+use Rattle.tag_file.proofs.RecordLaws.{same-side}
+use Rattle.tag_file.proofs.ItemCount.{length-endsFrom}
 use Rattle.tag_writer.specs.Writer.{tagsOf, sideVerdict}
 use Rattle.tag_round_trip.specs.Rewritten.{sideRecords, recordsOfLists, collapsed, collapsedSide, rewritten}
-use Rattle.tag_round_trip.proofs.Decoding.{between-joined, sets-joined, length-endsFrom}
+use Rattle.tag_round_trip.proofs.Decoding.{between-joined, sets-joined}
 use Rattle.tag_round_trip.proofs.Items.{tags-of-items, length-items, items-good}
 use Rattle.tag_round_trip.proofs.Values.{tagsFit}
-
-same-side : (a b : Side) → sameSide a b ≡ true → a ≡ b
-same-side Left Left e = refl
-same-side Left Right e = let z : _≡_ {A = ℕ} 0 1 = cc in absurd (omega arith)
-same-side Right Left e = let z : _≡_ {A = ℕ} 0 1 = cc in absurd (omega arith)
-same-side Right Right e = refl
-
-all-kept : {A : Type 0} (p : A → Bool) (xs : List A) → all p (keep p xs) ≡ true
-unfolding all keep
-all-kept p [] = refl
-all-kept p (x ∷ xs) = here (p x) refl (all-kept p xs)
-  where
-    here : (b : Bool) → p x ≡ b → all p (keep p xs) ≡ true → all p (onto b x (keep p xs)) ≡ true
-    here true t rest = and-both t rest
-    here false t rest = rest
 
 -- every record's tags are in a table that has all tags
 tags-within : (table : List ℕ) (rs : List TagRecord) → ((x : ℕ) → memb x (allTags rs) ≡ true → memb x table ≡ true)

@@ -5,6 +5,7 @@ use mathlib.Core.List.{List, [], _∷_, map, append-nil}
 use mathlib.Core.Bool.{Bool, true, false, _||_, or-assoc}
 use lib.ListN.{length, length-map}
 use Rattle.lists.specs.Lists.{keep, onto, memb, any, sum}
+use Rattle.lists.proofs.Bools.{or-swap}
 use Rattle.lists.proofs.Membership.{memb-append}
 use Rattle.lists.proofs.Throughout.{any-append}
 use Rattle.lists.proofs.Filtering.{keep-append}
@@ -113,15 +114,10 @@ any-sides p [] = refl
 any-sides p (r ∷ rs) =
     here (r .side) (ofSide Left rs) (ofSide Right rs) ∙ ap (λ (b : Bool). p r || b) (any-sides p rs)
   where
-    swap : (a b c : Bool) → (a || (b || c)) ≡ (b || (a || c))
-    swap true true c = refl
-    swap true false c = refl
-    swap false b c = refl
-
     here : (s : Side) (xs ys : List TagRecord)
         → (any p (onto (sameSide Left s) r xs) || any p (onto (sameSide Right s) r ys)) ≡ (p r || (any p xs || any p ys))
     here Left xs ys = or-assoc (p r) (any p xs) (any p ys)
-    here Right xs ys = swap (any p xs) (p r) (any p ys)
+    here Right xs ys = or-swap (any p xs) (p r) (any p ys)
 
 pub table-rewritten : (rs : List TagRecord) → tagTable (rewritten rs) ≡ tagTable rs
 unfolding rewritten
