@@ -27,5 +27,7 @@ pub mod Merging
 pub mod CountingSort
 -- stores, and the invariant of a region being written
 pub mod Filling
+-- numbers written run after run
+pub mod Writing
 -- the invariant of a list being filled with zeros
 pub mod Zeros

@@ -1,3 +1,4 @@
 -- The shared definitions on lists. Their laws stand in proofs/.
 pub mod Lists
 pub mod Parts
+pub mod Writing

@@ -1,0 +1,7 @@
+-- Laws of sets kept as digits; each function that needs a proof file has its folder beside them.
+-- the digits of a word, and the places of those that are 1
+pub mod Digits
+-- one more member, and the members word by word
+pub mod Members
+-- the members being written
+pub mod Draining
