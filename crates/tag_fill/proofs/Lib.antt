@@ -1,5 +1,4 @@
 -- Laws of filling the loader's lists; each function that needs a proof file has its folder beside them.
-pub mod Writing
 pub mod Marks
 pub mod Runs
 pub mod Filling

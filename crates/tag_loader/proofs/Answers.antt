@@ -22,9 +22,9 @@ unless-refused none x why y e = let z : _≡_ {A = ℕ} 0 1 = cc in absurd (omeg
 unless-refused (some w) x why y e = e
 
 -- a file at fault: the reader's or the first pass's refusal is the answer
-pub answer-refused : {file order : List ℕ} {r : LoadAnswer} (why : Refusal) → Scanned file order r → r ≡ load.Refused why → (lent : Lists) → r ≡ loadAnswer file lent
+pub answer-refused : {file heads tails order : List ℕ} {r : LoadAnswer} (why : Refusal) → Scanned file heads tails order r → r ≡ load.Refused why → (lent : Lists) → r ≡ loadAnswer file lent
 unfolding loadAnswer
-answer-refused {file} {order} {r} why s e lent =
+answer-refused {file} {heads} {tails} {order} {r} why s e lent =
     e ∙ sym (unless-refused (fileFault file) (countsOf (records file)) why
     (cond (roomFor (filled (records file)) lent) (load.Loaded (countsOf (records file))) (load.Refused ShortOutput)) (sym (s .answer) ∙ e))
 
@@ -41,12 +41,12 @@ unless-loaded : (o : Option Refusal) (x total : Loaded) → unless o (load.Loade
 unless-loaded none x total e = (refl, cc)
 unless-loaded (some w) x total e = let z : _≡_ {A = ℕ} 0 1 = cc in absurd (omega arith)
 
-pub answer-sound : {file order : List ℕ} {r : LoadAnswer} {total : Loaded} → Scanned file order r → r ≡ load.Loaded total → Sound file total
-answer-sound {file} {order} {r} {total} s e =
+pub answer-sound : {file heads tails order : List ℕ} {r : LoadAnswer} {total : Loaded} → Scanned file heads tails order r → r ≡ load.Loaded total → Sound file total
+answer-sound {file} {heads} {tails} {order} {r} {total} s e =
     let both = unless-loaded (fileFault file) (countsOf (records file)) total (sym (s .answer) ∙ e) in
     record { clean = both .0; counts = both .1 }
 
-pub sound-limited : {file order : List ℕ} {r : LoadAnswer} {total : Loaded} → Scanned file order r → Sound file total → Limited total
+pub sound-limited : {file heads tails order : List ℕ} {r : LoadAnswer} {total : Loaded} → Scanned file heads tails order r → Sound file total → Limited total
 sound-limited {file} s a = subst (λ (t : Loaded). Limited t) (sym (a .counts)) (s .limited (a .clean))
 
 module _ {file : List ℕ} {total : Loaded} (a : Sound file total) (tags leftNumbers leftEnds leftItems rightNumbers rightEnds rightItems : List ℕ) where
@@ -71,7 +71,7 @@ module _ {file : List ℕ} {total : Loaded} (a : Sound file total) (tags leftNum
   unfolding loadAnswer
   answer-loaded t = rw (a .clean, sym same-room ∙ t) (ap load.Loaded (a .counts))
 
-  pub answer-fillable : {order : List ℕ} {r : LoadAnswer} → Scanned file order r → roomy ≡ true
-      → Fillable file order (total .tags) tags leftNumbers leftEnds leftItems rightNumbers rightEnds rightItems
+  pub answer-fillable : {heads tails order : List ℕ} {r : LoadAnswer} → Scanned file heads tails order r → roomy ≡ true
+      → Fillable file heads tails order (total .tags) tags leftNumbers leftEnds leftItems rightNumbers rightEnds rightItems
   answer-fillable s t =
       record { index = s .index (a .clean); count = ap (λ (q : Loaded). q .tags) (a .counts); limited = s .limited (a .clean); room = sym same-room ∙ t }

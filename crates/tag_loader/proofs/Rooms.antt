@@ -13,7 +13,7 @@ use Rattle.tag_file.specs.Format.{tagBytes}
 use Rattle.tag_file.specs.Records.{TagRecord, records, tagTable, ofSide, entriesOf}
 use Rattle.tag_file.specs.Loading.{countsOf, numbersOf, endsOf, joinedItems, holds, roomFor, filled, listsOf}
 use Rattle.tag_file.proofs.ItemCount.{length-tagBytes, length-numbersOf, length-endsOf, length-joinedItems}
-use Rattle.tag_index.specs.Index.{tableOf, Sorted}
+use Rattle.tag_index.specs.Index.{tableOf, Sorted, Ranked}
 use Rattle.tag_fill.specs.Fill.{FillReady}
 use Rattle.tag_loader.specs.Passes.{sideFits, hasRoom, Fillable}
 
@@ -74,40 +74,43 @@ room-parts rs tags leftNumbers leftEnds leftItems rightNumbers rightEnds rightIt
       for-rightItems = leb-true (length (joinedItems Right rs)) (length rightItems) (and-right f g t5);
     }
 
-module _ {file order : List ℕ} {n : ℕ} {tags leftNumbers leftEnds leftItems rightNumbers rightEnds rightItems : List ℕ}
-    (f : Fillable file order n tags leftNumbers leftEnds leftItems rightNumbers rightEnds rightItems) where
+module _ {file heads tails order : List ℕ} {n : ℕ} {tags leftNumbers leftEnds leftItems rightNumbers rightEnds rightItems : List ℕ}
+    (f : Fillable file heads tails order n tags leftNumbers leftEnds leftItems rightNumbers rightEnds rightItems) where
   parts : Parts (records file) tags leftNumbers leftEnds leftItems rightNumbers rightEnds rightItems
   parts = room-parts (records file) tags leftNumbers leftEnds leftItems rightNumbers rightEnds rightItems (f .room)
 
-  pub sorted-here : Sorted file n order
-  sorted-here = subst (λ (k : ℕ). Sorted file k order) (sym (f .count)) (f .index .sorted)
+  pub sorted-here : Sorted heads tails n order
+  sorted-here = subst (λ (k : ℕ). Sorted heads tails k order) (sym (f .count)) (f .index .sorted)
 
-  pub table-here : tableOf file n order ≡ tagTable (records file)
-  table-here = ap (λ (k : ℕ). tableOf file k order) (f .count) ∙ f .index .table
+  pub table-here : tableOf heads tails n order ≡ tagTable (records file)
+  table-here = ap (λ (k : ℕ). tableOf heads tails k order) (f .count) ∙ f .index .table
 
-  pub tags-room : length (tagBytes (tableOf file n order)) ≤ length tags
+  pub tags-room : length (tagBytes (tableOf heads tails n order)) ≤ length tags
   tags-room = subst (λ (l : List ℕ). length (tagBytes l) ≤ length tags) (sym table-here) (parts .for-tags)
 
-  pub left-ready : FillReady file n order Left leftNumbers leftEnds leftItems
-  left-ready =
-      record {
-        sorted = sorted-here;
-        table = table-here;
-        small = omega (arith, f .count, f .limited .tags);
-        few = omega (arith, length-joinedItems Left (records file), f .limited .left-entries);
-        for-numbers = parts .for-leftNumbers;
-        for-ends = parts .for-leftEnds;
-        for-items = parts .for-leftItems;
-      }
+  module _ {ranks : List ℕ} (ranked : Ranked n order ranks) where
+    pub left-ready : FillReady file heads tails n order ranks Left leftNumbers leftEnds leftItems
+    left-ready =
+        record {
+          sorted = sorted-here;
+          ranked = ranked;
+          table = table-here;
+          small = omega (arith, f .count, f .limited .tags);
+          few = omega (arith, length-joinedItems Left (records file), f .limited .left-entries);
+          for-numbers = parts .for-leftNumbers;
+          for-ends = parts .for-leftEnds;
+          for-items = parts .for-leftItems;
+        }
 
-  pub right-ready : FillReady file n order Right rightNumbers rightEnds rightItems
-  right-ready =
-      record {
-        sorted = sorted-here;
-        table = table-here;
-        small = omega (arith, f .count, f .limited .tags);
-        few = omega (arith, length-joinedItems Right (records file), f .limited .right-entries);
-        for-numbers = parts .for-rightNumbers;
-        for-ends = parts .for-rightEnds;
-        for-items = parts .for-rightItems;
-      }
+    pub right-ready : FillReady file heads tails n order ranks Right rightNumbers rightEnds rightItems
+    right-ready =
+        record {
+          sorted = sorted-here;
+          ranked = ranked;
+          table = table-here;
+          small = omega (arith, f .count, f .limited .tags);
+          few = omega (arith, length-joinedItems Right (records file), f .limited .right-entries);
+          for-numbers = parts .for-rightNumbers;
+          for-ends = parts .for-rightEnds;
+          for-items = parts .for-rightItems;
+        }

@@ -17,16 +17,18 @@ use Rattle.tag_scan.specs.Scan.{Limited, Indexed}
 abbrev pub sideFits : ℕ → ℕ → ℕ → ℕ → ℕ → Bool
 sideFits sets entries numbers ends items = leb sets numbers && (leb sets ends && leb entries items)
 
--- an empty list is all zeros
+-- the lists of a side are all zeros
+pub record SideCleared (numbers ends items now-numbers now-ends now-items : List ℕ) : Type 0 where
+  pub numbers-zero : now-numbers ≡ replicate (length numbers) 0
+  pub ends-zero : now-ends ≡ replicate (length ends) 0
+  pub items-zero : now-items ≡ replicate (length items) 0
+
+-- the seven lists are all zeros
 pub record Cleared (tags leftNumbers leftEnds leftItems rightNumbers rightEnds rightItems : List ℕ)
     (now-tags now-leftNumbers now-leftEnds now-leftItems now-rightNumbers now-rightEnds now-rightItems : List ℕ) : Type 0 where
   pub tags-zero : now-tags ≡ replicate (length tags) 0
-  pub leftNumbers-zero : now-leftNumbers ≡ replicate (length leftNumbers) 0
-  pub leftEnds-zero : now-leftEnds ≡ replicate (length leftEnds) 0
-  pub leftItems-zero : now-leftItems ≡ replicate (length leftItems) 0
-  pub rightNumbers-zero : now-rightNumbers ≡ replicate (length rightNumbers) 0
-  pub rightEnds-zero : now-rightEnds ≡ replicate (length rightEnds) 0
-  pub rightItems-zero : now-rightItems ≡ replicate (length rightItems) 0
+  pub left : SideCleared leftNumbers leftEnds leftItems now-leftNumbers now-leftEnds now-leftItems
+  pub right : SideCleared rightNumbers rightEnds rightItems now-rightNumbers now-rightEnds now-rightItems
 
 -- whether lists of these lengths hold what was counted
 abbrev pub hasRoom : Loaded → ℕ → ℕ → ℕ → ℕ → ℕ → ℕ → ℕ → Bool
@@ -47,8 +49,8 @@ pub record AllFilled (rs : List TagRecord) (tags leftNumbers leftEnds leftItems 
   pub rightItems-filled : now-rightItems ≡ filledWith (joinedItems Right rs) rightItems
 
 -- the index of a file with n tags, within the limits, and lists that are long enough
-pub record Fillable (file order : List ℕ) (n : ℕ) (tags leftNumbers leftEnds leftItems rightNumbers rightEnds rightItems : List ℕ) : Type 0 where
-  pub index : Indexed file order
+pub record Fillable (file heads tails order : List ℕ) (n : ℕ) (tags leftNumbers leftEnds leftItems rightNumbers rightEnds rightItems : List ℕ) : Type 0 where
+  pub index : Indexed file heads tails order
   pub count : n ≡ length (tagTable (records file))
   pub limited : Limited (countsOf (records file))
   pub room : roomFor (filled (records file)) (listsOf tags leftNumbers leftEnds leftItems rightNumbers rightEnds rightItems) ≡ true

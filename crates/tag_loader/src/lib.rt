@@ -9,18 +9,28 @@ use sets::Refusal;
 use sets::Side;
 use tag_fill::fill_side;
 use tag_fill::fill_tags;
+use tag_index::rank_ids;
 use tag_scan::scan;
 ghost use mathlib.Core.Path.{_≡_};
 ghost use Rattle.tag_file.specs.Records.{records};
 ghost use Rattle.tag_file.specs.Loading.{filled, listsOf, loadAnswer, lentAfter};
 ghost use Rattle.tag_scan.specs.Scan.{Limited};
-ghost use Rattle.tag_loader.specs.Passes.{sideFits, Cleared, hasRoom, AllFilled, Fillable};
+ghost use Rattle.tag_loader.specs.Passes.{sideFits, SideCleared, Cleared, hasRoom, AllFilled, Fillable};
 
 // Whether lists of these lengths hold the numbers, ends and items of a side.
 fn side_fits(sets: usize, entries: usize, numbers: usize, ends: usize, items: usize) -> bool
     ensures { λ r. ⌜ r ≡ sideFits sets entries numbers ends items ⌝ }
 {
     sets <= numbers && (sets <= ends && entries <= items)
+}
+
+// Fills the lists of a side with zeros.
+fn clear_side(numbers: &mut [u16], ends: &mut [u32], items: &mut [u16])
+    ensures { λ _. ⌜ SideCleared (now (numbers .entry)) (now (ends .entry)) (now (items .entry)) (now (numbers .exit)) (now (ends .exit)) (now (items .exit)) ⌝ }
+{
+    zero_u16(numbers);
+    zero_u32(ends);
+    zero_u16(items);
 }
 
 // Fills the seven lists with zeros.
@@ -36,12 +46,8 @@ fn clear_lists(
     ensures { λ _. ⌜ Cleared (now (tags .entry)) (now («left_numbers» .entry)) (now («left_ends» .entry)) (now («left_items» .entry)) (now («right_numbers» .entry)) (now («right_ends» .entry)) (now («right_items» .entry)) (now (tags .exit)) (now («left_numbers» .exit)) (now («left_ends» .exit)) (now («left_items» .exit)) (now («right_numbers» .exit)) (now («right_ends» .exit)) (now («right_items» .exit)) ⌝ }
 {
     zero_u8(tags);
-    zero_u16(left_numbers);
-    zero_u32(left_ends);
-    zero_u16(left_items);
-    zero_u16(right_numbers);
-    zero_u32(right_ends);
-    zero_u16(right_items);
+    clear_side(left_numbers, left_ends, left_items);
+    clear_side(right_numbers, right_ends, right_items);
 }
 
 // Whether lists of these lengths hold what was counted.
@@ -83,7 +89,10 @@ fn has_room(
 // The second pass: fills the seven lists.
 fn fill_lists(
     file: &[u8],
-    order: &[usize; 4352],
+    heads: &[usize; 4352],
+    tails: &[u32; 4352],
+    order: &[u16; 4352],
+    hints: &[u16; 16384],
     n: usize,
     tags: &mut [u8],
     left_numbers: &mut [u16],
@@ -93,13 +102,19 @@ fn fill_lists(
     right_ends: &mut [u32],
     right_items: &mut [u16],
 )
-    requires { ⌜ Fillable (now file) (now order) n (now tags) (now «left_numbers») (now «left_ends») (now «left_items») (now «right_numbers») (now «right_ends») (now «right_items») ⌝ }
+    requires { ⌜ Fillable (now file) (now heads) (now tails) (now order) n (now tags) (now «left_numbers») (now «left_ends») (now «left_items») (now «right_numbers») (now «right_ends») (now «right_items») ⌝ }
     ensures { λ _. ⌜ AllFilled (records (now (file .entry))) (now (tags .entry)) (now («left_numbers» .entry)) (now («left_ends» .entry)) (now («left_items» .entry)) (now («right_numbers» .entry)) (now («right_ends» .entry)) (now («right_items» .entry)) (now (tags .exit)) (now («left_numbers» .exit)) (now («left_ends» .exit)) (now («left_items» .exit)) (now («right_numbers» .exit)) (now («right_ends» .exit)) (now («right_items» .exit)) ⌝ }
 {
-    fill_tags(file, order, n, tags);
+    let mut ranks = [0u16; 4352];
+    rank_ids(order, n, &mut ranks);
+    fill_tags(heads, tails, order, n, tags);
     fill_side(
         file,
+        heads,
+        tails,
         order,
+        &ranks,
+        hints,
         n,
         Side::Left,
         left_numbers,
@@ -108,7 +123,11 @@ fn fill_lists(
     );
     fill_side(
         file,
+        heads,
+        tails,
         order,
+        &ranks,
+        hints,
         n,
         Side::Right,
         right_numbers,
@@ -137,8 +156,11 @@ pub fn load(
     ensures right_ends { λ r. ⌜ now («right_ends» .exit) ≡ lentAfter r (filled (records (now (file .entry))) .rightEnds) (now («right_ends» .entry)) ⌝ }
     ensures right_items { λ r. ⌜ now («right_items» .exit) ≡ lentAfter r (filled (records (now (file .entry))) .rightItems) (now («right_items» .entry)) ⌝ }
 {
-    let mut order = [0usize; 4352];
-    let answer = scan(file, &mut order);
+    let mut heads = [0usize; 4352];
+    let mut tails = [0u32; 4352];
+    let mut order = [0u16; 4352];
+    let mut hints = [65535u16; 16384];
+    let answer = scan(file, &mut heads, &mut tails, &mut order, &mut hints);
     let LoadAnswer::Loaded(total) = answer else {
         clear_lists(
             tags,
@@ -175,7 +197,10 @@ pub fn load(
     let n = total.tags;
     fill_lists(
         file,
+        &heads,
+        &tails,
         &order,
+        &hints,
         n,
         tags,
         left_numbers,

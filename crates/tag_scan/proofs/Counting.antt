@@ -18,7 +18,7 @@ use Rattle.sets.specs.declared.Loaded.{Loaded}
 use Rattle.tag_file.specs.Records.{TagRecord, sameSide, ofSide, insertAll, collapse, allTags, tagTable, entriesOf}
 use Rattle.tag_file.specs.Loading.{tooMany, countsOf}
 use Rattle.tag_file.proofs.Tables.{insertAll-append}
-use Rattle.tag_scan.specs.Scan.{grownBy, passes, isOver, Limited}
+use Rattle.tag_scan.specs.Scan.{grownBy, isOver, Limited}
 
 pub allTags-last : (rs : List TagRecord) (r : TagRecord) → allTags (rs ++ (r ∷ [])) ≡ allTags rs ++ r .tags
 unfolding allTags

@@ -5,8 +5,9 @@ use mathlib.Core.Bool.{true, false}
 use mathlib.Core.Option.{Option, none, some}
 use Prim.Native.Nat.{ℕ, _+_, _<_, _≤_}
 use native.Mathlib.Omega.{arith}
-use lib.ListN.{length, getD, set}
+use lib.ListN.{length, getD}
 use Rattle.lists.specs.Lists.{keep, sum, rising}
+use Rattle.bit_sets.specs.BitSets.{Inserted}
 use Rattle.sets.specs.declared.Side.{Side}
 use Rattle.sets.specs.declared.Refusal.{Refusal}
 use Rattle.sets.specs.declared.Refusal.the-variants.{NumberUsed, TooMany}
@@ -17,10 +18,11 @@ use Rattle.tag_file.specs.Records.{TagRecord, totalLength, recordsAt, records, 
 use Rattle.tag_file.specs.Loading.{numberUsed, tooMany, faultOf, earlier, firstFault, refusalOf, fileFault, countsOf, unless}
 use Rattle.tag_file.specs.declared.ReadAnswer.{ReadAnswer}
 use Rattle.tag_file.specs.declared.ReadAnswer.the-variants.{Record, Refused}
+use Rattle.tag_file.proofs.FaultLaws.{fault-used, fault-past, fault-none}
 use Rattle.tag_file.proofs.RecordLaws.{length-tagsAt, read-whole, records-next, totalLength-last}
 use Rattle.tag_index.specs.Index.{tableOf, Sorted, Ready, AllAdded}
-use Rattle.tag_index.proofs.Search.{length-tableOf}
-use Rattle.tag_scan.specs.Scan.{keyOf, grownBy, isOver, Limited, Scanned}
+use Rattle.tag_index.proofs.Ids.{sorted-size}
+use Rattle.tag_scan.specs.Scan.{keyOf, grownBy, isOver, Limited, Lengths, Scanned}
 use Rattle.tag_scan.proofs.Numbers.{Noted, noted-step}
 use Rattle.tag_scan.proofs.Counting.{tagTable-last, grown-counts, grown-tags, over-tooMany, limited-grown}
 
@@ -28,24 +30,26 @@ use Rattle.tag_scan.proofs.Counting.{tagTable-last, grown-counts, grown
 abbrev pub lastRefusal : List ℕ → Option Refusal
 lastRefusal file = refusalOf (readAt file (totalLength (records file)))
 
-pub record Scanning (file used order : List ℕ) (total : Loaded) (at : ℕ) : Type 0 where
+pub record Scanning (file used heads tails order places : List ℕ) (total : Loaded) (at : ℕ) : Type 0 where
   pub seen : List TagRecord
   pub split : records file ≡ seen ++ recordsAt file at
   pub place : at ≡ totalLength seen
   pub within : at ≤ length file
   pub fault : fileFault file ≡ firstFault seen (recordsAt file at) (lastRefusal file)
   pub noted : Noted used seen
-  pub sorted : Sorted file (total .tags) order
-  pub before : (j : ℕ) → j < total .tags → getD order j 0 + 12 ≤ at
-  pub table : tableOf file (total .tags) order ≡ tagTable seen
+  pub sorted : Sorted heads tails (total .tags) order
+  pub wide : length places ≡ 4352
+  pub before : (id : ℕ) → id < total .tags → getD places id 0 < at
+  pub table : tableOf heads tails (total .tags) order ≡ tagTable seen
   pub counts : total ≡ countsOf seen
   pub limited : Limited total
 
-pub scanning-start : (file order used : List ℕ) (total : Loaded) → length order ≡ 4352 → Noted used [] → total ≡ countsOf [] → Scanning file used order total 0
+pub scanning-start : (file used heads tails order places : List ℕ) (total : Loaded) → Lengths heads tails order → length places ≡ 4352 → Noted used [] → total ≡ countsOf []
+    → Scanning file used heads tails order places total 0
 unfolding fileFault sum tableOf rising insertAll allTags keep
-scanning-start file order used total full noted e =
+scanning-start file used heads tails order places total l wide noted e =
     let zero-tags : total .tags ≡ 0 = ap (λ (t : Loaded). t .tags) e in
-    let empty : tableOf file (total .tags) order ≡ [] = ap (λ (n : ℕ). tableOf file n order) zero-tags in
+    let empty : tableOf heads tails (total .tags) order ≡ [] = ap (λ (n : ℕ). tableOf heads tails n order) zero-tags in
     record {
       seen = [];
       split = refl;
@@ -53,7 +57,12 @@ scanning-start file order used total full noted e =
       within = omega arith;
       fault = refl;
       noted = noted;
-      sorted = record { full = full; room = omega arith; rises = ap rising empty; inside = λ j h. absurd (omega arith) };
+      sorted = record {
+        holds = record { heads-full = l .heads-full; tails-full = l .tails-full; room = omega arith };
+        listed = record { full = l .order-full; room = omega arith; ids = λ j h. absurd (omega arith); all = λ id h. absurd (omega arith) };
+        rises = ap rising empty;
+      };
+      wide = wide;
       before = λ j h. absurd (omega arith);
       table = empty;
       counts = e;
@@ -67,23 +76,23 @@ scanning-start file order used total full noted e =
     }
 
 -- a fault is what the file is refused with
-pub refused : {file order : List ℕ} (why : Refusal) → fileFault file ≡ some why → Scanned file order (load.Refused why)
+pub refused : {file heads tails order : List ℕ} (why : Refusal) → fileFault file ≡ some why → Scanned file heads tails order (load.Refused why)
 refused why e =
     record { answer = rw e; index = λ n. never (sym e ∙ n); limited = λ n. never (sym e ∙ n) }
   where
     never : {A : Type 0} {w : Refusal} → some w ≡ none → A
     never e = let z : _≡_ {A = ℕ} 0 1 = cc in absurd (omega arith)
 
-module _ {file used order : List ℕ} {total : Loaded} {at : ℕ} (s : Scanning file used order total at) where
+module _ {file used heads tails order places : List ℕ} {total : Loaded} {at : ℕ} (s : Scanning file used heads tails order places total at) where
   -- the reading ended: there are no records from here on
-  pub scanning-stop : (a : ReadAnswer) → readAt file at ≡ a → recordsAt file at ≡ [] → Scanned file order (unless (refusalOf a) (load.Loaded total))
+  pub scanning-stop : (a : ReadAnswer) → readAt file at ≡ a → recordsAt file at ≡ [] → Scanned file heads tails order (unless (refusalOf a) (load.Loaded total))
   unfolding firstFault
   scanning-stop a e stop =
       record {
         answer = ap (λ (o : Option Refusal). unless o (load.Loaded total)) (sym ends) ∙ ap (λ (t : Loaded). unless (fileFault file) (load.Loaded t)) (s .counts ∙ ap countsOf (sym all));
         index = λ n. record {
-          sorted = subst (λ (k : ℕ). Sorted file k order) size (s .sorted);
-          table = ap (λ (k : ℕ). tableOf file k order) (sym size) ∙ s .table ∙ ap tagTable (sym all);
+          sorted = subst (λ (k : ℕ). Sorted heads tails k order) size (s .sorted);
+          table = ap (λ (k : ℕ). tableOf heads tails k order) (sym size) ∙ s .table ∙ ap tagTable (sym all);
         };
         limited = λ n. subst (λ (t : Loaded). Limited t) (s .counts ∙ ap countsOf (sym all)) (s .limited);
       }
@@ -109,55 +118,56 @@ module _ {file used order : List ℕ} {total : Loaded} {at : ℕ} (s : Scanning 
 
     -- the record's number was used
     pub scanning-used : numberUsed (s .seen) this ≡ true → fileFault file ≡ some (NumberUsed at)
-    unfolding faultOf
-    scanning-used t = here ∙ rw (t, ← s .place)
+    scanning-used t = here ∙ rw (fault-used (s .seen) this t, ← s .place)
 
     -- the record passes a limit
     pub scanning-past : numberUsed (s .seen) this ≡ false → tooMany side (s .seen ++ (this ∷ [])) ≡ true → fileFault file ≡ some (TooMany at)
-    unfolding faultOf
-    scanning-past f t = here ∙ rw (f, t, ← s .place)
+    scanning-past f t = here ∙ rw (fault-past (s .seen) this f t, ← s .place)
 
-    pub scanning-ready : c < 256 → Ready file p c (total .tags) order
+    pub scanning-ready : c < 256 → Ready file p c (total .tags) heads tails order places
     scanning-ready byte =
         let w = read-whole file at side n c p next e in
         record {
           sorted = s .sorted;
+          wide = s .wide;
           before = λ j h. omega (arith, s .before j h, w .place);
           inside = omega (arith, w .past, w .within);
           room = omega (arith, s .limited .tags);
         }
 
-    module _ {tags fresh : ℕ} {is : List ℕ} (added : AllAdded file p c (total .tags) order tags fresh is) where
-      table-next : tableOf file tags is ≡ tagTable (s .seen ++ (this ∷ []))
+    module _ {tags fresh : ℕ} {now-heads now-tails now-order now-places : List ℕ}
+        (added : AllAdded file p c (total .tags) heads tails order tags fresh now-heads now-tails now-order now-places) where
+      table-next : tableOf now-heads now-tails tags now-order ≡ tagTable (s .seen ++ (this ∷ []))
       table-next = added .table ∙ ap (λ (l : List ℕ). insertAll l (tagsAt c file p)) (s .table) ∙ sym (tagTable-last (s .seen) this)
 
       counts-next : grownBy total side tags fresh ≡ countsOf (s .seen ++ (this ∷ []))
       counts-next =
           ap (λ (t : Loaded). grownBy t side tags fresh) (s .counts)
           ∙ grown-counts (s .seen) this tags fresh
-          (sym (length-tableOf file tags is (omega (arith, added .sorted .full, added .sorted .room))) ∙ ap length table-next) (added .counted)
+          (sym (sorted-size (added .sorted)) ∙ ap length table-next) (added .counted)
 
       -- what the limits say of it
       pub scanning-over : isOver (grownBy total side tags fresh) side ≡ tooMany side (s .seen ++ (this ∷ []))
       scanning-over = ap (λ (t : Loaded). isOver t side) counts-next ∙ over-tooMany side (s .seen ++ (this ∷ []))
 
-      pub scanning-next : n < 65536 → numberUsed (s .seen) this ≡ false → isOver (grownBy total side tags fresh) side ≡ false
-          → Scanning file (set used (keyOf side n) 1) is (grownBy total side tags fresh) next
-      unfolding faultOf
-      scanning-next small f limit =
+      pub scanning-next : {now-used : List ℕ} {now-total : Loaded} → n < 65536 → numberUsed (s .seen) this ≡ false → Inserted used (keyOf side n) now-used
+          → now-total ≡ grownBy total side tags fresh → isOver (grownBy total side tags fresh) side ≡ false
+          → Scanning file now-used now-heads now-tails now-order now-places now-total next
+      scanning-next {now-used} {now-total} small f noted grew limit =
           let w = read-whole file at side n c p next e in
-          let same = grown-tags total side tags fresh in
+          let same : now-total .tags ≡ tags = ap (λ (t : Loaded). t .tags) grew ∙ grown-tags total side tags fresh in
           record {
             seen = s .seen ++ (this ∷ []);
             split = s .split ∙ ap (λ (l : List TagRecord). s .seen ++ l) (records-next file at side n c p next e)
                 ∙ sym (append-assoc (s .seen) (this ∷ []) (recordsAt file next));
             place = omega (arith, totalLength-last (s .seen) this, s .place, length-tagsAt c file p, w .place, w .past);
             within = w .within;
-            fault = here ∙ rw (f, sym scanning-over ∙ limit);
-            noted = noted-step this small (s .noted);
-            sorted = subst (λ (k : ℕ). Sorted file k is) (sym same) (added .sorted);
+            fault = here ∙ rw (fault-none (s .seen) this f (sym scanning-over ∙ limit));
+            noted = noted-step this small (s .noted) noted;
+            sorted = subst (λ (k : ℕ). Sorted now-heads now-tails k now-order) (sym same) (added .sorted);
+            wide = added .wide;
             before = λ j h. omega (arith, added .before j (subst (λ (k : ℕ). j < k) same h), w .past);
-            table = ap (λ (k : ℕ). tableOf file k is) same ∙ table-next;
-            counts = counts-next;
-            limited = limited-grown total side tags fresh (s .limited) limit;
+            table = ap (λ (k : ℕ). tableOf now-heads now-tails k now-order) same ∙ table-next;
+            counts = grew ∙ counts-next;
+            limited = subst (λ (t : Loaded). Limited t) (sym grew) (limited-grown total side tags fresh (s .limited) limit);
           }

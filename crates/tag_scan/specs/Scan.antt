@@ -4,9 +4,9 @@ use mathlib.Core.Path.{_≡_}
 use mathlib.Core.List.{List}
 use mathlib.Core.Bool.{Bool, _||_}
 use mathlib.Core.Option.{none}
-use lib.Dec.{eqb, ltb}
-use lib.ListN.{length, getD, set}
-use Rattle.lists.specs.Lists.{one}
+use lib.Dec.{ltb}
+use lib.ListN.{length}
+use Rattle.bit_sets.specs.BitSets.{member, Inserted}
 use Rattle.sets.specs.Limits.{maxItems, maxSets, maxEntries}
 use Rattle.sets.specs.declared.Side.{Side}
 use Rattle.sets.specs.declared.Side.the-variants.{Left, Right}
@@ -24,8 +24,8 @@ keyOf Right number = 65536 + number
 
 -- a number was noted: r tells whether it was before
 pub record Claimed (was : List ℕ) (key : ℕ) (r : Bool) (is : List ℕ) : Type 0 where
-  pub before : r ≡ eqb (getD was key 0) 1
-  pub noted : is ≡ set was key 1
+  pub before : r ≡ member was key
+  pub noted : Inserted was key is
 
 -- the counts with one more record of a side: the index has so many tags, and the record so many distinct ones
 abbrev pub grownBy : Loaded → Side → ℕ → ℕ → Loaded
@@ -63,13 +63,19 @@ pub record Limited (t : Loaded) : Type 0 where
   pub right-entries : t .«right_entries» ≤ maxEntries
   pub tags : t .tags ≤ maxItems
 
+-- the lengths of the index's arrays
+pub record Lengths (heads tails order : List ℕ) : Type 0 where
+  pub heads-full : length heads ≡ 4352
+  pub tails-full : length tails ≡ 4352
+  pub order-full : length order ≡ 4352
+
 -- the index of all tags of a file
-pub record Indexed (file : List ℕ) (order : List ℕ) : Type 0 where
-  pub sorted : Sorted file (length (tagTable (records file))) order
-  pub table : tableOf file (length (tagTable (records file))) order ≡ tagTable (records file)
+pub record Indexed (file heads tails order : List ℕ) : Type 0 where
+  pub sorted : Sorted heads tails (length (tagTable (records file))) order
+  pub table : tableOf heads tails (length (tagTable (records file))) order ≡ tagTable (records file)
 
 -- the first pass: the first fault of the file, or its counts; and then the index of its tags
-pub record Scanned (file : List ℕ) (order : List ℕ) (r : LoadAnswer) : Type 0 where
+pub record Scanned (file heads tails order : List ℕ) (r : LoadAnswer) : Type 0 where
   pub answer : r ≡ unless (fileFault file) (load.Loaded (countsOf (records file)))
-  pub index : fileFault file ≡ none → Indexed file order
+  pub index : fileFault file ≡ none → Indexed file heads tails order
   pub limited : fileFault file ≡ none → Limited (countsOf (records file))

@@ -1,4 +1,6 @@
 // The loader's first pass over a tag file: the first record at fault, or the counts of the file and the index of its tags.
+use bit_sets::contains;
+use bit_sets::insert;
 use sets::LoadAnswer;
 use sets::Loaded;
 use sets::Refusal;
@@ -12,7 +14,7 @@ ghost use Prim.Native.Nat.{_≤_};
 ghost use lib.ListN.{length};
 ghost use Rattle.sets.specs.declared.LoadAnswer.the-variants.{Loaded as Accepted};
 ghost use Rattle.tag_file.specs.Loading.{refusalOf, unless};
-ghost use Rattle.tag_scan.specs.Scan.{keyOf, Claimed, grownBy, passes, isOver, Limited, Scanned};
+ghost use Rattle.tag_scan.specs.Scan.{keyOf, Claimed, grownBy, passes, isOver, Limited, Lengths, Scanned};
 
 // Where a side's number is noted.
 fn key_of(side: Side, number: u16) -> usize
@@ -26,13 +28,14 @@ fn key_of(side: Side, number: u16) -> usize
 }
 
 // Notes a number of a side, and tells whether it was noted before.
-fn claim(used: &mut [u8; 131072], side: Side, number: u16) -> bool
+fn claim(used: &mut [u64], side: Side, number: u16) -> bool
+    requires { ⌜ length (now used) ≡ 2048 ⌝ }
     ensures { λ r. ⌜ Claimed (now (used .entry)) (keyOf side number) r (now (used .exit)) ⌝ }
 {
     let key = key_of(side, number);
-    let before = used[key];
-    used[key] = 1;
-    before == 1
+    let before = contains(used, key);
+    insert(used, key);
+    before
 }
 
 // The counts with one more record of a side.
@@ -94,12 +97,18 @@ fn stopped(answer: ReadAnswer, total: Loaded) -> LoadAnswer
 }
 
 // The first pass: the first record at fault, or the counts of the file and the index of its tags.
-pub fn scan(file: &[u8], order: &mut [usize; 4352]) -> LoadAnswer
-    requires { ⌜ length (now order) ≡ 4352 ⌝ }
-    ensures { λ r. ⌜ Scanned (now (file .entry)) (now (order .exit)) r ⌝ }
+pub fn scan(
+    file: &[u8],
+    heads: &mut [usize; 4352],
+    tails: &mut [u32; 4352],
+    order: &mut [u16; 4352],
+    hints: &mut [u16; 16384],
+) -> LoadAnswer
+    requires { ⌜ Lengths (now heads) (now tails) (now order) ⌝ }
+    ensures { λ r. ⌜ Scanned (now (file .entry)) (now (heads .exit)) (now (tails .exit)) (now (order .exit)) r ⌝ }
 {
-    let mut used = [0u8; 131072];
-    let mut hints = [0u16; 8192];
+    let mut used = [0u64; 2048];
+    let mut seen = [0usize; 4352];
     let mut total = Loaded {
         left_sets: 0,
         right_sets: 0,
@@ -124,7 +133,7 @@ pub fn scan(file: &[u8], order: &mut [usize; 4352]) -> LoadAnswer
             return LoadAnswer::Refused(Refusal::NumberUsed(at));
         }
         let n = total.tags;
-        let added = add_tags(file, order, tags, count, n, &mut hints);
+        let added = add_tags(file, heads, tails, order, &mut seen, hints, tags, count, n);
         total = grown(total, side, added);
         if is_over(total, side) {
             return LoadAnswer::Refused(Refusal::TooMany(at));

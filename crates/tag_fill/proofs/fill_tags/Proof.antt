@@ -1,79 +1,86 @@
 -- `tag_fill::fill_tags` meets its contract. The invariant: the tags written and those still to come are together the table
 -- (`Writing`). The measure is how many are left.
-use mathlib.Core.Path.{_≡_, sym, ap, subst, _∙_}
-use mathlib.Core.List.{List}
-use Prim.Native.Nat.{ℕ, _+_, _-_, _≤_}
+use mathlib.Core.Path.{sym, ap}
+use Prim.Native.Nat.{_+_, _-_, _≤_}
 use native.Mathlib.Omega.{arith}
-use lib.ListN.{length, getD, take, drop}
+use lib.ListN.{getD, drop}
+use Rattle.lists.proofs.Writing.{Writing, writing-start, writing-room, writing-step, writing-end, written-whole}
 use Rattle.tag_file.specs.Format.{bytesOf, tagBytes}
-use Rattle.tag_file.proofs.Bytes.{bytesOf-tagAt}
 use Rattle.tag_file.proofs.ItemCount.{length-bytesOf}
 use Rattle.tag_index.specs.Index.{tableOf}
-use Rattle.tag_index.proofs.Search.{length-tableOf, tableOf-at}
-use Rattle.tag_fill.specs.Fill.{Put}
-use Rattle.tag_fill.proofs.Writing.{Writing, writing-start, writing-room, writing-step, writing-end}
+use Rattle.tag_index.proofs.Ids.{sorted-size, sorted-at}
 use Rattle.tag_fill.proofs.TableBytes.{table-next, table-end}
-use Rattle.tag_fill.proofs.Filling.{written-whole}
 use Rattle.tag_fill.proofs.fill_tags.Statement.{statement}
 use Rattle.tag_fill.proofs.fill_tags.Tie as tie
 
 abbrev Inv-loop : tie.InvT-loop
-Inv-loop file order n tags₀ i₀ at₀ tags i at =
-    Writing tags₀ 0 (tagBytes (tableOf file n order)) tags at (tagBytes (drop i (tableOf file n order))) × (i ≤ n)
+Inv-loop heads tails order n tags₀ i₀ at₀ tags i at =
+    Writing tags₀ 0 (tagBytes (tableOf heads tails n order)) tags at (tagBytes (drop i (tableOf heads tails n order))) × (i ≤ n)
 
 abbrev μ-loop : tie.MeasureT-loop
-μ-loop file order n tags₀ i₀ at₀ tags i at =
+μ-loop heads tails order n tags₀ i₀ at₀ tags i at =
     n - i
 
 loop-holds : tie.Need-loop-holds Inv-loop μ-loop
 loop-holds c =
-    let a = c .before .before .args in
-    (writing-start (a .tags .now) 0 (tagBytes (tableOf (a .file .now) (a .n) (a .order .now))) (omega (arith, c .before .before .pre .1)), omega arith)
+    let a = c .before .args in
+    (writing-start (a .tags .now) 0 (tagBytes (tableOf (a .heads .now) (a .tails .now) (a .n) (a .order .now))) (omega (arith, c .before .pre .1)), omega arith)
 
-mul-place : tie.Need-mul-place Inv-loop μ-loop
-mul-place c =
-    omega (arith, c .before .before .before .before .pre .0 .room)
+mul-id : tie.Need-mul-id Inv-loop μ-loop
+mul-id c =
+    omega (arith, c .before .before .before .pre .0 .listed .room)
 
-element-copy-out-place : tie.Need-element-copy-out-place Inv-loop μ-loop
-element-copy-out-place c =
-    omega (arith, c .before .before .before .before .pre .0 .room)
+element-copy-out-id : tie.Need-element-copy-out-id Inv-loop μ-loop
+element-copy-out-id c =
+    omega (arith, c .before .before .before .pre .0 .listed .room)
+
+cast-id : tie.Need-cast-id Inv-loop μ-loop
+cast-id c =
+    omega (arith, c .before .before .before .before .pre .0 .listed .ids (c .before .before .loop .i) (c .before .loop-test .taken), c .before .before .before .before .pre .0 .listed .room)
+
+mul-put-tag : tie.Need-mul-put-tag Inv-loop μ-loop
+mul-put-tag c =
+    omega (arith, c .before .before .before .before .pre .0 .listed .ids (c .before .before .loop .i) (c .before .loop-test .taken), c .before .before .before .before .pre .0 .listed .room)
+
+element-copy-out-put-tag : tie.Need-element-copy-out-put-tag Inv-loop μ-loop
+element-copy-out-put-tag c =
+    omega (arith, c .before .before .before .before .pre .0 .listed .ids (c .before .before .loop .i) (c .before .loop-test .taken), c .before .before .before .before .pre .0 .listed .room)
+
+mul-put-tag-2 : tie.Need-mul-put-tag-2 Inv-loop μ-loop
+mul-put-tag-2 c =
+    omega (arith, c .before .before .before .before .before .pre .0 .listed .ids (c .before .before .before .loop .i) (c .before .before .loop-test .taken), c .before .before .before .before .before .pre .0 .listed .room)
+
+element-copy-out-put-tag-2 : tie.Need-element-copy-out-put-tag-2 Inv-loop μ-loop
+element-copy-out-put-tag-2 c =
+    omega (arith, c .before .before .before .before .before .pre .0 .listed .ids (c .before .before .before .loop .i) (c .before .before .loop-test .taken), c .before .before .before .before .before .pre .0 .listed .room)
 
 put-tag-requires : tie.Need-put-tag-requires Inv-loop μ-loop
 put-tag-requires c κs =
-    let a = c .before .before .before .before .before .before .args in
-    let s = c .before .before .before .before .before .before .pre .0 in
-    let file = a .file .now in
-    let order = a .order .now in
-    let table = tableOf file (a .n) order in
-    let full : a .n ≤ length order = omega (arith, s .full, s .room) in
-    let size = length-tableOf file (a .n) order full in
-    let i = c .before .before .before .loop .i in
-    let next = table-next table i (omega (arith, size, c .before .before .loop-test .taken)) in
-    let room = writing-room (c .before .before .before .loop .inv .0) (bytesOf 12 (getD table i 0)) (tagBytes (drop (i + 1) table)) next in
-    (s .inside i (c .before .before .loop-test .taken), omega (arith, room, length-bytesOf 12 (getD table i 0)))
+    let a = c .before .before .before .before .before .before .before .args in
+    let s = c .before .before .before .before .before .before .before .pre .0 in
+    let table = tableOf (a .heads .now) (a .tails .now) (a .n) (a .order .now) in
+    let i = c .before .before .before .before .before .loop .i in
+    let next = table-next table i (omega (arith, sorted-size s, c .before .before .before .before .loop-test .taken)) in
+    omega (arith, writing-room (c .before .before .before .before .before .loop .inv .0) (bytesOf 12 (getD table i 0)) (tagBytes (drop (i + 1) table)) next, length-bytesOf 12 (getD table i 0))
 
 add-i : tie.Need-add-i Inv-loop μ-loop
-add-i c = omega arith
+add-i c =
+    omega arith
 
 loop-less : tie.Need-loop-less Inv-loop μ-loop
-loop-less c = omega arith
+loop-less c =
+    omega arith
 
 loop-again : tie.Need-loop-again Inv-loop μ-loop
 loop-again c =
-    let a = c .before .before .before .before .before .before .before .before .before .args in
-    let s = c .before .before .before .before .before .before .before .before .before .pre .0 in
-    let file = a .file .now in
-    let order = a .order .now in
-    let table = tableOf file (a .n) order in
-    let full : a .n ≤ length order = omega (arith, s .full, s .room) in
-    let size = length-tableOf file (a .n) order full in
-    let i = c .before .before .before .before .before .before .loop .i in
-    let next = table-next table i (omega (arith, size, c .before .before .before .before .before .loop-test .taken)) in
-    let room = writing-room (c .before .before .before .before .before .before .loop .inv .0) (bytesOf 12 (getD table i 0)) (tagBytes (drop (i + 1) table)) next in
-    let same : take 12 (drop (getD order i 0) file) ≡ bytesOf 12 (getD table i 0) =
-    sym (ap (bytesOf 12) (tableOf-at file (a .n) order full i (c .before .before .before .before .before .loop-test .taken)) ∙ bytesOf-tagAt file (getD order i 0) (s .inside i (c .before .before .before .before .before .loop-test .taken)) (λ k. omega (arith, c .before .before .before .before .before .before .before .before .shared-slice-known .given k)))
-    in
-    (writing-step (c .before .before .before .before .before .before .loop .inv .0) next (subst (λ (l : List ℕ). Put (c .before .before .before .before .before .before .loop .tags) (c .before .before .before .before .before .before .loop .at) l (c .before .before .put-tag .result) (c .before .before .put-tag .last .1 .1 .0)) same (c .before .before .put-tag .ensures)), omega arith)
+    let a = c .before .before .before .before .before .before .before .before .before .before .args in
+    let s = c .before .before .before .before .before .before .before .before .before .before .pre .0 in
+    let table = tableOf (a .heads .now) (a .tails .now) (a .n) (a .order .now) in
+    let i = c .before .before .before .before .before .before .before .before .loop .i in
+    let inside = c .before .before .before .before .before .before .before .loop-test .taken in
+    let next = table-next table i (omega (arith, sorted-size s)) in
+    let here = ap (bytesOf 12) (sym (sorted-at s i inside)) in
+    (writing-step (c .before .before .before .before .before .before .before .before .loop .inv .0) next (rw here at (c .before .before .put-tag .ensures)), omega arith)
 
 same-length : tie.Need-same-length Inv-loop μ-loop
 same-length c =
@@ -81,15 +88,10 @@ same-length c =
 
 returns : tie.Need-returns Inv-loop μ-loop
 returns c =
-    let a = c .before .before .before .before .args in
-    let s = c .before .before .before .before .pre .0 in
-    let file = a .file .now in
-    let order = a .order .now in
-    let table = tableOf file (a .n) order in
-    let full : a .n ≤ length order = omega (arith, s .full, s .room) in
-    let size = length-tableOf file (a .n) order full in
-    let i = c .before .loop .i in
-    written-whole (writing-end (c .before .loop .inv .0) (table-end table i (omega (arith, size, c .loop-test .left)))) (omega (arith, c .before .before .before .before .pre .1))
+    let a = c .before .before .before .args in
+    let table = tableOf (a .heads .now) (a .tails .now) (a .n) (a .order .now) in
+    let past = table-end table (c .before .loop .i) (omega (arith, sorted-size (c .before .before .before .pre .0), c .loop-test .left)) in
+    written-whole (writing-end (c .before .loop .inv .0) past) (omega (arith, c .before .before .before .pre .1))
 
 pub fill-tags-spec : {M : Type 1} → statement M
 fill-tags-spec =
@@ -98,8 +100,13 @@ fill-tags-spec =
     Inv-loop
     μ-loop
     loop-holds
-    mul-place
-    element-copy-out-place
+    mul-id
+    element-copy-out-id
+    cast-id
+    mul-put-tag
+    element-copy-out-put-tag
+    mul-put-tag-2
+    element-copy-out-put-tag-2
     put-tag-requires
     add-i
     loop-less
