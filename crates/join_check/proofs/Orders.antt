@@ -14,7 +14,8 @@ use Rattle.lists.proofs.Filtering.{all-keep}
 use Rattle.lists.proofs.Ranges.{all-upto}
 use Rattle.lists.proofs.Slices.{slice-past, slice-next, slice-split}
 use Rattle.join_spec.specs.Query.{Query}
-use Rattle.join_index.specs.Grouping.{groupsFrom, keyAt, orderFrom, orderOf}
+use Rattle.counting_sort.specs.Groups.{groupsFrom}
+use Rattle.join_index.specs.Grouping.{keyAt, orderFrom, orderOf}
 use Rattle.join_index.specs.declared.Layout.{Layout}
 use Rattle.join_check.specs.Words.{Word}
 use Rattle.join_check.specs.Asking.{Index, LeftThere, RunThere}

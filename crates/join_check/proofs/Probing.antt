@@ -14,7 +14,7 @@ use Rattle.sets.specs.Marks.{signature, drops}
 use Rattle.sets.proofs.Ordered.{ordered-rising}
 use Rattle.join_spec.specs.Query.{Query}
 use Rattle.join_spec.specs.Walk.{Outcome, dropped, falseDrop, confirmed}
-use Rattle.join_index.specs.Ground.{double}
+use Rattle.signatures.specs.Signing.{double}
 use Rattle.join_index.specs.Grouping.{leftAt, rightAt}
 use Rattle.join_index.specs.declared.Layout.{Layout}
 use Rattle.join_check.specs.declared.Tally.{Tally}

@@ -7,8 +7,8 @@ use native.Mathlib.Omega.{arith}
 use lib.ListN.{length, getD, take, drop}
 use lib.Seq.{length-slice, getD-drop, getD-take, drop-drop}
 use Rattle.lists.specs.Lists.{slice}
-use Rattle.join_index.specs.Holding.{Holds}
-use Rattle.join_index.specs.Ground.{startOf}
+use Rattle.counting_sort.specs.Holding.{Holds}
+use Rattle.index_keys.specs.Entries.{startOf}
 use Rattle.join_index.specs.Grouping.{leftAt, rightAt, keyAt}
 use Rattle.join_index.specs.declared.Layout.{Layout}
 use Rattle.join_spec.specs.Query.{Query}

@@ -3,7 +3,7 @@
 ghost use mathlib.Core.Path.{_≡_};
 ghost use Prim.Native.Nat.{_+_, _<_};
 ghost use lib.ListN.{length, getD};
-ghost use Rattle.join_index.specs.Ground.{double};
+ghost use Rattle.signatures.specs.Signing.{double};
 ghost use Rattle.join_check.specs.Words.{Word, Flag};
 
 // The word at a place.

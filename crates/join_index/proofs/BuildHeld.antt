@@ -11,10 +11,9 @@ use Rattle.lists.specs.Lists.{all, slice}
 use Rattle.lists.proofs.Slices.{frame-at, frame-less, frame-slice}
 use Rattle.sets.specs.Limits.{maxSets, maxItems}
 use Rattle.sets.specs.Ordered.{ordered}
-use Rattle.join_index.specs.Holding.{Holds}
-use Rattle.join_index.specs.Sorting.{sortedAt}
-use Rattle.join_index.specs.Ground.{startOf}
-use Rattle.join_index.specs.Entries.{setAt}
+use Rattle.counting_sort.specs.Holding.{Holds}
+use Rattle.counting_sort.specs.Sorting.{sortedAt}
+use Rattle.index_keys.specs.Entries.{startOf, setAt}
 use Rattle.join_index.specs.Stages.{SideHeld, SetsHeld, startsAt, ranksAt, sideEnd, holdersOf}
 
 -- a run in a later list, below a higher top

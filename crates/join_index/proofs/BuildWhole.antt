@@ -22,12 +22,13 @@ use Rattle.sets.proofs.Permutation.{permutation-length}
 use Rattle.sets.proofs.Ordered.{subset-ordered}
 use Rattle.join_spec.specs.Query.{Query, query}
 use Rattle.join_spec.specs.Node.{seen}
-use Rattle.join_index.specs.Grouping.{grouped, leftAt, rightAt, keyAt, orderFrom, orderOf}
-use Rattle.join_index.specs.Holding.{Holds}
-use Rattle.join_index.specs.Sorting.{sortedAt}
-use Rattle.join_index.specs.Ground.{Ground, Listing, startOf, seenCount}
-use Rattle.join_index.specs.Entries.{setAt, keyIn}
-use Rattle.join_index.specs.Signing.{BothRoom, BothSigned}
+use Rattle.counting_sort.specs.Groups.{grouped}
+use Rattle.join_index.specs.Grouping.{leftAt, rightAt, keyAt, orderFrom, orderOf}
+use Rattle.counting_sort.specs.Holding.{Holds}
+use Rattle.counting_sort.specs.Sorting.{sortedAt}
+use Rattle.index_keys.specs.Entries.{startOf, setAt, keyIn}
+use Rattle.join_index.specs.Ground.{Ground, Listing, seenCount}
+use Rattle.signatures.specs.Signing.{BothRoom, BothSigned}
 use Rattle.join_index.specs.Stages.{SideRoom, SideBuilt, StageRoom, LeastBuilt, OrderBuilt}
 use Rattle.join_index.specs.Stages.{startsAt, ranksAt, sideEnd, orderedBy, heldKey}
 use Rattle.join_index.specs.Building.{Sizes, LaidOut, BuildRoom, leftBase}

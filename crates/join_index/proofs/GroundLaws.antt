@@ -1,5 +1,5 @@
 -- What the regions of the work list keep while only words from the slots on change; and that the offsets of the inverted lists rise.
-use Prim.Native.Nat.{ℕ, zero, suc, _+_, _-_, _*_, _^_, _≤_, _<_}
+use Prim.Native.Nat.{ℕ, zero, suc, _+_, _-_, _*_, _≤_, _<_}
 use mathlib.Core.Path.{_≡_, refl, ap, ap₂, _∙_}
 use mathlib.Core.List.{List}
 use native.Mathlib.Nat.{add-zero, add-suc}
@@ -8,8 +8,10 @@ use lib.ListN.{length, take, getD}
 use Rattle.lists.specs.Lists.{count, slice}
 use Rattle.lists.proofs.Slices.{frame-at, frame-slice}
 use Rattle.join_spec.specs.Query.{Query}
-use Rattle.join_index.specs.Holding.{Holds}
-use Rattle.join_index.specs.Ground.{Ground, double, startOf, offsetOf, seenCount}
+use Rattle.counting_sort.specs.Holding.{Holds}
+use Rattle.signatures.proofs.SigningSets.{double-stays}
+use Rattle.index_keys.specs.Entries.{startOf}
+use Rattle.join_index.specs.Ground.{Ground, offsetOf, seenCount}
 use Rattle.join_index.specs.declared.Layout.{Layout}
 
 -- a run whose bounds are the same in a list that is the same up to the top
@@ -29,10 +31,6 @@ module _ (w v : List ℕ) (top : ℕ) (kept : take top v ≡ take top w) where
 
   same-start : (starts ranks k : ℕ) → starts + k < top → startOf v starts ranks k ≡ startOf w starts ranks k
   same-start starts ranks k h = ap (λ (n : ℕ). ranks + n) (same-at (starts + k) h)
-
-  same-double : (i : ℕ) → i + 1 < top → double v i ≡ double w i
-  same-double i h =
-      ap₂ (λ (a b : ℕ). a + 2 ^ 32 * b) (same-at i (omega arith)) (same-at (i + 1) h)
 
 module _ (lay : Layout) (q : Query) (w v : List ℕ) (kept : take (lay .slots) v ≡ take (lay .slots) w) (size : length v ≡ length w)
     (g : Ground lay q w) where
@@ -64,10 +62,10 @@ module _ (lay : Layout) (q : Query) (w v : List ℕ) (kept : take (lay .slots) v
             (omega (arith, g .rightStartsWithin)))
             (g .right s h);
         leftSignature =
-            λ k h. same-double w v (lay .slots) kept (lay .«left_signatures» + 2 * k) (omega (arith, g .leftSignaturesWithin))
+            λ k h. double-stays (lay .slots) (lay .«left_signatures» + 2 * k) w v kept (omega (arith, g .leftSignaturesWithin))
             ∙ g .leftSignature k h;
         rightSignature =
-            λ s h. same-double w v (lay .slots) kept (lay .«right_signatures» + 2 * s) (omega (arith, g .rightSignaturesWithin))
+            λ s h. double-stays (lay .slots) (lay .«right_signatures» + 2 * s) w v kept (omega (arith, g .rightSignaturesWithin))
             ∙ g .rightSignature s h;
         inverted =
             λ r h. holds-frame kept

@@ -9,7 +9,7 @@ use Rattle.sets.specs.Collections.{firstBad}
 use Rattle.sets.specs.Ordered.{isPermutation}
 use Rattle.sets.specs.declared.Verdict.the-variants.{Good}
 use Rattle.join_spec.specs.Answer.{workNeeded}
-use Rattle.join_index.specs.Sorting.{sortedAt}
+use Rattle.counting_sort.specs.Sorting.{sortedAt}
 use Rattle.join_index.specs.Stages.{startsAt, ranksAt, sideEnd}
 use Rattle.join_index.specs.declared.Layout.{Layout}
 

@@ -1,6 +1,6 @@
 -- What the regions of the work list hold while the walk goes on: the facts that every step of the walk may use. All of it lies
 -- below the candidate slots, which alone change.
-use Prim.Native.Nat.{ℕ, suc, _+_, _*_, _^_, _≤_, _<_}
+use Prim.Native.Nat.{ℕ, suc, _+_, _*_, _≤_, _<_}
 use mathlib.Core.Path.{_≡_}
 use mathlib.Core.List.{List, []}
 use mathlib.Core.Bool.{Bool, _&&_}
@@ -12,20 +12,14 @@ use Rattle.sets.specs.Marks.{signature}
 use Rattle.join_spec.specs.Query.{Query}
 use Rattle.join_spec.specs.Node.{seen}
 use Rattle.join_index.specs.Grouping.{leftAt, rightAt, orderOf}
-use Rattle.join_index.specs.Holding.{Holds}
+use Rattle.counting_sort.specs.Holding.{Holds}
+use Rattle.signatures.specs.Signing.{double}
+use Rattle.index_keys.specs.Entries.{startOf}
 use Rattle.join_index.specs.declared.Layout.{Layout}
-
--- two words, low then high, as one number
-abbrev pub double : List ℕ → ℕ → ℕ
-double w i = getD w i 0 + 2 ^ 32 * getD w (i + 1) 0
 
 -- the list holds, in some order and each once, the places below n that pass the test
 abbrev pub Listing : ℕ → (ℕ → Bool) → List ℕ → Type 0
 Listing n test list = (p : ℕ → Bool) → count p list ≡ count (λ s. test s && p s) (upto n)
-
--- where the ranks of set k begin
-abbrev pub startOf : List ℕ → ℕ → ℕ → ℕ → ℕ
-startOf w starts ranks k = ranks + getD w (starts + k) 0
 
 -- the places of the right sets holding rank r, rising
 abbrev pub invertedList : Query → ℕ → List ℕ

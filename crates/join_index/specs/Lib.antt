@@ -1,10 +1,5 @@
--- Contents: stable grouping by a key and the order of the left sets, what a counting sort leaves behind, and what the regions of the
--- work list hold during the walk.
+-- Contents: the order of the left sets, what the regions of the work list hold during the walk, and what the stages of the build leave.
 pub mod Grouping
-pub mod Holding
-pub mod Sorting
 pub mod Ground
-pub mod Entries
-pub mod Signing
 pub mod Stages
 pub mod Building

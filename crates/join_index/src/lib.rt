@@ -2,9 +2,6 @@
 // signatures, the inverted index of the right sets, and the left sets in the order of their paths.
 
 pub mod build;
-mod keys;
-mod signatures;
-mod sort;
 
 // Where each region of the work list begins. None but the slots changes during the walk. Each pair of an offsets region and the
 // region it counts from is what one counting sort leaves behind.

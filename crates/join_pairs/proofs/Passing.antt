@@ -15,7 +15,7 @@ use Rattle.lists.proofs.Slices.{slice-past}
 use Rattle.sets.specs.Marks.{signature}
 use Rattle.sets.proofs.Signatures.{contained-not-dropped}
 use Rattle.join_spec.specs.Query.{Query}
-use Rattle.join_index.specs.Ground.{double}
+use Rattle.signatures.specs.Signing.{double}
 use Rattle.join_index.specs.Grouping.{rightAt}
 use Rattle.join_index.specs.declared.Layout.{Layout}
 use Rattle.join_check.specs.declared.checks.Probe.{Probe}

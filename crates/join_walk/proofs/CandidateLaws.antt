@@ -11,7 +11,7 @@ use Rattle.join_spec.specs.Query.{Query}
 use Rattle.join_spec.specs.Node.{lastOf}
 use Rattle.join_spec.specs.Walk.{isCandidate}
 use Rattle.join_index.specs.Grouping.{rightAt}
-use Rattle.join_index.specs.Holding.{Holds}
+use Rattle.counting_sort.specs.Holding.{Holds}
 use Rattle.join_index.specs.Ground.{invertedList, offsetOf}
 use Rattle.join_index.specs.declared.Layout.{Layout}
 use Rattle.join_check.specs.Words.{Word}

@@ -20,7 +20,8 @@ use Rattle.sets.proofs.Ordered.{ordered-rising}
 use Rattle.join_spec.specs.Query.{Query}
 use Rattle.join_spec.specs.Node.{lastOf}
 use Rattle.join_spec.specs.Walk.{isCandidate}
-use Rattle.join_index.specs.Grouping.{leftAt, rightAt, keyAt, groupsFrom, orderFrom}
+use Rattle.counting_sort.specs.Groups.{groupsFrom}
+use Rattle.join_index.specs.Grouping.{leftAt, rightAt, keyAt, orderFrom}
 use Rattle.join_index.specs.Ground.{Listing}
 use Rattle.join_index.specs.declared.Layout.{Layout}
 use Rattle.join_index.proofs.GroundLaws.{offsets-rise}

@@ -12,7 +12,8 @@ use Rattle.lists.specs.Lists.{all, keep, prefix}
 use Rattle.lists.proofs.Throughout.{all-weaken}
 use Rattle.lists.proofs.Filtering.{all-kept}
 use Rattle.join_spec.specs.Query.{Query}
-use Rattle.join_index.specs.Grouping.{leftAt, keyAt, groupsFrom, orderFrom}
+use Rattle.counting_sort.specs.Groups.{groupsFrom}
+use Rattle.join_index.specs.Grouping.{leftAt, keyAt, orderFrom}
 use Rattle.join_index.specs.declared.Layout.{Layout}
 use Rattle.join_check.specs.Words.{Word}
 use Rattle.join_check.specs.Asking.{LeftThere, RunThere}

@@ -11,7 +11,7 @@ use Rattle.lists.proofs.Bools.{by-test, and-left, and-right, and-both, same-tes
 use Rattle.lists.proofs.Throughout.{all-append, all-weaken}
 use Rattle.lists.proofs.Counting.{count-same, count-append, count-none, count-or}
 use Rattle.lists.proofs.Filtering.{keep-append, keep-same, keep-keep, count-keep, all-kept}
-use Rattle.join_index.specs.Grouping.{groupsFrom}
+use Rattle.counting_sort.specs.Groups.{groupsFrom}
 
 -- what all have the first has
 pub first-of : (p : ℕ → Bool) (x : ℕ) (xs : List ℕ) → all p (x ∷ xs) ≡ true → p x ≡ true

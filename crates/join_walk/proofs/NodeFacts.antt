@@ -19,7 +19,7 @@ use Rattle.join_spec.specs.Query.{Query, inOrder}
 use Rattle.join_spec.specs.Node.{seen, firstOf, lastOf, candidates, beginning, goesOn, goesOnAt}
 use Rattle.join_spec.specs.Walk.{isCandidate}
 use Rattle.join_index.specs.Grouping.{leftAt, rightAt, keyAt}
-use Rattle.join_index.specs.Holding.{Holds}
+use Rattle.counting_sort.specs.Holding.{Holds}
 use Rattle.join_index.specs.Ground.{invertedList}
 use Rattle.join_index.specs.declared.Layout.{Layout}
 use Rattle.join_check.specs.Asking.{Index, LeftThere, PlacesThere}

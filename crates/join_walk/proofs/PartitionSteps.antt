@@ -12,7 +12,8 @@ use Rattle.lists.proofs.Bools.{true-false}
 use Rattle.join_spec.specs.Query.{Query}
 use Rattle.join_spec.specs.Node.{seen}
 use Rattle.join_spec.specs.Walk.{isCandidate}
-use Rattle.join_index.specs.Grouping.{leftAt, rightAt, keyAt, groupsFrom, orderFrom}
+use Rattle.counting_sort.specs.Groups.{groupsFrom}
+use Rattle.join_index.specs.Grouping.{leftAt, rightAt, keyAt, orderFrom}
 use Rattle.join_index.specs.Ground.{Listing, seenCount}
 use Rattle.join_index.specs.declared.Layout.{Layout}
 use Rattle.join_check.specs.Asking.{Some, RunThere, LeftThere}

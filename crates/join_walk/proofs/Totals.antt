@@ -16,7 +16,8 @@ use Rattle.lists.proofs.Ranges.{sum-places, count-places}
 use Rattle.join_spec.specs.Query.{Query}
 use Rattle.join_spec.specs.Walk.{Outcome, byPath, Ending, ending, endingIn, outcome, outcomeAfter, isCandidate, endingFrom}
 use Rattle.join_spec.specs.Counting.{total}
-use Rattle.join_index.specs.Grouping.{leftAt, rightAt, keyAt, groupsFrom, orderFrom}
+use Rattle.counting_sort.specs.Groups.{groupsFrom}
+use Rattle.join_index.specs.Grouping.{leftAt, rightAt, keyAt, orderFrom}
 use Rattle.join_walk.specs.Rows.{goes, row, outcomeFrom}
 use Rattle.join_walk.proofs.Groups.{within, within-zero, within-suc, apart}
 use Rattle.join_walk.proofs.NodeLaws.{key-below}

@@ -8,7 +8,8 @@ use lib.ListN.{length}
 use Rattle.sets.specs.Limits.{maxLimit}
 use Rattle.join_spec.specs.Query.{Query}
 use Rattle.join_spec.specs.Counting.{total, isByPath, isConfirmed, isDropped, isFalse, isCheck}
-use Rattle.join_index.specs.Grouping.{keyAt, groupsFrom}
+use Rattle.counting_sort.specs.Groups.{groupsFrom}
+use Rattle.join_index.specs.Grouping.{keyAt}
 use Rattle.join_index.specs.declared.Layout.{Layout}
 use Rattle.join_check.specs.Asking.{Index}
 use Rattle.join_check.specs.Runs.{run}

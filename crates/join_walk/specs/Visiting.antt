@@ -10,7 +10,8 @@ use Rattle.sets.specs.Limits.{maxLimit}
 use Rattle.join_spec.specs.Query.{Query}
 use Rattle.join_spec.specs.Node.{lastOf}
 use Rattle.join_spec.specs.Counting.{isByPath, isConfirmed, isDropped, isFalse, isCheck}
-use Rattle.join_index.specs.Grouping.{leftAt, keyAt, groupsFrom, orderFrom}
+use Rattle.counting_sort.specs.Groups.{groupsFrom}
+use Rattle.join_index.specs.Grouping.{leftAt, keyAt, orderFrom}
 use Rattle.join_index.specs.declared.Layout.{Layout}
 use Rattle.join_check.specs.Asking.{Index}
 use Rattle.join_check.specs.Runs.{run, leftIn}

@@ -7,12 +7,13 @@ use Prim.Native.Nat.{ℕ, zero, suc, _+_, _-_, _<_, _≤_}
 use native.Mathlib.Numerals.{add-one}
 use native.Mathlib.Nat.{add-zero, zero-add}
 use native.Mathlib.Omega.{arith}
-use borrow.Author.Tests.{leb-true, leb-false, le-leb, lt-leb, not-false}
+use borrow.Author.Tests.{ltb-true, leb-true, leb-false, le-leb, lt-leb, not-false}
 use lib.Dec.{leb, ltb, lit≤}
 use lib.ListN.{length, getD, drop, drop-of-length-le}
-use lib.Seq.{drop-cons}
+use lib.Seq.{drop-cons, getD-take, getD-drop}
 use Rattle.lists.specs.Lists.{all, rising}
 use Rattle.lists.proofs.Bools.{by-test, and-left, and-right, and-both, or-left-false, or-right-false}
+use Rattle.lists.proofs.Throughout.{all-at}
 use Rattle.sets.specs.Limits.{maxSets, maxEntries, maxSetLength}
 use Rattle.sets.specs.Collections.{between, setsFrom, setsOf, goodItems, goodEnd, badSet}
 use Rattle.sets.specs.Collections.{firstBadFrom, firstBad, lastEnd, entries}
@@ -92,6 +93,18 @@ good-set T k start end items e =
       rises = and-right (all (λ i. ltb i T) set) (rising set) ranks;
       good = at-items;
     }
+
+-- the items of a good set are below T
+pub set-item : (T start end : ℕ) (items : List ℕ) (k : ℕ) → GoodSet T k start end items → (e : ℕ) → start ≤ e → e < end
+    → getD items e 0 < T
+set-item T start end items k good e low high =
+    let long = length-between start end items (good .within) in
+    let there : start + (e - start) ≡ e = omega arith in
+    let at : getD (between start end items) (e - start) 0 ≡ getD items e 0 =
+    getD-take (end - start) (drop start items) (e - start) 0 (omega arith) ∙ getD-drop start items (e - start) 0 ∙ rw there
+    in
+    let test = all-at (λ (i : ℕ). ltb i T) 0 (between start end items) (good .below) (e - start) (omega arith) in
+    ltb-true (getD items e 0) T (rw at at test)
 
 -- the walk that ends Good over the ends that are left: what holds of the first set, and that the rest is Good
 unfolds-cons : (T k start end : ℕ) (ends items : List ℕ) (b : Bool) → badSet T k start end items ≡ b

@@ -1,0 +1,110 @@
+-- `signatures::sign_set` meets its contract. The invariant: the word so far, with the bits of the items that are
+-- left, is the signature. The measure is how many items are left.
+use Prim.Native.Nat.{_-_, _≤_}
+use mathlib.Core.Path.{_≡_, refl, sym, _∙_}
+use native.Mathlib.Omega.{arith}
+use Rattle.sets.specs.Collections.{between}
+use Rattle.sets.specs.Marks.{signatureFrom, signature}
+use Rattle.signatures.proofs.Signing.{bit-below, sign-step, sign-end}
+use Rattle.signatures.proofs.sign_set.Statement.{statement}
+use Rattle.signatures.proofs.sign_set.Tie as tie
+
+abbrev Inv-loop : tie.InvT-loop
+Inv-loop items table start end mark₀ i₀ mark i =
+    (start ≤ i) × (signatureFrom mark (between i end items) ≡ signature (between start end items))
+
+abbrev μ-loop : tie.MeasureT-loop
+μ-loop items table start end mark₀ i₀ mark i = end - i
+
+loop-holds : tie.Need-loop-holds Inv-loop μ-loop
+loop-holds c = (omega arith, refl)
+
+mul-item : tie.Need-mul-item Inv-loop μ-loop
+mul-item c = omega arith
+
+shared-slice-read-item : tie.Need-shared-slice-read-item Inv-loop μ-loop
+shared-slice-read-item c = omega arith
+
+cast-item : tie.Need-cast-item Inv-loop μ-loop
+cast-item c =
+    let at-loop = c .before .before in
+    let s = at-loop .before in
+    let a = s .args in
+    let l = at-loop .loop in
+    omega (arith, c .shared-slice-known .given (l .i))
+
+shared-slice-read-bit : tie.Need-shared-slice-read-bit Inv-loop μ-loop
+shared-slice-read-bit c =
+    let at-loop = c .before .before .before in
+    let s = at-loop .before in
+    let a = s .args in
+    let l = at-loop .loop in
+    s .pre .below (l .i) (l .inv .0) (omega arith)
+
+cast-bit : tie.Need-cast-bit Inv-loop μ-loop
+cast-bit c =
+    let at-loop = c .before .before .before in
+    let s = at-loop .before in
+    let a = s .args in
+    let l = at-loop .loop in
+    omega (arith, bit-below (a .start) (a .end) (a .items .now) (a .table .now) (s .pre) (l .i) (l .inv .0) (omega arith))
+
+cast-mark : tie.Need-cast-mark Inv-loop μ-loop
+cast-mark c =
+    let at-loop = c .before .before .before in
+    let s = at-loop .before in
+    let a = s .args in
+    let l = at-loop .loop in
+    omega (arith, bit-below (a .start) (a .end) (a .items .now) (a .table .now) (s .pre) (l .i) (l .inv .0) (omega arith))
+
+shl-mark : tie.Need-shl-mark Inv-loop μ-loop
+shl-mark c =
+    let at-loop = c .before .before .before in
+    let s = at-loop .before in
+    let a = s .args in
+    let l = at-loop .loop in
+    bit-below (a .start) (a .end) (a .items .now) (a .table .now) (s .pre) (l .i) (l .inv .0) (omega arith)
+
+add-i : tie.Need-add-i Inv-loop μ-loop
+add-i c = omega arith
+
+loop-less : tie.Need-loop-less Inv-loop μ-loop
+loop-less c = omega arith
+
+loop-again : tie.Need-loop-again Inv-loop μ-loop
+loop-again c =
+    let at-loop = c .before .before .before in
+    let s = at-loop .before in
+    let a = s .args in
+    let l = at-loop .loop in (
+      omega arith,
+      sign-step (a .start) (a .end) (a .items .now) (a .table .now) (s .pre) (l .i) (l .inv .0) (omega arith)
+          (l .mark) ∙ l .inv .1,
+    )
+
+returns : tie.Need-returns Inv-loop μ-loop
+returns c =
+    let at-loop = c .before in
+    let s = at-loop .before in
+    let a = s .args in
+    let l = at-loop .loop in
+    sym (sign-end (a .end) (l .i) (l .mark) (a .items .now) (omega arith)) ∙ l .inv .1
+
+pub sign-set-spec : {M : Type 1} → statement M
+sign-set-spec =
+    tie.close
+    (tie.spec
+    Inv-loop
+    μ-loop
+    loop-holds
+    mul-item
+    shared-slice-read-item
+    cast-item
+    shared-slice-read-bit
+    cast-bit
+    cast-mark
+    shl-mark
+    add-i
+    loop-less
+    loop-again
+    returns)

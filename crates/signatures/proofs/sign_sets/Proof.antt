@@ -1,0 +1,104 @@
+-- `signatures::sign_sets` meets its contract. The invariant: the signatures of the first k sets are written, and the
+-- next set begins at `start`. The measure is how many sets are left.
+use Prim.Native.Nat.{_-_}
+use mathlib.Core.Path.{_≡_, refl}
+use native.Mathlib.Omega.{arith}
+use lib.ListN.{length}
+use Rattle.signatures.proofs.SigningSets.{SigningLeft, signing-start, signing-items, signing-step, signing-end}
+use Rattle.signatures.proofs.sign_sets.Statement.{statement}
+use Rattle.signatures.proofs.sign_sets.Tie as tie
+
+abbrev Inv-loop : tie.InvT-loop
+Inv-loop work₀ ends items table at start₀ k₀ k-end work start k =
+    (k-end ≡ length ends) × SigningLeft at ends items table work₀ work start k
+
+abbrev μ-loop : tie.MeasureT-loop
+μ-loop work₀ ends items table at start₀ k₀ k-end work start k = k-end - k
+
+loop-holds : tie.Need-loop-holds Inv-loop μ-loop
+loop-holds c =
+    let s = c .before .before .before .before in
+    let a = s .args in
+    (refl, signing-start (a .at) (a .ends .now) (a .items .now) (a .table .now) (a .work .now) (s .pre))
+
+mul-end : tie.Need-mul-end Inv-loop μ-loop
+mul-end c = omega arith
+
+shared-slice-read-end : tie.Need-shared-slice-read-end Inv-loop μ-loop
+shared-slice-read-end c = omega arith
+
+cast-end : tie.Need-cast-end Inv-loop μ-loop
+cast-end c = omega (arith, c .shared-slice-known4 .given (c .before .before .loop .k))
+
+sign-set-requires : tie.Need-sign-set-requires Inv-loop μ-loop
+sign-set-requires c κs =
+    let at-loop = c .before .before in
+    let s = at-loop .before .before .before .before .before in
+    let a = s .args in
+    let l = at-loop .loop in
+    signing-items (a .at) (a .ends .now) (a .items .now) (a .table .now) (a .work .now) (l .work) (l .start) (l .k) (s .pre)
+    (l .inv .1)
+    (omega arith)
+
+mul-store-double : tie.Need-mul-store-double Inv-loop μ-loop
+mul-store-double c = omega arith
+
+add-store-double : tie.Need-add-store-double Inv-loop μ-loop
+add-store-double c = omega arith
+
+store-double-requires : tie.Need-store-double-requires Inv-loop μ-loop
+store-double-requires c κs =
+    let at-loop = c .before .before .before .before in
+    let size = at-loop .loop .inv .1 .signed .size in
+    omega arith
+
+add-k : tie.Need-add-k Inv-loop μ-loop
+add-k c = omega arith
+
+loop-less : tie.Need-loop-less Inv-loop μ-loop
+loop-less c = omega arith
+
+loop-again : tie.Need-loop-again Inv-loop μ-loop
+loop-again c =
+    let at-loop = c .before .before .before .before .before .before .before in
+    let s = at-loop .before .before .before .before .before in
+    let a = s .args in
+    let l = at-loop .loop in
+    let sign = c .before .before .before .before .sign-set in
+    let stored = c .before .before .store-double in (
+      refl,
+      signing-step (a .at) (a .ends .now) (a .items .now) (a .table .now) (a .work .now) (l .work) (l .start) (l .k) (s .pre)
+          (l .inv .1)
+          (omega arith) (stored .last .0) (sign .result) (sign .ensures) (stored .ensures),
+    )
+
+same-length : tie.Need-same-length Inv-loop μ-loop
+same-length c = c .before .loop .inv .1 .signed .size
+
+returns : tie.Need-returns Inv-loop μ-loop
+returns c =
+    let at-loop = c .before in
+    let a = at-loop .before .before .before .before .before .args in
+    let l = at-loop .loop in
+    signing-end (a .at) (a .ends .now) (a .items .now) (a .table .now) (a .work .now) (l .work) (l .start) (l .k) (l .inv .1)
+    (omega arith)
+
+pub sign-sets-spec : {M : Type 1} → statement M
+sign-sets-spec =
+    tie.close
+    (tie.spec
+    Inv-loop
+    μ-loop
+    loop-holds
+    mul-end
+    shared-slice-read-end
+    cast-end
+    sign-set-requires
+    mul-store-double
+    add-store-double
+    store-double-requires
+    add-k
+    loop-less
+    loop-again
+    same-length
+    returns)

@@ -1,0 +1,2 @@
+-- Contents: what the loops that make the signatures need and leave.
+pub mod Signing
