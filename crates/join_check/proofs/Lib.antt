@@ -1,7 +1,9 @@
 -- Laws on what the index holds, by topic; each function that needs a proof file has its folder beside them.
 pub mod Reading
 pub mod Orders
+pub mod Merging
 pub mod Sharing
+pub mod Flagging
 pub mod Places
 pub mod Probing
 pub mod Tallying

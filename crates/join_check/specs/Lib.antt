@@ -1,6 +1,7 @@
 -- Contents: what the functions of this crate ask and answer.
 pub mod Words
 pub mod Merges
+pub mod Flags
 pub mod Asking
 pub mod Runs
 pub mod Checks

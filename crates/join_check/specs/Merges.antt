@@ -1,16 +1,24 @@
 -- Rising parts of a list of words, and what two of them share, written behind them.
-use Prim.Native.Nat.{ℕ, _+_, _-_, _≤_}
+use Prim.Native.Nat.{ℕ, _+_, _-_, _≤_, _<_}
 use mathlib.Core.Path.{_≡_}
 use mathlib.Core.List.{List}
 use mathlib.Core.Bool.{true}
-use lib.ListN.{length}
-use Rattle.lists.specs.Lists.{keep, memb, rising, slice}
+use lib.ListN.{length, getD}
+use Rattle.lists.specs.Lists.{keep, memb, subset, rising, slice}
 use Rattle.lists.specs.Parts.{Changed}
 
 -- the words from lo up to hi strictly rise; there are none where hi is at most lo
 pub record Rising (lo hi : ℕ) (w : List ℕ) : Type 0 where
   pub within : hi ≤ length w
   pub rise : rising (slice lo hi w) ≡ true
+
+-- r is a place of the part from c up to e, or its end; its word is not below the first word of the part from a up to b, and what is
+-- left out does not bear on containment
+pub record Skipped (a b c e : ℕ) (w : List ℕ) (r : ℕ) : Type 0 where
+  pub low : c ≤ r
+  pub stop : r < e → getD w a 0 ≤ getD w r 0
+  pub rise : rising (slice r e w) ≡ true
+  pub same : subset (slice a b w) (slice r e w) ≡ subset (slice a b w) (slice c e w)
 
 -- parts that end at b and e lie below out, and from out on there is room for the second
 pub record Apart (b c e out : ℕ) (w : List ℕ) : Type 0 where

@@ -10,6 +10,7 @@ pub struct Tally {
 }
 
 pub mod checks;
+pub mod flags;
 pub mod keys;
 pub mod merge;
 pub mod seen;

@@ -1,11 +1,61 @@
 // Merges of two rising parts of the work list.
+use crate::flags::flag_words;
+use crate::flags::keep_flagged;
 use crate::words::number;
 ghost use mathlib.Core.Path.{_≡_};
+ghost use Prim.Native.Nat.{_<_};
 ghost use Rattle.lists.specs.Lists.{subset, slice};
-ghost use Rattle.join_check.specs.Merges.{Rising, Apart, Intersected};
+ghost use Rattle.join_check.specs.Merges.{Rising, Skipped, Apart, Intersected};
+ghost use Rattle.join_check.specs.Flags.{Places};
 
-// Whether every word of the first part is among those of the second.
-pub fn subset_ranks(work: &[u32], a: usize, b: usize, c: usize, e: usize) -> bool
+// From so many words in the first part on, a merge of both takes less time than to look for each.
+const MANY_RANKS: usize = 16;
+
+// Below so many words in both parts it is not worth while to clear a table of flags.
+const FEW_WORDS: usize = 64;
+
+// Goes on in the second part to the first word that is not below the first word of the first part.
+fn skip_lower(work: &[u32], a: usize, b: usize, c: usize, e: usize) -> usize
+    requires { ⌜ a < b ⌝ }
+    requires { ⌜ Rising a b (now work) ⌝ }
+    requires { ⌜ Rising c e (now work) ⌝ }
+    ensures { λ r. ⌜ Skipped a b c e (now (work .entry)) r ⌝ }
+{
+    let x = work[a];
+    let mut j = c;
+    while j < e {
+        if x <= work[j] {
+            return j;
+        }
+        j += 1;
+    }
+    j
+}
+
+// Whether every word of the first part is among those of the second: each is looked for in turn. For a short first part.
+fn skip_ranks(work: &[u32], a: usize, b: usize, c: usize, e: usize) -> bool
+    requires { ⌜ Rising a b (now work) ⌝ }
+    requires { ⌜ Rising c e (now work) ⌝ }
+    ensures { λ r. ⌜ r ≡ subset (slice a b (now (work .entry))) (slice c e (now (work .entry))) ⌝ }
+{
+    let mut i = a;
+    let mut j = c;
+    while i < b {
+        j = skip_lower(work, i, b, j, e);
+        if e <= j {
+            return false;
+        }
+        if work[i] != work[j] {
+            return false;
+        }
+        i += 1;
+        j += 1;
+    }
+    true
+}
+
+// The same by a merge, with fewer branches that depend on the words. For a long first part.
+fn merge_ranks(work: &[u32], a: usize, b: usize, c: usize, e: usize) -> bool
     requires { ⌜ Rising a b (now work) ⌝ }
     requires { ⌜ Rising c e (now work) ⌝ }
     ensures { λ r. ⌜ r ≡ subset (slice a b (now (work .entry))) (slice c e (now (work .entry))) ⌝ }
@@ -29,9 +79,24 @@ pub fn subset_ranks(work: &[u32], a: usize, b: usize, c: usize, e: usize) -> boo
     true
 }
 
+// The same by whichever of the two takes less time.
+pub fn subset_ranks(work: &[u32], a: usize, b: usize, c: usize, e: usize) -> bool
+    requires { ⌜ Rising a b (now work) ⌝ }
+    requires { ⌜ Rising c e (now work) ⌝ }
+    ensures { λ r. ⌜ r ≡ subset (slice a b (now (work .entry))) (slice c e (now (work .entry))) ⌝ }
+{
+    if b <= a {
+        return true;
+    }
+    if b - a < MANY_RANKS {
+        return skip_ranks(work, a, b, c, e);
+    }
+    merge_ranks(work, a, b, c, e)
+}
+
 // Writes from out on the words of the first part that are among those of the second, and returns where they end. Every word is
 // stored, and the place moves on only past those that are shared: no branch depends on the words.
-pub fn intersect(work: &mut [u32], a: usize, b: usize, c: usize, e: usize, out: usize) -> usize
+fn merge_shared(work: &mut [u32], a: usize, b: usize, c: usize, e: usize, out: usize) -> usize
     requires { ⌜ Rising a b (now work) ⌝ }
     requires { ⌜ Rising c e (now work) ⌝ }
     requires { ⌜ Apart b c e out (now work) ⌝ }
@@ -52,4 +117,33 @@ pub fn intersect(work: &mut [u32], a: usize, b: usize, c: usize, e: usize, out: 
         j += number(y <= x);
     }
     n
+}
+
+// The same, for parts of places, by a table that flags the words of the first part.
+fn flag_shared(work: &mut [u32], a: usize, b: usize, c: usize, e: usize, out: usize) -> usize
+    requires { ⌜ Rising a b (now work) ⌝ }
+    requires { ⌜ Rising c e (now work) ⌝ }
+    requires { ⌜ Apart b c e out (now work) ⌝ }
+    requires { ⌜ Places a b (now work) ⌝ }
+    requires { ⌜ Places c e (now work) ⌝ }
+    ensures { λ r. ⌜ Intersected a b c e out (now (work .entry)) (now (work .exit)) r ⌝ }
+{
+    let mut flags = [0u8; 4096];
+    flag_words(work, a, b, &mut flags);
+    keep_flagged(work, c, e, out, &flags)
+}
+
+// The same by whichever of the two takes less time.
+pub fn intersect(work: &mut [u32], a: usize, b: usize, c: usize, e: usize, out: usize) -> usize
+    requires { ⌜ Rising a b (now work) ⌝ }
+    requires { ⌜ Rising c e (now work) ⌝ }
+    requires { ⌜ Apart b c e out (now work) ⌝ }
+    requires { ⌜ Places a b (now work) ⌝ }
+    requires { ⌜ Places c e (now work) ⌝ }
+    ensures { λ r. ⌜ Intersected a b c e out (now (work .entry)) (now (work .exit)) r ⌝ }
+{
+    if (b - a) + (e - c) < FEW_WORDS {
+        return merge_shared(work, a, b, c, e, out);
+    }
+    flag_shared(work, a, b, c, e, out)
 }

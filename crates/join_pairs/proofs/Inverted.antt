@@ -22,7 +22,9 @@ use Rattle.join_index.specs.Ground.{invertedList}
 use Rattle.join_index.specs.declared.Layout.{Layout}
 use Rattle.join_index.proofs.GroundLaws.{ground-frame}
 use Rattle.join_check.specs.Merges.{Rising}
+use Rattle.join_check.specs.Flags.{Places}
 use Rattle.join_check.specs.Asking.{Index, LeftThere, PlacesThere}
+use Rattle.join_check.proofs.Flagging.{places-small}
 use Rattle.join_pairs.specs.declared.candidates.Span.{Span}
 use Rattle.join_pairs.specs.Containing.{RankThere, RanksThere}
 use Rattle.join_pairs.specs.Narrowing.{Listed}
@@ -67,6 +69,10 @@ module _ (lay : Layout) (q : Query) (w : List ℕ) (r : ℕ) (s : Span) (listed 
             ∙ all-keep (λ (x : ℕ). ltb x (length (q .rights))) (λ (x : ℕ). memb r (rightAt q x)) (upto (length (q .rights)))
             (all-upto (length (q .rights)));
       }
+
+  pub list-small : Places (s .from) (s .to) w
+  list-small =
+      places-small list-places (omega (arith, inverted-stored lay q w r there .rise, listed .from, listed .to))
 
   pub list-rising : Rising (s .from) (s .to) w
   list-rising =

@@ -2,10 +2,13 @@
 use Prim.Native.Nat.{ℕ, suc, _+_, _-_, _≤_, _<_}
 use mathlib.Core.Path.{_≡_, refl, sym, ap, ap₂, subst, _∙_}
 use mathlib.Core.List.{List, [], _∷_}
-use mathlib.Core.Bool.{true}
+use mathlib.Core.Bool.{Bool, true}
 use native.Mathlib.Omega.{arith}
+use lib.Dec.{ltb}
 use lib.ListN.{length, take, getD}
-use Rattle.lists.specs.Lists.{keep, memb, rising, upto}
+use Rattle.lists.specs.Lists.{keep, memb, rising, slice, upto}
+use Rattle.lists.proofs.Filtering.{all-keep}
+use Rattle.lists.proofs.Ranges.{all-upto}
 use Rattle.lists.proofs.Rising.{rising-keep, rising-range}
 use Rattle.join_spec.specs.Query.{Query}
 use Rattle.join_spec.specs.Node.{lastOf}
@@ -16,6 +19,8 @@ use Rattle.join_index.specs.Ground.{invertedList, offsetOf}
 use Rattle.join_index.specs.declared.Layout.{Layout}
 use Rattle.join_check.specs.Words.{Word}
 use Rattle.join_check.specs.Merges.{Rising, Apart, Intersected}
+use Rattle.join_check.specs.Flags.{Places}
+use Rattle.join_check.proofs.Flagging.{places-small}
 use Rattle.join_walk.specs.Narrowing.{Candidates, Narrowed, candidateList}
 use Rattle.join_walk.proofs.Narrowing.{narrow-first, narrow-further}
 
@@ -75,6 +80,28 @@ module _ {lay : Layout} {q : Query} {path w : List ℕ} {d lo hi : ℕ} (cands :
               (rising-keep (λ s. memb (lastOf path) (rightAt q s)) (upto (length (q .rights)))
               (rising-range 0 (length (q .rights))));
         }
+
+    -- right places that are kept are places that a set can have
+    kept-small : (test : ℕ → Bool) (from to : ℕ) → from ≤ to → to ≤ length w
+        → slice from to w ≡ keep test (upto (length (q .rights))) → Places from to w
+    kept-small test from to order within is =
+        places-small
+        (record {
+          index = cands .index;
+          within = within;
+          below = rw is (all-keep (λ s. ltb s (length (q .rights))) test (upto (length (q .rights))) (all-upto (length (q .rights))));
+        })
+        order
+
+    pub before-small : 1 < d → Places lo hi w
+    before-small deeper =
+        kept-small (λ s. isCandidate (d - 1) path (rightAt q s)) lo hi (cands .rise) (before-rising deeper .within)
+        (cands .sorted deeper)
+
+    pub inverted-small : Places (lay .index + first) (lay .index + last) w
+    inverted-small =
+        kept-small (λ s. memb (lastOf path) (rightAt q s)) (lay .index + first) (lay .index + last) (inverted-holds .rise)
+        (inverted-rising .within) (inverted-holds .is)
 
     pub slot-apart : Apart hi (lay .index + first) (lay .index + last) (lay .slots + first) w
     slot-apart =

@@ -4,6 +4,7 @@ use native.Mathlib.Omega.{arith}
 use borrow.Author.Needs.{needs}
 use Rattle.join_walk.proofs.CandidateLaws.{first-word, last-word, inverted-read, narrowed-first, narrowed-further}
 use Rattle.join_walk.proofs.CandidateLaws.{before-rising, inverted-rising, slot-apart}
+use Rattle.join_walk.proofs.CandidateLaws.{before-small, inverted-small}
 use Rattle.join_walk.proofs.narrow.narrow.Statement.{statement}
 use Rattle.join_walk.proofs.narrow.narrow.Tie as tie
 
@@ -81,7 +82,13 @@ intersect-requires c κs =
     let at-first = first-word cands (first .word-at .ensures) (start .pre .holds .1) in
     let at-last = last-word cands (last .word-at2 .ensures) (start .pre .holds .1) in (
       before-rising cands at-first at-last (omega (arith, cands .deep)),
-      (inverted-rising cands at-first at-last, slot-apart cands at-first at-last),
+      (
+        inverted-rising cands at-first at-last,
+        (
+          slot-apart cands at-first at-last,
+          (before-small cands at-first at-last (omega (arith, cands .deep)), inverted-small cands at-first at-last),
+        ),
+      ),
     )
 
 same-length-2 : tie.Need-same-length-2

@@ -1,12 +1,12 @@
--- `join_check::merge::intersect` meets its contract. The invariant is `Sharing`: what was written, with what the rests of the
+-- `join_check::merge::merge_shared` meets its contract. The invariant is `Sharing`: what was written, with what the rests of the
 -- parts share, is what the parts share. The measure is what is left of both.
 use Prim.Native.Nat.{_+_, _-_}
 use native.Mathlib.Omega.{arith}
 use lib.ListN.{getD}
 use borrow.Author.Needs.{needs}
 use Rattle.join_check.proofs.Sharing.{Sharing, sharing-start, sharing-end, sharing-stop, sharing-step, moves}
-use Rattle.join_check.proofs.merge.intersect.Statement.{statement}
-use Rattle.join_check.proofs.merge.intersect.Tie as tie
+use Rattle.join_check.proofs.merge.merge_shared.Statement.{statement}
+use Rattle.join_check.proofs.merge.merge_shared.Tie as tie
 
 abbrev Inv-loop : tie.InvT-loop
 Inv-loop work₀ a b c e out i₀ j₀ n₀ work i j n =
@@ -131,8 +131,8 @@ returns-2 c =
     sharing-end (a .work .now) (a .a) (a .b) (a .c) (a .e) (a .out) (c .before .loop .work) (c .before .loop .i)
     (c .before .loop .j) (c .before .loop .n) (c .before .loop .inv) (c .loop-test .left)
 
-pub intersect-spec : {M : Type 1} → statement M
-intersect-spec =
+pub merge-shared-spec : {M : Type 1} → statement M
+merge-shared-spec =
     tie.close
     (tie.spec
     Inv-loop
