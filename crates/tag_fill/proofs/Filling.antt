@@ -14,6 +14,7 @@ use Rattle.lists.specs.Writing.{Put}
 use Rattle.lists.proofs.Bools.{or-left, or-right}
 use Rattle.lists.proofs.Membership.{memb-append}
 use Rattle.lists.proofs.Writing.{Writing, writing-start, writing-room, writing-step, writing-end, written-whole}
+use Rattle.bit_sets.specs.BitSets.{members}
 use Rattle.sets.specs.declared.Side.{Side}
 use Rattle.tag_file.specs.Format.{tagAt}
 use Rattle.tag_file.specs.Reading.{readAt, tagsAt}
@@ -23,9 +24,10 @@ use Rattle.tag_file.specs.declared.ReadAnswer.the-variants.{Record}
 use Rattle.tag_file.proofs.RecordLaws.{read-whole, records-next}
 use Rattle.tag_file.proofs.Tables.{memb-collapse}
 use Rattle.tag_index.specs.Index.{tableOf, Sorted, Ranked}
-use Rattle.tag_fill.specs.Fill.{Unmarked, Known, RoomForOne, OneFilled, FillReady, filledWith}
+use Rattle.tag_index.proofs.Ids.{sorted-size}
+use Rattle.tag_fill.specs.Fill.{Unmarked, Marking, Known, RoomForOne, OneFilled, FillReady, filledWith}
 use Rattle.tag_fill.specs.declared.Filled.{Filled}
-use Rattle.tag_fill.proofs.Marks.{unmarked-zeros}
+use Rattle.tag_fill.proofs.Marks.{unmarked-zeros, marked-items}
 use Rattle.tag_fill.proofs.Runs.{join-one, numbers-cons, sets-cons, join-onto, ends-onto}
 
 -- a tag of a record is among its tags
@@ -128,6 +130,12 @@ module _ {file : List ℕ} {side : Side} {numbers₀ ends₀ items₀ marks numb
               ap (memb x) same
               ∙ f .held x (tags-next x ∙ or-left (memb x (tagsAt c file p)) (memb x later) (memb-tagsAt c file p k h));
         }
+
+    -- the items of the record are those of its tags that are marked
+    pub filling-items : {heads tails : List ℕ} {m : ℕ} {order got : List ℕ} → Sorted heads tails m order → tableOf heads tails m order ≡ table
+        → m ≤ 4096 → Marking file heads tails m order p c got → members got ≡ new
+    filling-items sorted same small marking =
+        marked-items marking (omega (arith, sorted-size sorted)) ∙ ap (λ (t : List ℕ). itemsOf t (tagsAt c file p)) same
 
     pub filling-room : length (joinedItems side (records file)) ≤ 65535 → sameSide side kind ≡ true → RoomForOne (done .sets) (done .entries) new numbers ends items
     filling-room few mine =

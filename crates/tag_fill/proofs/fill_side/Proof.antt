@@ -1,19 +1,16 @@
 -- `tag_fill::fill_side` meets its contract. The invariant: what is written of each list and what the records still to come give are
 -- together what is wanted, and no item is marked (`Filling`). The measure is how many bytes are left.
-use mathlib.Core.Path.{sym, ap, _∙_}
-use mathlib.Core.List.{List}
-use Prim.Native.Nat.{ℕ, _-_}
+use mathlib.Core.Path.{sym, _∙_}
+use Prim.Native.Nat.{_-_}
 use native.Mathlib.Omega.{arith}
 use borrow.Author.Tests.{not-true, not-false}
 use lib.ListN.{length}
 use Rattle.tag_file.specs.Reading.{tagsAt}
-use Rattle.tag_file.specs.Records.{itemsOf}
 use Rattle.tag_file.proofs.RecordLaws.{read-whole}
 use Rattle.tag_file.proofs.Ended.{no-records}
 use Rattle.tag_index.specs.Index.{tableOf}
-use Rattle.tag_index.proofs.Ids.{sorted-size}
-use Rattle.tag_fill.proofs.Filling.{Filling, filling-start, filled-numbers, filled-ends, filled-items, filling-known, filling-room, filling-own, filling-other}
-use Rattle.tag_fill.proofs.Marks.{unmarked-marked, marked-items}
+use Rattle.tag_fill.proofs.Filling.{Filling, filling-start, filled-numbers, filled-ends, filled-items, filling-known, filling-items, filling-room, filling-own, filling-other}
+use Rattle.tag_fill.proofs.Marks.{unmarked-marked}
 use Rattle.tag_fill.proofs.fill_side.Statement.{statement}
 use Rattle.tag_fill.proofs.fill_side.Tie as tie
 
@@ -69,8 +66,6 @@ loop-again c =
     let told = c .before .before .before in
     let read = told .before .before in
     let l = read .before .loop in
-    let s = read .before .before .before .before .before .before in
-    let file = s .args .file .now in
     let v = told .answer .given .0 in
     let e = sym (read .read-record .ensures) ∙ told .answer .given .1 in
     let other = sym (c .before .is-side .ensures) ∙ not-true (c .before .is-side .result) (c .if1 .taken) in
@@ -86,7 +81,6 @@ mark-tags-requires c κs =
     let read = told .before .before in
     let l = read .before .loop in
     let s = read .before .before .before .before .before .before in
-    let file = s .args .file .now in
     let v = told .answer .given .0 in
     let e = sym (read .read-record .ensures) ∙ told .answer .given .1 in
     let a = s .args in
@@ -106,13 +100,11 @@ put-record-requires c κs =
     let read = told .before .before in
     let l = read .before .loop in
     let s = read .before .before .before .before .before .before in
-    let file = s .args .file .now in
     let v = told .answer .given .0 in
     let e = sym (read .read-record .ensures) ∙ told .answer .given .1 in
     let p = s .pre in
     let m = mark .mark-tags .ensures in
-    let tags = tagsAt (v .1 .1 .0) file (v .1 .1 .1 .0) in
-    let same = marked-items m (omega (arith, sorted-size (p .sorted), p .small)) ∙ ap (λ (t : List ℕ). itemsOf t tags) (p .table) in
+    let same = filling-items (l .inv) (v .0) (v .1 .0) (v .1 .1 .0) (v .1 .1 .1 .0) (v .1 .1 .1 .1 .0) e (p .sorted) (p .table) (p .small) m in
     let mine = sym (own .before .is-side .ensures) ∙ not-false (own .before .is-side .result) (own .if1 .left) in
     (m .wide, rw same (filling-room (l .inv) (v .0) (v .1 .0) (v .1 .1 .0) (v .1 .1 .1 .0) (v .1 .1 .1 .1 .0) e (p .few) mine))
 
@@ -140,13 +132,11 @@ loop-again-2 c =
     let read = told .before .before in
     let l = read .before .loop in
     let s = read .before .before .before .before .before .before in
-    let file = s .args .file .now in
     let v = told .answer .given .0 in
     let e = sym (read .read-record .ensures) ∙ told .answer .given .1 in
     let p = s .pre in
     let m = mark .mark-tags .ensures in
-    let tags = tagsAt (v .1 .1 .0) file (v .1 .1 .1 .0) in
-    let same = marked-items m (omega (arith, sorted-size (p .sorted), p .small)) ∙ ap (λ (t : List ℕ). itemsOf t tags) (p .table) in
+    let same = filling-items (l .inv) (v .0) (v .1 .0) (v .1 .1 .0) (v .1 .1 .1 .0) (v .1 .1 .1 .1 .0) e (p .sorted) (p .table) (p .small) m in
     let mine = sym (own .before .is-side .ensures) ∙ not-false (own .before .is-side .result) (own .if1 .left) in
     let o = put .put-record .ensures in
     filling-own (l .inv) (v .0) (v .1 .0) (v .1 .1 .0) (v .1 .1 .1 .0) (v .1 .1 .1 .1 .0) e mine (rw same at (o .1)) (o .0)
