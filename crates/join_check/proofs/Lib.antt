@@ -1,9 +1,11 @@
 -- Laws on what the index holds, by topic; each function that needs a proof file has its folder beside them.
 pub mod Reading
 pub mod Orders
-pub mod Merging
+pub mod Lasts
+pub mod Trimming
 pub mod Sharing
 pub mod Flagging
+pub mod Keeping
 pub mod Places
 pub mod Probing
 pub mod Tallying

@@ -12,13 +12,13 @@ pub record Rising (lo hi : ℕ) (w : List ℕ) : Type 0 where
   pub within : hi ≤ length w
   pub rise : rising (slice lo hi w) ≡ true
 
--- r is a place of the part from c up to e, or its end; its word is not below the first word of the part from a up to b, and what is
--- left out does not bear on containment
+-- of the part from c up to e, what lies from r on does not bear on whether it has the words of the part from a up to b, and the
+-- word before r, if there is one, is not above the last of those
 pub record Skipped (a b c e : ℕ) (w : List ℕ) (r : ℕ) : Type 0 where
-  pub low : c ≤ r
-  pub stop : r < e → getD w a 0 ≤ getD w r 0
-  pub rise : rising (slice r e w) ≡ true
-  pub same : subset (slice a b w) (slice r e w) ≡ subset (slice a b w) (slice c e w)
+  pub high : r ≤ e
+  pub stop : c < r → getD w (r - 1) 0 ≤ getD w (b - 1) 0
+  pub rise : rising (slice c r w) ≡ true
+  pub same : subset (slice a b w) (slice c r w) ≡ subset (slice a b w) (slice c e w)
 
 -- parts that end at b and e lie below out, and from out on there is room for the second
 pub record Apart (b c e out : ℕ) (w : List ℕ) : Type 0 where

@@ -14,42 +14,43 @@ const MANY_RANKS: usize = 16;
 // Below so many words in both parts it is not worth while to clear a table of flags.
 const FEW_WORDS: usize = 64;
 
-// Goes on in the second part to the first word that is not below the first word of the first part.
-fn skip_lower(work: &[u32], a: usize, b: usize, c: usize, e: usize) -> usize
+// Goes back in the second part to the last word that is not above the last word of the first part, and returns the place after it.
+fn skip_higher(work: &[u32], a: usize, b: usize, c: usize, e: usize) -> usize
     requires { ⌜ a < b ⌝ }
     requires { ⌜ Rising a b (now work) ⌝ }
     requires { ⌜ Rising c e (now work) ⌝ }
     ensures { λ r. ⌜ Skipped a b c e (now (work .entry)) r ⌝ }
 {
-    let x = work[a];
-    let mut j = c;
-    while j < e {
-        if x <= work[j] {
+    let x = work[b - 1];
+    let mut j = e;
+    while c < j {
+        if work[j - 1] <= x {
             return j;
         }
-        j += 1;
+        j -= 1;
     }
     j
 }
 
-// Whether every word of the first part is among those of the second: each is looked for in turn. For a short first part.
+// Whether every word of the first part is among those of the second: each is looked for in turn, the last first, since what is
+// left of a set to be checked are its highest ranks. For a short first part.
 fn skip_ranks(work: &[u32], a: usize, b: usize, c: usize, e: usize) -> bool
     requires { ⌜ Rising a b (now work) ⌝ }
     requires { ⌜ Rising c e (now work) ⌝ }
     ensures { λ r. ⌜ r ≡ subset (slice a b (now (work .entry))) (slice c e (now (work .entry))) ⌝ }
 {
-    let mut i = a;
-    let mut j = c;
-    while i < b {
-        j = skip_lower(work, i, b, j, e);
-        if e <= j {
+    let mut i = b;
+    let mut j = e;
+    while a < i {
+        j = skip_higher(work, a, i, c, j);
+        if j <= c {
             return false;
         }
-        if work[i] != work[j] {
+        if work[i - 1] != work[j - 1] {
             return false;
         }
-        i += 1;
-        j += 1;
+        i -= 1;
+        j -= 1;
     }
     true
 }

@@ -4,7 +4,8 @@ use Prim.Native.Nat.{_-_}
 use native.Mathlib.Omega.{arith}
 use lib.ListN.{getD}
 use Rattle.join_check.specs.Flags.{isFlagged}
-use Rattle.join_check.proofs.Flagging.{Keeping, keeping-start, keeping-step, keeping-end, keeping-small, flag-small}
+use Rattle.join_check.proofs.Flagging.{flag-small}
+use Rattle.join_check.proofs.Keeping.{Keeping, keeping-start, keeping-step, keeping-end, keeping-small}
 use Rattle.join_check.proofs.flags.keep_flagged.Statement.{statement}
 use Rattle.join_check.proofs.flags.keep_flagged.Tie as tie
 

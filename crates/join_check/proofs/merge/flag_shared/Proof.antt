@@ -2,7 +2,8 @@
 use native.Mathlib.Omega.{arith}
 use borrow.Author.Needs.{needs}
 use Rattle.sets.specs.Limits.{maxSets}
-use Rattle.join_check.proofs.Flagging.{flagged-none, flagged-own, kept-shared}
+use Rattle.join_check.proofs.Flagging.{flagged-none, flagged-own}
+use Rattle.join_check.proofs.Keeping.{kept-shared}
 use Rattle.join_check.proofs.merge.flag_shared.Statement.{statement}
 use Rattle.join_check.proofs.merge.flag_shared.Tie as tie
 

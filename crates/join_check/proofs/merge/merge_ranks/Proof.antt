@@ -1,13 +1,40 @@
 -- `join_check::merge::merge_ranks` meets its contract. The invariant: containment of what is left of the parts decides that
 -- of the whole, and both rise. The measure is what is left of the second part.
-use mathlib.Core.Path.{refl, sym, _∙_}
+use mathlib.Core.Path.{_≡_, refl, sym, _∙_}
+use mathlib.Core.List.{List}
+use mathlib.Core.Bool.{true}
 use mathlib.Core.Logic.{⊎-elim}
-use Prim.Native.Nat.{_-_}
+use Prim.Native.Nat.{ℕ, _+_, _-_, _≤_, _<_}
 use native.Mathlib.Omega.{arith}
-use Rattle.lists.proofs.Merging.{merge-stop, merge-low}
-use Rattle.join_check.proofs.Merging.{Merging, merging-same, merging-high, merging-end}
+use lib.ListN.{length, getD}
+use Rattle.lists.specs.Lists.{rising, subset, slice}
+use Rattle.lists.proofs.Throughout.{subset-nil}
+use Rattle.lists.proofs.Slices.{slice-past}
+use Rattle.lists.proofs.Merging.{rising-next, merge-stop, merge-low, merge-same, merge-high}
 use Rattle.join_check.proofs.merge.merge_ranks.Statement.{statement}
 use Rattle.join_check.proofs.merge.merge_ranks.Tie as tie
+
+record Merging (w : List ℕ) (a b c e i j : ℕ) : Type 0 where
+  left : rising (slice i b w) ≡ true
+  right : rising (slice j e w) ≡ true
+  same : subset (slice i b w) (slice j e w) ≡ subset (slice a b w) (slice c e w)
+
+module _ (w : List ℕ) (a b c e i j : ℕ) (leftIn : b ≤ length w) (rightIn : e ≤ length w) (more : i < b) (other : j < e) where
+  merging-same : Merging w a b c e i j → getD w i 0 ≡ getD w j 0 → Merging w a b c e (i + 1) (j + 1)
+  merging-same m h =
+      record {
+        left = rising-next i b w more leftIn (m .left);
+        right = rising-next j e w other rightIn (m .right);
+        same = sym (merge-same w i b j e leftIn rightIn more other (m .left) (m .right) h) ∙ m .same;
+      }
+
+  merging-high : Merging w a b c e i j → getD w j 0 < getD w i 0 → Merging w a b c e i (j + 1)
+  merging-high m h =
+      record {
+        left = m .left;
+        right = rising-next j e w other rightIn (m .right);
+        same = sym (merge-high w i b j e leftIn rightIn more other (m .left) (m .right) h) ∙ m .same;
+      }
 
 abbrev Inv-loop : tie.InvT-loop
 Inv-loop work a b c e i₀ j₀ i j = Merging work a b c e i j
@@ -81,8 +108,9 @@ returns-3 : tie.Need-returns-3 Inv-loop μ-loop
 returns-3 c =
     let at-loop = c .before in
     let a = at-loop .before .args in
-    merging-end (a .work .now) (a .a) (a .b) (a .c) (a .e) (at-loop .loop .i) (at-loop .loop .j) (at-loop .loop .inv)
-    (c .loop-test .left)
+    let none = slice-past (at-loop .loop .i) (a .b) (a .work .now) (c .loop-test .left) in
+    let whole = subset-nil (slice (at-loop .loop .j) (a .e) (a .work .now)) in
+    sym (rw none whole) ∙ at-loop .loop .inv .same
 
 pub merge-ranks-spec : {M : Type 1} → statement M
 merge-ranks-spec =
