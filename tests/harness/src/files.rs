@@ -19,6 +19,18 @@ fn tag(random: &mut Random) -> Tag {
     tag
 }
 
+/// Tags a step apart in their first bytes, more of them than the loader's hints look at where all begin at one slot (step 16,361).
+fn steps(random: &mut Random) -> Vec<Tag> {
+    let step = random.pick(&[1u64, 256, 16361, 1 << 40]);
+    (0..random.within(1, 60) as u64)
+        .map(|k| {
+            let mut tag = [0; 12];
+            tag[..8].copy_from_slice(&(k * step).to_be_bytes());
+            tag
+        })
+        .collect()
+}
+
 pub fn record(right: bool, number: u16, tags: &[Tag]) -> Vec<u8> {
     let mut bytes = if right { b"SK".to_vec() } else { b"KT".to_vec() };
     bytes.extend(number.to_be_bytes());
@@ -29,7 +41,7 @@ pub fn record(right: bool, number: u16, tags: &[Tag]) -> Vec<u8> {
 
 /// A file of whole records with tags of one pool, in any order and with repeats. Numbers seldom repeat.
 pub fn file(random: &mut Random) -> Vec<u8> {
-    let pool: Vec<Tag> = (0..random.within(1, 24)).map(|_| tag(random)).collect();
+    let pool: Vec<Tag> = if random.one_in(6) { steps(random) } else { (0..random.within(1, 24)).map(|_| tag(random)).collect() };
     let most = random.pick(&[0, 2, 5, 12]);
     let mut numbers: Vec<u16> = (0..40).map(|k| random.pick(&[k, k * 257, 65535 - k])).collect();
     random.shuffle(&mut numbers);
