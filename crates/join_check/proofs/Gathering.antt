@@ -1,7 +1,7 @@
 -- Runs of left sets, checked run by run: the invariant of `check_run` and of `gather`, with its start, step and end. A left set
 -- of a run can be checked where the run can, and so can each part of it.
 use Prim.Native.Nat.{ℕ, _+_, _-_, _*_, _≤_, _<_}
-use mathlib.Core.Path.{_≡_, refl, sym, ap, subst, _∙_}
+use mathlib.Core.Path.{_≡_, refl, sym, ap, _∙_}
 use mathlib.Core.List.{List, [], _∷_}
 use mathlib.Core.Bool.{Bool}
 use native.Mathlib.Omega.{arith}
@@ -17,27 +17,25 @@ use Rattle.join_spec.specs.Counting.{isConfirmed, isDropped, isFalse}
 use Rattle.join_index.specs.declared.Layout.{Layout}
 use Rattle.join_check.specs.declared.Tally.{Tally}
 use Rattle.join_check.specs.Words.{Word}
-use Rattle.join_check.specs.Asking.{LeftThere, RunThere}
+use Rattle.join_check.specs.Asking.{RunThere}
 use Rattle.join_check.specs.Runs.{leftIn, run}
 use Rattle.join_check.specs.Checks.{rowCount, runCount, checksIn, Tallied, holdFirst}
 use Rattle.join_check.specs.Checks.{RowThere, RunsThere, RowChecked, RunsChecked}
-use Rattle.join_check.proofs.Orders.{order-within, order-left, run-none, run-next, run-split}
+use Rattle.join_check.proofs.Orders.{order-within, run-left, run-none, run-next, run-split}
 use Rattle.join_check.proofs.Tallying.{Leaving, leaving-start, leaving-step, leaving-end}
 
 module _ {lay : Layout} {q : Query} {w : List ℕ} {e lo hi from to : ℕ} (there : RunsThere lay q w e lo hi from to) where
   pub runs-within : lay .order + hi ≤ length w
   runs-within = omega (arith, order-within lay q w (there .places .index), there .within)
 
-  pub runs-left : (i k : ℕ) → i < hi → Word w (lay .order + i) k → LeftThere lay q w k
-  runs-left i k high word =
-      subst (λ (n : ℕ). LeftThere lay q w n) (sym (word .is))
-      (order-left lay q w (there .places .index) i (omega (arith, there .within)))
+  pub runs-run : (i : ℕ) → i < hi → RunThere lay q w i hi
+  runs-run i more = record { index = there .places .index; some = more; within = there .within }
 
   -- a left set of the run
   pub runs-row : (i k : ℕ) → lo ≤ i → i < hi → Word w (lay .order + i) k → RowThere lay q w k e from to
   runs-row i k low high word =
       record {
-        left = runs-left i k high word;
+        left = run-left (runs-run i high) i k high word;
         places = there .places;
         holding = ap (holdFirst q e (slice from to w)) (word .is)
             ∙ all-slice (holdFirst q e (slice from to w)) (lay .order + lo) (lay .order + hi) w runs-within (there .holding)
@@ -56,9 +54,6 @@ module _ {lay : Layout} {q : Query} {w : List ℕ} {e lo hi from to : ℕ} (ther
         within = omega (arith, there .within);
         holding = all-front (holdFirst q e (slice from to w)) (run lay w i j) (run lay w j hi) (rw then at back);
       }
-
-  pub runs-run : (i : ℕ) → i < hi → RunThere lay q w i hi
-  runs-run i more = record { index = there .places .index; some = more; within = there .within }
 
 tallied-same : {a b : (Outcome → Bool) → ℕ} {t r : Tally} → ((is : Outcome → Bool) → a is ≡ b is) → Tallied a t r → Tallied b t r
 tallied-same same tally =

@@ -1,40 +1,22 @@
 -- The order of the left sets: every place in it is that of a left set, and a run begins with its first place. How far a run with
 -- one key reaches.
-use Prim.Native.Nat.{ℕ, zero, suc, _+_, _≤_, _<_}
+use Prim.Native.Nat.{ℕ, suc, _+_, _≤_, _<_}
 use mathlib.Core.Path.{_≡_, refl, sym, ap, subst, _∙_}
 use mathlib.Core.List.{List, _∷_, [], _++_}
 use mathlib.Core.Bool.{Bool, true, false}
 use native.Mathlib.Omega.{arith}
-use lib.Dec.{eqb, ltb}
 use lib.ListN.{length, getD}
-use borrow.Author.Tests.{ltb-true}
-use Rattle.lists.specs.Lists.{all, keep, slice}
-use Rattle.lists.proofs.Throughout.{all-at, all-append}
-use Rattle.lists.proofs.Filtering.{all-keep}
-use Rattle.lists.proofs.Ranges.{all-upto}
+use Rattle.lists.specs.Lists.{slice}
+use Rattle.lists.proofs.Membership.{memb-at}
 use Rattle.lists.proofs.Slices.{slice-past, slice-next, slice-split}
 use Rattle.join_spec.specs.Query.{Query}
-use Rattle.counting_sort.specs.Groups.{groupsFrom}
-use Rattle.join_index.specs.Grouping.{keyAt, orderFrom, orderOf}
+use Rattle.join_index.specs.Grouping.{keyAt, orderOf}
 use Rattle.join_index.specs.declared.Layout.{Layout}
+use Rattle.join_index.proofs.Ordering.{order-member}
 use Rattle.join_check.specs.Words.{Word}
 use Rattle.join_check.specs.Asking.{Index, LeftThere, RunThere}
 use Rattle.join_check.specs.Runs.{lead, leftIn, run}
 use Rattle.join_check.proofs.Reading.{holds-length, holds-at}
-
-all-groups : (p : ℕ → Bool) (key : ℕ → ℕ) (x n : ℕ) (l : List ℕ) → all p l ≡ true → all p (groupsFrom key x n l) ≡ true
-unfolding groupsFrom all
-all-groups p key x zero l a = refl
-all-groups p key x (suc n) l a =
-    all-append p (keep (λ (k : ℕ). eqb (key k) x) l) (groupsFrom key (suc x) n l)
-    (all-keep p (λ (k : ℕ). eqb (key k) x) l a)
-    (all-groups p key (suc x) n l a)
-
-order-all : (q : Query) (n d : ℕ) → all (λ (k : ℕ). ltb k (length (q .lefts))) (orderFrom q n d) ≡ true
-unfolding orderFrom
-order-all q zero d = all-upto (length (q .lefts))
-order-all q (suc n) d =
-    all-groups (λ (k : ℕ). ltb k (length (q .lefts))) (keyAt q d) 0 (suc (q .T)) (orderFrom q n (suc d)) (order-all q n (suc d))
 
 module _ (lay : Layout) (q : Query) (w : List ℕ) (index : Index lay q w) where
   pub order-within : lay .order + length (q .lefts) ≤ length w
@@ -45,10 +27,8 @@ module _ (lay : Layout) (q : Query) (w : List ℕ) (index : Index lay q w) where
       let o = index .ground .ordered in
       let size : length (orderOf q) ≡ length (q .lefts) = omega (arith, holds-length o (index .room)) in
       let here : getD (orderOf q) i 0 ≡ leftIn lay w i = holds-at o (index .room) i (omega arith) in
-      let test : ltb (getD (orderOf q) i 0) (length (q .lefts)) ≡ true =
-      all-at (λ (k : ℕ). ltb k (length (q .lefts))) 0 (orderOf q) (order-all q (q .limit) 0) i (omega arith)
-      in
-      record { index = index; below = omega (arith, ltb-true (getD (orderOf q) i 0) (length (q .lefts)) test) }
+      let member = memb-at (orderOf q) i 0 (omega arith) in
+      record { index = index; below = omega (arith, order-member q (q .limit) 0 (getD (orderOf q) i 0) member) }
 
 -- the left set at a place of a run, as it was read, and its key
 module _ {lay : Layout} {q : Query} {w : List ℕ} {lo hi : ℕ} (there : RunThere lay q w lo hi) where

@@ -11,12 +11,12 @@ use borrow.Author.Tests.{eq-eqb, ne-eqb}
 use Rattle.lists.specs.Lists.{one, subset, slice, rising}
 use Rattle.lists.proofs.Slices.{slice-past}
 use Rattle.sets.specs.Marks.{signature, drops}
-use Rattle.sets.proofs.Ordered.{ordered-rising}
 use Rattle.join_spec.specs.Query.{Query}
 use Rattle.join_spec.specs.Walk.{Outcome, dropped, falseDrop, confirmed}
 use Rattle.signatures.specs.Signing.{double}
 use Rattle.join_index.specs.Grouping.{leftAt, rightAt}
 use Rattle.join_index.specs.declared.Layout.{Layout}
+use Rattle.join_index.proofs.Ordering.{right-rising}
 use Rattle.join_check.specs.declared.Tally.{Tally}
 use Rattle.join_check.specs.declared.checks.Probe.{Probe}
 use Rattle.join_check.specs.Words.{Word}
@@ -69,14 +69,10 @@ module _ (lay : Layout) (q : Query) (w : List ℕ) (s start next : ℕ)
         let to : lay .«right_ranks» + next ≡ lay .«right_ranks» + next-at = omega (arith, second .is) in
         ap₂ (λ (a b : ℕ). slice a b w) from to ∙ t .rest 0
 
-    rights-rise : rising (rightAt q s) ≡ true
-    unfolding rightAt
-    rights-rise = ordered-rising (q .T) (q .ranks) (getD (q .rights) s [])
-
-    pub right-rising : Rising (lay .«right_ranks» + start) (lay .«right_ranks» + next) w
-    right-rising =
+    pub right-part-rising : Rising (lay .«right_ranks» + start) (lay .«right_ranks» + next) w
+    right-part-rising =
         let t = right-stored lay q w s there in
-        record { within = omega (arith, second .is); rise = ap rising right-part ∙ rights-rise }
+        record { within = omega (arith, second .is); rise = ap rising right-part ∙ right-rising q s }
 
 -- the outcome of a check
 module _ (lay : Layout) (q : Query) (w : List ℕ) (p : Probe) (s sign : ℕ)

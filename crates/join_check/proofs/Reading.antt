@@ -64,6 +64,14 @@ right-stored lay q w s there =
     stored w (lay .slots) (lay .«right_starts») (lay .«right_ranks») s (rightAt q s) (there .index .room)
     (there .index .ground .right s (there .below))
 
+-- the ranks of a left set lie below the slots
+pub left-low : (lay : Layout) (q : Query) (w : List ℕ) (k : ℕ) → LeftThere lay q w k
+    → lay .«left_ranks» + getD w (lay .«left_starts» + k + 1) 0 ≤ lay .slots
+left-low lay q w k there =
+    let here : lay .«left_starts» + k + 1 ≡ lay .«left_starts» + suc k = omega arith in
+    let next : getD w (lay .«left_starts» + k + 1) 0 ≡ getD w (lay .«left_starts» + suc k) 0 = ap (λ (i : ℕ). getD w i 0) here in
+    omega (arith, there .index .ground .left k (there .below) .within)
+
 -- the key at a depth, by the ranks as they are stored
 pub key-none : (lay : Layout) (q : Query) (w : List ℕ) (k d : ℕ) → LeftThere lay q w k
     → getD w (lay .«left_starts» + k + 1) 0 - getD w (lay .«left_starts» + k) 0 ≤ d → 0 ≡ keyAt q d k

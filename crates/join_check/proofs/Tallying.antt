@@ -12,12 +12,12 @@ use Rattle.lists.proofs.Rising.{rising-drop}
 use Rattle.lists.proofs.Slices.{all-slice}
 use Rattle.sets.specs.Collections.{contained}
 use Rattle.sets.specs.Marks.{signature, drops}
-use Rattle.sets.proofs.Ordered.{ordered-rising}
 use Rattle.join_spec.specs.Query.{Query}
 use Rattle.join_spec.specs.Walk.{Outcome, dropped, falseDrop, confirmed}
 use Rattle.join_spec.specs.Counting.{isConfirmed, isDropped, isFalse}
 use Rattle.join_index.specs.Grouping.{leftAt, rightAt}
 use Rattle.join_index.specs.declared.Layout.{Layout}
+use Rattle.join_index.proofs.Ordering.{left-rising}
 use Rattle.join_check.specs.declared.Tally.{Tally}
 use Rattle.join_check.specs.declared.checks.Probe.{Probe}
 use Rattle.join_check.specs.Words.{Word}
@@ -59,12 +59,10 @@ module _ {rest all : (Outcome → Bool) → ℕ} {t r : Tally} (left : Leaving r
 -- what is left of a left set rises
 pub probe-rising : {lay : Layout} {q : Query} {w : List ℕ} {k e : ℕ} {p : Probe} → Probed lay w k e p → LeftThere lay q w k
     → Rising (p .from) (p .to) w
-unfolding leftAt
 probe-rising {lay} {q} {w} {k} {e} {p} probed there =
     record {
-      within = probed .within;
-      rise = ap rising (probed .is q there .rest)
-          ∙ rising-drop e (leftAt q k) (ordered-rising (q .T) (q .ranks) (getD (q .lefts) k []));
+      within = omega (arith, probed .within, there .index .room);
+      rise = ap rising (probed .is q there .rest) ∙ rising-drop e (leftAt q k) (left-rising q k);
     }
 
 -- the ranks that are not on the merged path decide, where the right set holds those that are

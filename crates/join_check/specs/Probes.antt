@@ -3,7 +3,7 @@ use Prim.Native.Nat.{ℕ, _+_, _≤_}
 use mathlib.Core.Path.{_≡_}
 use mathlib.Core.List.{List, []}
 use mathlib.Core.Bool.{cond}
-use lib.ListN.{length, getD, drop}
+use lib.ListN.{getD, drop}
 use Rattle.lists.specs.Lists.{one, subset, slice}
 use Rattle.sets.specs.Marks.{signature, drops}
 use Rattle.join_spec.specs.Query.{Query}
@@ -20,9 +20,9 @@ pub record ProbeOf (q : Query) (w : List ℕ) (k e : ℕ) (p : Probe) : Type 0 w
   pub signed : p .signature ≡ signature (getD (q .lefts) k [])
   pub rest : slice (p .from) (p .to) w ≡ drop e (leftAt q k)
 
--- and so for every query whose left set k stands in w
+-- and so for every query whose left set k stands in w; the ranks lie below the slots
 pub record Probed (lay : Layout) (w : List ℕ) (k e : ℕ) (p : Probe) : Type 0 where
-  pub within : p .to ≤ length w
+  pub within : p .to ≤ lay .slots
   pub is : (q : Query) → LeftThere lay q w k → ProbeOf q w k e p
 
 -- what becomes of what is left of a left set with the right set s: signatures first, then ranks

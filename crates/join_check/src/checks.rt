@@ -19,7 +19,7 @@ pub struct Probe {
 }
 
 // What is left of the left set k after its first e ranks; no rank where it has fewer.
-fn probe_left(work: &[u32], lay: Layout, k: usize, e: usize) -> Probe
+pub fn probe_left(work: &[u32], lay: Layout, k: usize, e: usize) -> Probe
     requires { ⌜ Some (λ q. LeftThere lay q (now work) k) ⌝ }
     ensures { λ p. ⌜ Probed lay (now (work .entry)) k e p ⌝ }
 {

@@ -1,35 +1,33 @@
 -- A left set as it was found, and its candidates: its row of the pair list is that of the candidates.
 use Prim.Native.Nat.{ℕ, _+_, _-_, _≤_, _<_}
 use mathlib.Core.Path.{_≡_, sym, ap, _∙_}
-use mathlib.Core.List.{List, []}
+use mathlib.Core.List.{List}
 use mathlib.Core.Bool.{Bool, true}
 use native.Mathlib.Omega.{arith}
 use lib.Dec.{ltb}
-use lib.ListN.{length, getD, take}
+use lib.ListN.{length, take}
 use lib.Seq.{drop-drop}
 use borrow.Author.Tests.{ltb-true}
 use Rattle.lists.specs.Lists.{all, memb, subset, rising, slice, upto}
+use Rattle.lists.specs.Writing.{Put}
 use Rattle.lists.proofs.Throughout.{all-elim}
 use Rattle.lists.proofs.Filtering.{keep-agree}
 use Rattle.lists.proofs.Ranges.{length-range, range-upper}
 use Rattle.lists.proofs.Rising.{rising-drop}
 use Rattle.lists.proofs.Slices.{slice-past, frame-slice}
-use Rattle.sets.proofs.Ordered.{ordered-rising}
 use Rattle.join_spec.specs.Query.{Query}
 use Rattle.join_index.specs.Grouping.{leftAt, rightAt}
 use Rattle.join_index.specs.declared.Layout.{Layout}
+use Rattle.join_index.proofs.Ordering.{left-below, left-rising}
 use Rattle.join_check.specs.declared.checks.Probe.{Probe}
 use Rattle.join_check.specs.Asking.{LeftThere}
+use Rattle.join_check.specs.Probes.{Probed}
 use Rattle.join_pairs.specs.declared.candidates.Candidates.{Candidates}
-use Rattle.join_pairs.specs.Containing.{RanksThere, LeftFound, containedAt, pairsWith, rowAt, rowOf}
+use Rattle.join_pairs.specs.Containing.{RanksThere, containedAt, pairsWith, rowAt, rowOf}
 use Rattle.join_pairs.specs.Narrowing.{NarrowThere, Narrows, Narrowed}
-use Rattle.join_pairs.specs.Writing.{Wrote, AllRoom, RowRoom, LeftRoom}
-use Rattle.join_pairs.proofs.Inverted.{left-below, index-frame}
+use Rattle.join_pairs.specs.Writing.{AllRoom, RowRoom, LeftRoom}
+use Rattle.join_pairs.proofs.Inverted.{index-frame}
 use Rattle.join_pairs.proofs.Kept.{length-pairs, row-whole, row-empty}
-
-left-rising : (q : Query) (k : ℕ) → rising (leftAt q k) ≡ true
-unfolding leftAt
-left-rising q k = ordered-rising (q .T) (q .ranks) (getD (q .lefts) k [])
 
 rising-rest : (w : List ℕ) (from to rest : ℕ) → from ≤ rest → rising (slice from to w) ≡ true → rising (slice rest to w) ≡ true
 unfolding slice
@@ -39,9 +37,9 @@ rising-rest w from to rest low rise =
     ∙ ap rising (sym (drop-drop (rest - from) from (take to w)))
     ∙ rising-drop (rest - from) (slice from to w) rise
 
-module _ {lay : Layout} {w : List ℕ} {k : ℕ} {p : Probe} (found : LeftFound lay w k p) where
+module _ {lay : Layout} {w : List ℕ} {k : ℕ} {p : Probe} (found : Probed lay w k 0 p) where
   ranks-are : (q : Query) → LeftThere lay q w k → slice (p .from) (p .to) w ≡ leftAt q k
-  ranks-are q left = found .probed .is q left .rest
+  ranks-are q left = found .is q left .rest
 
   ranks-below : (q : Query) → LeftThere lay q w k → all (λ (r : ℕ). ltb r (q .T)) (slice (p .from) (p .to) w) ≡ true
   ranks-below q left = ap (all (λ (r : ℕ). ltb r (q .T))) (ranks-are q left) ∙ left-below q k
@@ -51,7 +49,12 @@ module _ {lay : Layout} {w : List ℕ} {k : ℕ} {p : Probe} (found : LeftFound 
 
   pub ranks-there : (q : Query) → LeftThere lay q w k → p .from < p .to → RanksThere lay q w (p .from) (p .to)
   ranks-there q left some =
-      record { index = left .index; some = some; within = found .probed .within; below = ranks-below q left }
+      record {
+        index = left .index;
+        some = some;
+        within = omega (arith, found .within, left .index .room);
+        below = ranks-below q left;
+      }
 
   pub narrow-there : (q : Query) → LeftThere lay q w k → (r : ℕ) → memb r (slice (p .from) (p .to) w) ≡ true
       → NarrowThere lay q w (p .from) (p .to) r
@@ -73,8 +76,8 @@ module _ {lay : Layout} {w : List ℕ} {k : ℕ} {p : Probe} (found : LeftFound 
           room = omega (arith, there .room, ap length empty-row, length-pairs k (upto rights), length-range 0 rights);
         }
 
-    pub empty-wrote : {r : ℕ} {u : List ℕ} → Wrote at (pairsWith k (upto rights)) was u r → Wrote at (rowAt q k) was u r
-    empty-wrote wrote = rw empty-row wrote
+    pub empty-put : {r : ℕ} {u : List ℕ} → Put was at (pairsWith k (upto rights)) r u → Put was at (rowAt q k) r u
+    empty-put put = rw empty-row put
 
   -- the candidates
   module _ (r : ℕ) (pivot : memb r (slice (p .from) (p .to) w) ≡ true) (v : List ℕ) (c : Candidates)
@@ -115,10 +118,10 @@ module _ {lay : Layout} {w : List ℕ} {k : ℕ} {p : Probe} (found : LeftFound 
           record {
             left = record { index = index-frame (narrowed .frame) size (there .left .index); below = there .left .below };
             places = narrows .places;
-            signed = found .probed .is q (there .left) .signed;
+            signed = found .is q (there .left) .signed;
             rising =
                 record {
-                  within = omega (arith, found .probed .within);
+                  within = omega (arith, found .within, there .left .index .room);
                   rise = ap rising rest-same
                       ∙ rising-rest w (p .from) (p .to) (c .rest) (narrowed .low) (ranks-rise q (there .left));
                 };
@@ -127,6 +130,6 @@ module _ {lay : Layout} {w : List ℕ} {k : ℕ} {p : Probe} (found : LeftFound 
             room = omega (arith, there .room, ap length narrowed-row);
           }
 
-      pub narrowed-wrote : {n : ℕ} {u : List ℕ} → Wrote at (rowOf q k (slice (c .from) (c .to) v)) was u n
-          → Wrote at (rowAt q k) was u n
-      narrowed-wrote wrote = rw narrowed-row wrote
+      pub narrowed-put : {n : ℕ} {u : List ℕ} → Put was at (rowOf q k (slice (c .from) (c .to) v)) n u
+          → Put was at (rowAt q k) n u
+      narrowed-put put = rw narrowed-row put

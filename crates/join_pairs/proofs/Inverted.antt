@@ -1,29 +1,26 @@
 -- The inverted lists as they are stored, the ranks that stand in a part of the work list, and the index as the slots change.
 use Prim.Native.Nat.{ℕ, suc, _+_, _-_, _≤_, _<_}
 use mathlib.Core.Path.{_≡_, sym, ap, ap₂, subst, _∙_}
-use mathlib.Core.List.{List, []}
+use mathlib.Core.List.{List}
 use mathlib.Core.Bool.{true}
 use native.Mathlib.Omega.{arith}
-use lib.Dec.{eqb, ltb}
+use lib.Dec.{ltb}
 use lib.ListN.{length, getD, take}
 use borrow.Author.Tests.{ltb-true}
-use Rattle.lists.specs.Lists.{all, any, memb, rising, slice, upto}
-use Rattle.lists.proofs.Bools.{and-left}
+use Rattle.lists.specs.Lists.{all, memb, rising, slice, upto}
 use Rattle.lists.proofs.Membership.{memb-at}
-use Rattle.lists.proofs.Throughout.{all-intro}
 use Rattle.lists.proofs.Filtering.{all-keep}
 use Rattle.lists.proofs.Ranges.{all-upto}
 use Rattle.lists.proofs.Rising.{rising-keep, rising-range}
 use Rattle.lists.proofs.Slices.{length-slice, getD-slice, all-slice}
-use Rattle.sets.proofs.Ordered.{memb-ordered}
 use Rattle.join_spec.specs.Query.{Query}
-use Rattle.join_index.specs.Grouping.{leftAt, rightAt}
+use Rattle.join_index.specs.Grouping.{rightAt}
 use Rattle.join_index.specs.Ground.{invertedList}
 use Rattle.join_index.specs.declared.Layout.{Layout}
 use Rattle.join_index.proofs.GroundLaws.{ground-frame}
 use Rattle.join_check.specs.Merges.{Rising}
 use Rattle.join_check.specs.Flags.{Places}
-use Rattle.join_check.specs.Asking.{Index, LeftThere, PlacesThere}
+use Rattle.join_check.specs.Asking.{Index, PlacesThere}
 use Rattle.join_check.proofs.Flagging.{places-small}
 use Rattle.join_pairs.specs.declared.candidates.Span.{Span}
 use Rattle.join_pairs.specs.Containing.{RankThere, RanksThere}
@@ -102,21 +99,6 @@ slice-rank {lay} {q} {w} {from} {to} there i r low high word =
       index = there .index;
       below = ltb-true r (q .T) (ap (λ (k : ℕ). ltb k (q .T)) word ∙ test);
     }
-
--- the ranks of a left set are below T, and lie below the slots
-pub left-below : (q : Query) (k : ℕ) → all (λ (r : ℕ). ltb r (q .T)) (leftAt q k) ≡ true
-unfolding leftAt
-left-below q k =
-    all-intro (λ (r : ℕ). ltb r (q .T)) (leftAt q k) (λ r m.
-    and-left (ltb r (q .T)) (any (λ i. eqb (getD (q .ranks) i 0) r) (getD (q .lefts) k []))
-    (sym (memb-ordered (q .T) (q .ranks) (getD (q .lefts) k []) r) ∙ m))
-
-pub left-low : (lay : Layout) (q : Query) (w : List ℕ) (k : ℕ) → LeftThere lay q w k
-    → lay .«left_ranks» + getD w (lay .«left_starts» + k + 1) 0 ≤ lay .slots
-left-low lay q w k there =
-    let here : lay .«left_starts» + k + 1 ≡ lay .«left_starts» + suc k = omega arith in
-    let next : getD w (lay .«left_starts» + k + 1) 0 ≡ getD w (lay .«left_starts» + suc k) 0 = ap (λ (i : ℕ). getD w i 0) here in
-    omega (arith, there .index .ground .left k (there .below) .within)
 
 -- the index stays while only words from the slots on change
 pub index-frame : {lay : Layout} {q : Query} {w v : List ℕ} → take (lay .slots) v ≡ take (lay .slots) w → length v ≡ length w

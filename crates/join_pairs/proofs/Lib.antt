@@ -1,6 +1,4 @@
--- Laws on lists written from a place on, on the pairs of a left set, and on its candidates; each function that needs a proof
--- file has its folder beside them.
-pub mod Stores
+-- Laws on the pairs of a left set, and on its candidates; each function that needs a proof file has its folder beside them.
 pub mod Kept
 pub mod Inverted
 pub mod Meeting

@@ -15,7 +15,6 @@ use Rattle.join_index.specs.Grouping.{rightAt}
 use Rattle.join_index.specs.declared.Layout.{Layout}
 use Rattle.join_check.specs.declared.checks.Probe.{Probe}
 use Rattle.join_check.specs.Asking.{Index, RightThere}
-use Rattle.join_check.specs.Probes.{Probed}
 
 -- the pairs of left place k with each of the right places
 unfoldable pub pairsWith : ℕ → List ℕ → List ℕ
@@ -33,11 +32,6 @@ rowOf q k places = pairsWith k (keep (containedAt q k) places)
 -- the pairs of the left set k with all right sets that contain it: its part of the pair list
 abbrev pub rowAt : Query → ℕ → List ℕ
 rowAt q k = rowFrom k 0 (getD (q .lefts) k []) (q .rights)
-
--- p has the signature of the left set k, and where all its ranks lie, below the slots
-pub record LeftFound (lay : Layout) (w : List ℕ) (k : ℕ) (p : Probe) : Type 0 where
-  pub probed : Probed lay w k 0 p
-  pub within : p .to ≤ lay .slots
 
 -- p is what is left of the left set k to be looked for in the right set s: containing its ranks is containing the left set
 pub record CheckThere (lay : Layout) (q : Query) (w : List ℕ) (p : Probe) (k s : ℕ) : Type 0 where

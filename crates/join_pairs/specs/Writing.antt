@@ -1,11 +1,11 @@
--- Pairs written into a list from a place on: what is asked of the room, and what stands there after.
+-- Pairs written into a list from a place on: what is asked of the room, and of a left set what is written.
 use Prim.Native.Nat.{ℕ, _+_, _*_, _≤_, _<_}
 use mathlib.Core.Path.{_≡_}
 use mathlib.Core.List.{List, []}
 use mathlib.Core.Bool.{Bool, true}
 use lib.ListN.{length, getD, take}
-use lib.Seq.{sets}
 use Rattle.lists.specs.Lists.{memb, subset, slice}
+use Rattle.lists.specs.Writing.{Put}
 use Rattle.sets.specs.Limits.{maxSets}
 use Rattle.sets.specs.Marks.{signature}
 use Rattle.join_spec.specs.Query.{Query}
@@ -16,11 +16,6 @@ use Rattle.join_check.specs.declared.checks.Probe.{Probe}
 use Rattle.join_check.specs.Asking.{Index, LeftThere, PlacesThere}
 use Rattle.join_check.specs.Merges.{Rising}
 use Rattle.join_pairs.specs.Containing.{containedAt, rowOf, rowAt}
-
--- w became w′: the list was stored from place at on, and ends at r; nothing else changed
-pub record Wrote (at : ℕ) (list w w′ : List ℕ) (r : ℕ) : Type 0 where
-  pub end : r ≡ at + length list
-  pub is : w′ ≡ sets w at list
 
 -- room for a pair, if it is one, of places that fit 16 bits
 pub record PushRoom (at k s : ℕ) (paired : Bool) (pairs : List ℕ) : Type 0 where
@@ -54,7 +49,7 @@ pub record LeftRoom (lay : Layout) (q : Query) (w : List ℕ) (k rights at : ℕ
 -- the pairs of the left set k were written, and of the work list only the slots changed
 pub record LeftWritten (lay : Layout) (w : List ℕ) (k rights at : ℕ) (pairs w′ pairs′ : List ℕ) (r : ℕ) : Type 0 where
   pub frame : take (lay .slots) w′ ≡ take (lay .slots) w
-  pub wrote : (q : Query) → LeftRoom lay q w k rights at pairs → Wrote at (rowAt q k) pairs pairs′ r
+  pub wrote : (q : Query) → LeftRoom lay q w k rights at pairs → Put pairs at (rowAt q k) r pairs′
 
 -- room for the pair list of a query with so many left sets and right sets
 pub record PairsRoom (lay : Layout) (q : Query) (w : List ℕ) (lefts rights : ℕ) (pairs : List ℕ) : Type 0 where

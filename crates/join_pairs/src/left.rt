@@ -1,5 +1,4 @@
-// One left set as it is looked for among the right sets: where it stands, the rank that fewest of them hold, and whether one of
-// them contains it.
+// One left set as it is looked for among the right sets: the rank that fewest of them hold, and whether one of them contains it.
 use join_check::checks::Probe;
 use join_check::merge::subset_ranks;
 use join_check::words::double_at;
@@ -10,27 +9,9 @@ ghost use mathlib.Core.Bool.{true};
 ghost use Prim.Native.Nat.{ℕ};
 ghost use Rattle.lists.specs.Lists.{memb, slice};
 ghost use Rattle.join_spec.specs.Query.{Query};
-ghost use Rattle.join_check.specs.Asking.{Some, LeftThere, RightThere};
+ghost use Rattle.join_check.specs.Asking.{Some, RightThere};
 ghost use Rattle.join_check.specs.Merges.{Rising};
-ghost use Rattle.join_pairs.specs.Containing.{containedAt, RankThere, RanksThere, LeftFound, CheckThere};
-
-// The signature of the left set k, and where its ranks lie.
-pub fn probe_all(work: &[u32], lay: Layout, k: usize) -> Probe
-    requires { ⌜ Some (λ q. LeftThere lay q (now work) k) ⌝ }
-    ensures { λ p. ⌜ LeftFound lay (now (work .entry)) k p ⌝ }
-{
-    let starts = lay.left_starts;
-    let ranks = lay.left_ranks;
-    let signatures = lay.left_signatures;
-    let signature = double_at(work, signatures + 2 * k);
-    let from = ranks + word_at(work, starts + k);
-    let to = ranks + word_at(work, starts + k + 1);
-    Probe {
-        signature: signature,
-        from: from,
-        to: to,
-    }
-}
+ghost use Rattle.join_pairs.specs.Containing.{containedAt, RankThere, RanksThere, CheckThere};
 
 // How many right sets hold a rank.
 pub fn holders(work: &[u32], lay: Layout, r: usize) -> usize

@@ -3,22 +3,23 @@
 use crate::candidates::narrow;
 use crate::left::is_contained;
 use crate::left::pivot;
-use crate::left::probe_all;
 use join_check::checks::Probe;
+use join_check::checks::probe_left;
 use join_check::words::word_at;
 use join_index::Layout;
 ghost use mathlib.Core.List.{[]};
 ghost use Rattle.lists.specs.Lists.{upto, slice};
+ghost use Rattle.lists.specs.Writing.{Put};
 ghost use Rattle.join_spec.specs.Query.{Query};
 ghost use Rattle.join_spec.specs.PairList.{ontoPair};
 ghost use Rattle.join_check.specs.Asking.{Some};
 ghost use Rattle.join_pairs.specs.Containing.{rowOf, pairsWith};
-ghost use Rattle.join_pairs.specs.Writing.{Wrote, PushRoom, AllRoom, RowRoom, LeftRoom, LeftWritten};
+ghost use Rattle.join_pairs.specs.Writing.{PushRoom, AllRoom, RowRoom, LeftRoom, LeftWritten};
 
 // Writes the pair of left place k and right place s where it is one.
 fn push(pairs: &mut [u16], at: usize, k: usize, s: usize, paired: bool) -> usize
     requires { ⌜ PushRoom at k s paired (now pairs) ⌝ }
-    ensures { λ r. ⌜ Wrote at (ontoPair paired k s []) (now (pairs .entry)) (now (pairs .exit)) r ⌝ }
+    ensures { λ r. ⌜ Put (now (pairs .entry)) at (ontoPair paired k s []) r (now (pairs .exit)) ⌝ }
 {
     if paired {
         pairs[at] = k as u16;
@@ -31,7 +32,7 @@ fn push(pairs: &mut [u16], at: usize, k: usize, s: usize, paired: bool) -> usize
 // Writes the pairs of an empty left set: with every right set.
 fn write_all(pairs: &mut [u16], at: usize, k: usize, rights: usize) -> usize
     requires { ⌜ AllRoom at k rights (now pairs) ⌝ }
-    ensures { λ r. ⌜ Wrote at (pairsWith k (upto rights)) (now (pairs .entry)) (now (pairs .exit)) r ⌝ }
+    ensures { λ r. ⌜ Put (now (pairs .entry)) at (pairsWith k (upto rights)) r (now (pairs .exit)) ⌝ }
 {
     let mut n = at;
     let mut s: usize = 0;
@@ -56,7 +57,7 @@ fn write_row(
 ) -> usize
     requires { ⌜ Some (λ q. RowRoom lay q (now work) p k from to at (now pairs)) ⌝ }
     ensures { λ r. ⌜ ((q : Query) → RowRoom lay q (now (work .entry)) p k from to at (now (pairs .entry))
-        → Wrote at (rowOf q k (slice from to (now (work .entry)))) (now (pairs .entry)) (now (pairs .exit)) r) ⌝ }
+        → Put (now (pairs .entry)) at (rowOf q k (slice from to (now (work .entry)))) r (now (pairs .exit))) ⌝ }
 {
     let mut n = at;
     let mut i = from;
@@ -82,7 +83,7 @@ pub fn write_left(
     ensures { λ r. ⌜ LeftWritten lay (now (work .entry)) k rights at (now (pairs .entry)) (now (work .exit))
         (now (pairs .exit)) r ⌝ }
 {
-    let p = probe_all(work, lay, k);
+    let p = probe_left(work, lay, k, 0);
     if p.to <= p.from {
         return write_all(pairs, at, k, rights);
     }

@@ -8,7 +8,7 @@ use native.Mathlib.Omega.{arith}
 use native.Mathlib.Nat.{suc-mul, zero-mul, mul-zero}
 use lib.ListN.{length}
 use Rattle.lists.specs.Lists.{count, sum, slice}
-use Rattle.lists.proofs.Counting.{count-none, count-same}
+use Rattle.lists.proofs.Counting.{count-none, count-same, count-true}
 use Rattle.lists.proofs.Summing.{sum-same}
 use Rattle.sets.specs.Marks.{drops, signature}
 use Rattle.sets.specs.Collections.{contained}
@@ -24,11 +24,6 @@ use Rattle.join_walk.specs.Visiting.{Added, Visited, Merged}
 use Rattle.join_walk.specs.Blocks.{Blocked}
 use Rattle.join_walk.specs.declared.visit.Walked.{Walked}
 use Rattle.join_walk.proofs.RowLaws.{Met}
-
-pub count-all : (l : List ℕ) → count (λ s. true) l ≡ length l
-unfolding count
-count-all [] = refl
-count-all (x ∷ xs) = omega (arith, count-all xs)
 
 pub sum-const : (c : ℕ) (l : List ℕ) → sum (λ k. c) l ≡ length l * c
 unfolding sum
@@ -53,7 +48,7 @@ module _ (q : Query) (list lefts : List ℕ) where
   pub checks-all : runCount q isCheck list lefts ≡ length lefts * length list
   checks-all =
       sum-same (rowCount q isCheck list) (λ k. length list) lefts
-      (λ k. count-same (λ s. isCheck (checkAt q k s)) (λ s. true) list (λ s. at-check k s) ∙ count-all list)
+      (λ k. count-same (λ s. isCheck (checkAt q k s)) (λ s. true) list (λ s. at-check k s) ∙ count-true list)
       ∙ sum-const (length list) lefts
 
   pub checks-no-path : runCount q isByPath list lefts ≡ 0
@@ -104,7 +99,7 @@ merged-added {q} {d} {n} lefts list many rows merged =
             merged .byPath,
             rows isByPath refl,
             sum-const (count (λ s. true) list) lefts,
-            ap (λ (c : ℕ). length lefts * c) (count-all list),
+            ap (λ (c : ℕ). length lefts * c) (count-true list),
             many,
           );
       confirmed = omega (arith, merged .confirmed, rows isConfirmed refl, none);

@@ -88,9 +88,6 @@ module _ {lay : Layout} {st : Settings} {w₀ : List ℕ} {d lo hi from to : ℕ
       same-slot : slotOf lay w (suc (lastOf path)) ≡ slotOf lay w₀ (suc (lastOf path))
       same-slot = slot-framed (kids .index) (so .framed q path kids) low-slot (suc (lastOf path)) (kids .last)
 
-      same-run : (a b : ℕ) → b ≤ length (q .lefts) → run lay w a b ≡ run lay w₀ a b
-      same-run a b few = run-framed (kids .index) (so .framed q path kids) low-slot a b few
-
       step-framed : Framed (slotOf lay w₀ (suc (lastOf path))) w₀ w′
       step-framed =
           framed-then (omega (arith, same-slot)) (so .framed q path kids)
@@ -98,7 +95,8 @@ module _ {lay : Layout} {st : Settings} {w₀ : List ℕ} {d lo hi from to : ℕ
 
       child-visited : Visited q (st .budget) (suc d) (run lay w₀ i j) r one
       child-visited =
-          subst (λ (l : List ℕ). Visited q (st .budget) (suc d) l r one) (same-run i j (omega (arith, end .within, kids .few)))
+          subst (λ (l : List ℕ). Visited q (st .budget) (suc d) l r one)
+          (run-framed (kids .index) (so .framed q path kids) low-slot i j (omega (arith, end .within, kids .few)))
           (visited .visited)
 
     pub looping-step : one .spent ≡ false → Looping lay st w₀ d lo hi from to t w′ j (one .tally)

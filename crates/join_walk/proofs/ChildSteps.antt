@@ -1,22 +1,22 @@
 -- The children of a node: the left sets that go on after its path are the groups by their next rank, from some key on. The
 -- first of them begins a whole group, which is a child; what follows are the groups of greater keys. A child's slot lies beyond
 -- its parent's candidates, since its rank is greater than the parent's last.
-use Prim.Native.Nat.{ℕ, zero, suc, _+_, _-_, _≤_, _<_}
+use Prim.Native.Nat.{ℕ, suc, _+_, _-_, _≤_, _<_}
 use mathlib.Core.Path.{_≡_, refl, sym, ap, subst, _∙_}
 use mathlib.Core.List.{List, [], _∷_, _++_}
-use mathlib.Core.Bool.{true, false, _&&_}
+use mathlib.Core.Bool.{true, false}
 use native.Mathlib.Omega.{arith}
 use native.Mathlib.Nat.{mul-le-mul-right}
 use native.Mathlib.Numerals.{add-one}
-use borrow.Author.Tests.{ltb-true, eq-eqb}
-use lib.Dec.{eqb, ltb}
+use borrow.Author.Tests.{eq-eqb}
+use lib.Dec.{eqb}
 use lib.ListN.{length, take, getD, length-append, List·getD-append}
 use lib.Seq.{getD-at, getD-take}
-use Rattle.lists.specs.Lists.{keep, prefix, rising, risingAfter, slice, upto}
-use Rattle.lists.proofs.Bools.{and-left, and-right, and-both}
+use Rattle.lists.specs.Lists.{keep, prefix, slice, upto}
+use Rattle.lists.proofs.Bools.{and-both}
 use Rattle.lists.proofs.Filtering.{keep-same}
+use Rattle.lists.proofs.Rising.{rising-below}
 use Rattle.lists.proofs.Slices.{frame-slice}
-use Rattle.sets.proofs.Ordered.{ordered-rising}
 use Rattle.join_spec.specs.Query.{Query}
 use Rattle.join_spec.specs.Node.{lastOf}
 use Rattle.join_spec.specs.Walk.{isCandidate}
@@ -25,6 +25,7 @@ use Rattle.join_index.specs.Grouping.{leftAt, rightAt, keyAt, orderFrom}
 use Rattle.join_index.specs.Ground.{Listing}
 use Rattle.join_index.specs.declared.Layout.{Layout}
 use Rattle.join_index.proofs.GroundLaws.{offsets-rise}
+use Rattle.join_index.proofs.Ordering.{left-rising}
 use Rattle.join_check.specs.Asking.{RunThere}
 use Rattle.join_check.specs.Runs.{run, leftIn, RunEnd}
 use Rattle.join_check.specs.declared.Tally.{Tally}
@@ -50,27 +51,6 @@ last-longer : (path : List ℕ) (r : ℕ) → lastOf (path ++ (r ∷ [])) ≡ r
 last-longer path r =
     let end : length (path ++ (r ∷ [])) - 1 ≡ length path = omega (arith, length-append path (r ∷ [])) in
     ap (λ (n : ℕ). getD (path ++ (r ∷ [])) n 0) end ∙ getD-at path r [] 0 (length path) refl
-
--- in a rising list the next is greater
-risingAfter-next : (x : ℕ) (xs : List ℕ) (i : ℕ) → risingAfter x xs ≡ true → suc i < length xs → getD xs i 0 < getD xs (suc i) 0
-unfolding risingAfter
-risingAfter-next x [] i rises inside = absurd (omega arith)
-risingAfter-next x (y ∷ []) i rises inside = absurd (omega arith)
-risingAfter-next x (y ∷ z ∷ zs) zero rises inside =
-    ltb-true y z (and-left (ltb y z) (risingAfter z zs) (and-right (ltb x y) (ltb y z && risingAfter z zs) rises))
-risingAfter-next x (y ∷ z ∷ zs) (suc i) rises inside =
-    risingAfter-next y (z ∷ zs) i (and-right (ltb x y) (ltb y z && risingAfter z zs) rises) (omega arith)
-
-rising-next : (xs : List ℕ) (i : ℕ) → rising xs ≡ true → suc i < length xs → getD xs i 0 < getD xs (suc i) 0
-unfolding rising risingAfter
-rising-next [] i rises inside = absurd (omega arith)
-rising-next (x ∷ []) i rises inside = absurd (omega arith)
-rising-next (x ∷ y ∷ ys) zero rises inside = ltb-true x y (and-left (ltb x y) (risingAfter y ys) rises)
-rising-next (x ∷ y ∷ ys) (suc i) rises inside = risingAfter-next x (y ∷ ys) i rises (omega arith)
-
-left-rising : (q : Query) (k : ℕ) → rising (leftAt q k) ≡ true
-unfolding leftAt
-left-rising q k = ordered-rising (q .T) (q .ranks) (getD (q .lefts) k [])
 
 -- fewer left sets need less room
 pub underway-less : {st : Settings} {q : Query} {t : Tally} {n : ℕ} (m : ℕ) → m ≤ n → Underway st q t n → Underway st q t m
@@ -145,7 +125,7 @@ module _ {lay : Layout} {st : Settings} {q : Query} {path w : List ℕ} {d i hi 
         sym (getD-at path childRank [] 0 d (kids .depth)) ∙ ap (λ (l : List ℕ). getD l d 0) whole
         ∙ getD-take (suc d) own d 0 (omega arith) in
         let rises : getD own (d - 1) 0 < getD own (suc (d - 1)) 0 =
-        rising-next own (d - 1) (left-rising q (leftIn lay w i)) (omega (arith, step, long)) in
+        rising-below own (left-rising q (leftIn lay w i)) (d - 1) (suc (d - 1)) (omega arith) (omega (arith, step, long)) in
         omega (arith, at-last, at-rank, rises, ap (λ (m : ℕ). getD own m 0) step)
 
     slot-beyond : slotOf lay w (suc (lastOf path)) ≤ slotOf lay w childRank

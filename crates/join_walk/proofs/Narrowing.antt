@@ -7,25 +7,21 @@ use mathlib.Core.Bool.{Bool, true, _&&_, and-true, and-assoc}
 use native.Mathlib.Omega.{arith}
 use borrow.Author.Tests.{eqb-true}
 use lib.Dec.{eqb, ltb}
-use lib.ListN.{length, take, getD}
+use lib.ListN.{length, take}
 use lib.Seq.{take-take, take-suc}
-use Rattle.lists.specs.Lists.{all, count, keep, memb, subset, prefix, upto, rising}
+use Rattle.lists.specs.Lists.{all, count, keep, memb, subset, prefix, upto}
 use Rattle.lists.proofs.Bools.{and-left}
-use Rattle.lists.proofs.Counting.{count-same}
+use Rattle.lists.proofs.Counting.{count-same, count-true}
 use Rattle.lists.proofs.Filtering.{keep-same, memb-keep, count-keep, keep-keep, keep-same-where}
 use Rattle.lists.proofs.Ranges.{all-upto, memb-upto}
-use Rattle.sets.proofs.Ordered.{ordered-rising}
 use Rattle.join_spec.specs.Query.{Query}
 use Rattle.join_spec.specs.Node.{seen, lastOf}
 use Rattle.join_spec.specs.Walk.{isCandidate}
 use Rattle.join_spec.proofs.Outcomes.{candidate-held}
 use Rattle.join_index.specs.Grouping.{rightAt}
 use Rattle.join_index.specs.Ground.{Listing, invertedList}
+use Rattle.join_index.proofs.Ordering.{right-rising}
 use Rattle.join_walk.proofs.Prefixes.{prefix-take}
-
-pub right-rising : (q : Query) (s : ℕ) → rising (rightAt q s) ≡ true
-unfolding rightAt
-right-rising q s = ordered-rising (q .T) (q .ranks) (getD (q .rights) s [])
 
 -- a left set that begins with a path has the path's candidates
 pub candidate-path : (e p : ℕ) (ps xs right : List ℕ) → prefix (p ∷ ps) xs ≡ true → e ≤ length (p ∷ ps)
@@ -72,13 +68,8 @@ listing-same n test other list same listing p =
 
 -- the length of a listing
 pub listing-length : (n : ℕ) (test : ℕ → Bool) (list : List ℕ) → Listing n test list → length list ≡ count test (upto n)
-unfolding count
 listing-length n test list listing =
     sym (count-true list) ∙ listing (λ s. true) ∙ count-same (λ s. test s && true) test (upto n) (λ s. and-true (test s))
-  where
-    count-true : (l : List ℕ) → count (λ s. true) l ≡ length l
-    count-true [] = refl
-    count-true (x ∷ xs) = omega (arith, count-true xs)
 
 -- after the first rank the candidates are its inverted list
 pub narrow-first : (q : Query) (r : ℕ)

@@ -73,9 +73,6 @@ module _ {lay : Layout} {st : Settings} {q : Query} {path w : List ℕ} {d lo hi
     pub index-after : Index lay q w′
     index-after = index-framed index framed low
 
-    same-run : (a b : ℕ) → b ≤ length (q .lefts) → run lay w′ a b ≡ run lay w a b
-    same-run a b few = run-framed index framed low a b few
-
     part-inside : part .to ≤ length w′
     part-inside = omega (arith, narrowed .below, index .ground .room (lastOf path) (cands .last), narrowed .size)
 
@@ -97,7 +94,7 @@ module _ {lay : Layout} {st : Settings} {q : Query} {path w : List ℕ} {d lo hi
           on = sym on;
           upto = omega (arith, node .at .some);
           few = node .at .few;
-          begins = subst (λ (l : List ℕ). Begin q path l) (sym (same-run lo hi (node .at .few))) (node-begins node);
+          begins = subst (λ (l : List ℕ). Begin q path l) (sym (run-framed index framed low lo hi (node .at .few))) (node-begins node);
           rise = narrowed .rise;
           within = part-inside;
           holds = narrowed .holds;
@@ -108,7 +105,7 @@ module _ {lay : Layout} {st : Settings} {q : Query} {path w : List ℕ} {d lo hi
     limit-visited {r} done =
         record {
           framed = framed;
-          visited = subst (λ (l : List ℕ). Visited q (st .budget) d l t r) (same-run lo hi (node .at .few)) done;
+          visited = subst (λ (l : List ℕ). Visited q (st .budget) d l t r) (run-framed index framed low lo hi (node .at .few)) done;
         }
 
     pub node-run : RunThere lay q w′ lo hi
@@ -125,13 +122,13 @@ module _ {lay : Layout} {st : Settings} {q : Query} {path w : List ℕ} {d lo hi
 
       module _ {mid : ℕ} (end : MergedEnd lay w′ d lo hi mid) where
         parted : Cut lay w′ lo mid hi (endedAt q d rest) (goingOn q d rest)
-        parted = ended-cut rest node-run (same-run lo hi (node .at .few) ∙ grouped-lefts) end
+        parted = ended-cut rest node-run (run-framed index framed low lo hi (node .at .few) ∙ grouped-lefts) end
 
         ended-lefts : run lay w lo mid ≡ endedAt q d rest
-        ended-lefts = sym (same-run lo mid (omega (arith, end .high, node .at .few))) ∙ parted .front
+        ended-lefts = sym (run-framed index framed low lo mid (omega (arith, end .high, node .at .few))) ∙ parted .front
 
         child-lefts : run lay w mid hi ≡ goingOn q d rest
-        child-lefts = sym (same-run mid hi (node .at .few)) ∙ parted .back
+        child-lefts = sym (run-framed index framed low mid hi (node .at .few)) ∙ parted .back
 
         front-length : length (run lay w lo mid) ≡ mid - lo
         front-length = run-length lay q w lo mid index (omega (arith, end .high, node .at .few))
@@ -212,7 +209,7 @@ module _ {lay : Layout} {st : Settings} {q : Query} {path w : List ℕ} {d lo hi
                 few = node .at .few;
                 keys = omega arith;
                 further = omega arith;
-                lefts = same-run mid hi (node .at .few) ∙ child-lefts;
+                lefts = run-framed index framed low mid hi (node .at .few) ∙ child-lefts;
                 rise = narrowed .rise;
                 below = omega (arith, narrowed .below, slot-framed index framed low (suc (lastOf path)) (cands .last));
                 holds = narrowed .holds;
@@ -257,6 +254,6 @@ module _ {lay : Layout} {st : Settings} {q : Query} {path w : List ℕ} {d lo hi
                     (sym (run-split lay q w lo mid hi index (end .low) (end .high) (node .at .few)))
                     (visited-then merged-lefts
                     (visited-rows (run lay w mid hi) rows-deeper
-                    (subst (λ (l : List ℕ). Visited q (st .budget) (suc d) l m r) (same-run mid hi (node .at .few))
+                    (subst (λ (l : List ℕ). Visited q (st .budget) (suc d) l m r) (run-framed index framed low mid hi (node .at .few))
                     (done .visited))));
               }

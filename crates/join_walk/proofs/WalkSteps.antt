@@ -11,7 +11,7 @@ use lib.Dec.{eqb}
 use lib.ListN.{length}
 use Rattle.lists.specs.Lists.{count, keep, prefix, range, slice, sum, upto}
 use Rattle.lists.proofs.Bools.{true-false}
-use Rattle.lists.proofs.Counting.{count-none}
+use Rattle.lists.proofs.Counting.{count-none, count-true}
 use Rattle.lists.proofs.Summing.{sum-append, sum-same-where}
 use Rattle.lists.proofs.Ranges.{length-range}
 use Rattle.join_spec.specs.Query.{Query}
@@ -31,7 +31,7 @@ use Rattle.join_walk.specs.declared.visit.Settings.{Settings}
 use Rattle.join_walk.specs.declared.visit.Walked.{Walked}
 use Rattle.join_walk.proofs.RunLaws.{Cut}
 use Rattle.join_walk.proofs.GroupSteps.{endedAt, goingOn, ended-keys, going-keys, beginners-grouped, ended-cut}
-use Rattle.join_walk.proofs.BlockVisits.{count-all, sum-const}
+use Rattle.join_walk.proofs.BlockVisits.{sum-const}
 use Rattle.join_walk.proofs.VisitLaws.{checks-added}
 use Rattle.join_walk.proofs.FrameLaws.{framed-none}
 use Rattle.join_walk.proofs.Totals.{start, total-order, start-empty, start-row}
@@ -175,7 +175,7 @@ module _ {lay : Layout} {st : Settings} {q : Query} {w : List ℕ} {lefts rights
           omega (
             arith,
             split-total isByPath,
-            ap (λ (n : ℕ). mid * n) (count-all (upto (length (q .rights))) ∙ length-range 0 (length (q .rights))),
+            ap (λ (n : ℕ). mid * n) (count-true (upto (length (q .rights))) ∙ length-range 0 (length (q .rights))),
           )
 
       pub walk-done : {w′ : List ℕ} {r : Walked} → PartVisited lay st q w w′ mid lefts m r → WalkDone lay q (st .budget) w w′ r

@@ -5,14 +5,13 @@ use mathlib.Core.Path.{_≡_, refl, _∙_}
 use mathlib.Core.List.{List, _++_}
 use native.Mathlib.Omega.{arith}
 use lib.ListN.{length, take, drop}
+use Rattle.lists.proofs.Writing.{Writing, writing-start, writing-step, writing-end, writing-room, written-whole}
 use Rattle.join_spec.specs.Query.{Query}
 use Rattle.join_spec.specs.PairList.{pairsFrom, pairList}
 use Rattle.join_spec.proofs.PairListLaws.{length-pairList}
 use Rattle.join_index.specs.declared.Layout.{Layout}
-use Rattle.lists.proofs.Filling.{sets-front}
 use Rattle.join_pairs.specs.Containing.{rowAt}
 use Rattle.join_pairs.specs.Writing.{LeftRoom, LeftWritten, PairsRoom}
-use Rattle.join_pairs.proofs.Stores.{Writing, writing-start, writing-step, writing-end, writing-room}
 use Rattle.join_pairs.proofs.Kept.{pairs-next, pairs-none}
 use Rattle.join_pairs.proofs.Inverted.{index-frame}
 use Rattle.join_pairs.proofs.write_pairs.Statement.{statement}
@@ -23,7 +22,11 @@ record PairsLeft (lay : Layout) (w : List ℕ) (lefts rights : ℕ) (was v pairs
   size : length v ≡ length w
   written :
       (q : Query) → PairsRoom lay q w lefts rights was
-      → Writing 0 (pairList (q .lefts) (q .rights)) was n (pairsFrom k (drop k (q .lefts)) (q .rights)) pairs
+      → Writing was 0 (pairList (q .lefts) (q .rights)) pairs n (pairsFrom k (drop k (q .lefts)) (q .rights))
+
+list-room : {lay : Layout} {q : Query} {w : List ℕ} {lefts rights : ℕ} {was : List ℕ} → PairsRoom lay q w lefts rights was
+    → length (pairList (q .lefts) (q .rights)) ≤ length was
+list-room {lay} {q} there = omega (arith, there .room, length-pairList (q .lefts) (q .rights))
 
 module _ {lay : Layout} {w : List ℕ} {lefts rights : ℕ} {was v pairs : List ℕ} {n k : ℕ}
     (left : PairsLeft lay w lefts rights was v pairs n k)
@@ -31,12 +34,15 @@ module _ {lay : Layout} {w : List ℕ} {lefts rights : ℕ} {was v pairs : List 
     left-room : k < lefts → (q : Query) → PairsRoom lay q w lefts rights was → LeftRoom lay q v k rights n pairs
     left-room more q there =
         record {
-          left = record { index = index-frame (left .frame) (left .size) (there .index); below = omega (arith, there .leftCount) };
+          left =
+              record {
+                index = index-frame (left .frame) (left .size) (there .index);
+                below = omega (arith, there .leftCount);
+              };
           rightCount = there .rightCount;
           room =
               writing-room (left .written q there) (rowAt q k) (pairsFrom (k + 1) (drop (k + 1) (q .lefts)) (q .rights))
-              (pairs-next q k (omega (arith, there .leftCount)))
-              (omega (arith, there .room, length-pairList (q .lefts) (q .rights)));
+              (pairs-next q k (omega (arith, there .leftCount)));
         }
 
     pairs-step : k < lefts → {u out : List ℕ} {r : ℕ} → length u ≡ length v → LeftWritten lay v k rights n pairs u out r
@@ -46,16 +52,14 @@ module _ {lay : Layout} {w : List ℕ} {lefts rights : ℕ} {was v pairs : List 
           frame = wrote .frame ∙ left .frame;
           size = size ∙ left .size;
           written = λ q there.
-              writing-step (left .written q there) (rowAt q k) (pairsFrom (k + 1) (drop (k + 1) (q .lefts)) (q .rights))
-              (pairs-next q k (omega (arith, there .leftCount)))
+              writing-step (left .written q there) (pairs-next q k (omega (arith, there .leftCount)))
               (wrote .wrote q (left-room more q there));
         }
 
     pairs-end : lefts ≤ k → (q : Query) → PairsRoom lay q w lefts rights was
         → pairs ≡ pairList (q .lefts) (q .rights) ++ drop (length (pairList (q .lefts) (q .rights))) was
     pairs-end past q there =
-        writing-end (left .written q there) (pairs-none q k (omega (arith, there .leftCount))) .is
-        ∙ sets-front (pairList (q .lefts) (q .rights)) was (omega (arith, there .room, length-pairList (q .lefts) (q .rights)))
+        written-whole (writing-end (left .written q there) (pairs-none q k (omega (arith, there .leftCount)))) (list-room there)
 
 abbrev Inv-loop : tie.InvT-loop
 Inv-loop work₀ lay lefts rights pairs₀ n₀ k₀ work pairs n k =
@@ -69,7 +73,12 @@ loop-holds : tie.Need-loop-holds Inv-loop μ-loop
 loop-holds c =
     let start = c .before .before in
     let a = start .args in
-    record { frame = refl; size = refl; written = λ q there. writing-start 0 (pairList (q .lefts) (q .rights)) (a .pairs .now) }
+    record {
+      frame = refl;
+      size = refl;
+      written = λ q there. writing-start (a .pairs .now) 0 (pairList (q .lefts) (q .rights))
+          (omega (arith, list-room there));
+    }
 
 write-left-requires : tie.Need-write-left-requires Inv-loop μ-loop
 write-left-requires c κs =

@@ -6,7 +6,7 @@ use Rattle.lists.specs.Lists.{subset, slice}
 use Rattle.join_spec.specs.Walk.{confirmed, falseDrop}
 use Rattle.join_check.specs.Probes.{probeOutcome}
 use Rattle.join_check.proofs.Reading.{right-stored}
-use Rattle.join_check.proofs.Probing.{right-part, right-rising, outcome-dropped, outcome-checked}
+use Rattle.join_check.proofs.Probing.{right-part, right-part-rising, outcome-dropped, outcome-checked}
 use Rattle.join_check.proofs.Probing.{raise-dropped, raise-confirmed, raise-false}
 use borrow.Author.Needs.{needs}
 use Rattle.join_check.proofs.checks.check_one.Statement.{statement}
@@ -71,7 +71,7 @@ subset-ranks-requires c κs =
     let start = c .before .before .before .before .before in
     let a = start .args in (
       start .pre .1 .0,
-      right-rising (a .lay) (start .pre .0 .query) (a .work .now) (a .s) (c .before .word-at .result) (c .word-at2 .result)
+      right-part-rising (a .lay) (start .pre .0 .query) (a .work .now) (a .s) (c .before .word-at .result) (c .word-at2 .result)
           (c .before .word-at .ensures) (c .word-at2 .ensures) (start .pre .0 .holds),
     )
 

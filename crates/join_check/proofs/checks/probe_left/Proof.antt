@@ -1,6 +1,6 @@
 -- `join_check::checks::probe_left` meets its contract: the ranks of a left set lie between two starts.
 use native.Mathlib.Omega.{arith}
-use Rattle.join_check.proofs.Reading.{left-stored}
+use Rattle.join_check.proofs.Reading.{left-stored, left-low}
 use Rattle.join_check.proofs.Probing.{probe-none, probe-some}
 use borrow.Author.Needs.{needs}
 use Rattle.join_check.proofs.checks.probe_left.Statement.{statement}
@@ -57,9 +57,12 @@ returns c =
     let at-double-at = at-word-at .before in
     let start = at-double-at .before .before in
     let a = start .args in
-    let s = left-stored (a .lay) (start .pre .query) (a .work .now) (a .k) (start .pre .holds) in
     record {
-      within = omega arith;
+      within = omega (
+        arith,
+        left-low (a .lay) (start .pre .query) (a .work .now) (a .k) (start .pre .holds),
+        c .before .word-at2 .ensures .is,
+      );
       is = λ q there.
           probe-none (a .lay) q (a .work .now) (a .k) (a .e) (at-word-at .word-at .result) (c .before .word-at2 .result)
           (at-double-at .double-at .result)
@@ -80,9 +83,12 @@ returns-2 c =
     let at-double-at = at-word-at .before in
     let start = at-double-at .before .before in
     let a = start .args in
-    let s = left-stored (a .lay) (start .pre .query) (a .work .now) (a .k) (start .pre .holds) in
     record {
-      within = omega arith;
+      within = omega (
+        arith,
+        left-low (a .lay) (start .pre .query) (a .work .now) (a .k) (start .pre .holds),
+        c .before .word-at2 .ensures .is,
+      );
       is = λ q there.
           probe-some (a .lay) q (a .work .now) (a .k) (a .e) (at-word-at .word-at .result) (c .before .word-at2 .result)
           (at-double-at .double-at .result)

@@ -2,7 +2,8 @@
 -- counters, with the checks of the left sets that are left, are what they were with all. The measures: the limit less the
 -- depth, and how many left sets are left.
 use native.Mathlib.Omega.{arith}
-use Rattle.join_check.proofs.Gathering.{runs-within, runs-left, runs-part, runs-run, RunsLeft}
+use Rattle.join_check.proofs.Orders.{run-left}
+use Rattle.join_check.proofs.Gathering.{runs-within, runs-part, runs-run, RunsLeft}
 use Rattle.join_check.proofs.Gathering.{runs-start, runs-room, runs-step, runs-end}
 use Prim.Native.Nat.{ℕ, _-_, _<_}
 use borrow.Fn.Kinds.{In}
@@ -76,9 +77,10 @@ gather-key-at-requires : (t : ℕ) → gather-lts.Need-key-at-requires (callees 
 gather-key-at-requires t c κs =
     let at-loop = c .before .before in
     let start = at-loop .before .before .before in
+    let more = c .before .loop-test .taken in
     record {
       query = start .pre .1 .0 .query;
-      holds = runs-left (start .pre .1 .0 .holds) (at-loop .loop .i) (c .word-at .result) (c .before .loop-test .taken)
+      holds = run-left (runs-run (start .pre .1 .0 .holds) (at-loop .loop .i) more) (at-loop .loop .i) (c .word-at .result) more
           (c .word-at .ensures);
     }
 

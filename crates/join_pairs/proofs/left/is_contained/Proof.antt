@@ -4,7 +4,7 @@ use mathlib.Core.Path.{ap, _∙_}
 use native.Mathlib.Omega.{arith}
 use Rattle.lists.specs.Lists.{subset, slice}
 use Rattle.join_check.proofs.Reading.{right-stored}
-use Rattle.join_check.proofs.Probing.{right-part, right-rising}
+use Rattle.join_check.proofs.Probing.{right-part, right-part-rising}
 use Rattle.join_pairs.proofs.Passing.{contains-none, contains-dropped}
 use borrow.Author.Needs.{needs}
 use Rattle.join_pairs.proofs.left.is_contained.Statement.{statement}
@@ -63,7 +63,7 @@ subset-ranks-requires c κs =
     let first = c .before .word-at in
     let second = c .word-at2 in (
       start .pre .1,
-      right-rising (a .lay) (start .pre .0 .query) (a .work .now) (a .s) (first .result) (second .result) (first .ensures)
+      right-part-rising (a .lay) (start .pre .0 .query) (a .work .now) (a .s) (first .result) (second .result) (first .ensures)
           (second .ensures) (start .pre .0 .holds),
     )
 

@@ -6,8 +6,9 @@ use mathlib.Core.Bool.{Bool, true, false}
 use native.Mathlib.Numerals.{add-one}
 use native.Mathlib.Omega.{arith}
 use lib.ListN.{length, set, length-set}
+use Rattle.lists.specs.Writing.{Put}
 use Rattle.join_spec.specs.PairList.{ontoPair}
-use Rattle.join_pairs.specs.Writing.{Wrote, PushRoom}
+use Rattle.join_pairs.specs.Writing.{PushRoom}
 use borrow.Author.Needs.{needs}
 use Rattle.join_pairs.proofs.rows.push.Statement.{statement}
 use Rattle.join_pairs.proofs.rows.push.Tie as tie
@@ -15,12 +16,12 @@ use Rattle.join_pairs.proofs.rows.push.Tie as tie
 pair-room : (at k s : ℕ) {b : Bool} {w : List ℕ} → PushRoom at k s b w → b ≡ true → at + 2 ≤ length w
 pair-room at k s r e = rw e at (r .room)
 
-wrote-pair : (at k s : ℕ) (b : Bool) (w : List ℕ) → b ≡ true
-    → Wrote at (ontoPair b k s []) w (set (set w at k) (at + 1) s) (at + 2)
-wrote-pair at k s b w e = rw (e, add-one at) (record { end = refl; is = refl })
+put-pair : (at k s : ℕ) (b : Bool) (w : List ℕ) → b ≡ true
+    → Put w at (ontoPair b k s []) (at + 2) (set (set w at k) (at + 1) s)
+put-pair at k s b w e = rw (e, add-one at) (record { written = refl; past = refl })
 
-wrote-none : (at k s : ℕ) (b : Bool) (w : List ℕ) → b ≡ false → Wrote at (ontoPair b k s []) w w at
-wrote-none at k s b w e = rw e (record { end = omega arith; is = refl })
+put-none : (at k s : ℕ) (b : Bool) (w : List ℕ) → b ≡ false → Put w at (ontoPair b k s []) at w
+put-none at k s b w e = rw e (record { written = refl; past = omega arith })
 
 cast-pairs : tie.Need-cast-pairs
 cast-pairs c = search needs
@@ -54,11 +55,11 @@ same-length c = search needs
 
 returns : tie.Need-returns
 returns c =
-    let a = c .before .args in wrote-pair (a .at) (a .k) (a .s) (a .paired) (a .pairs .now) (c .if1 .taken)
+    let a = c .before .args in put-pair (a .at) (a .k) (a .s) (a .paired) (a .pairs .now) (c .if1 .taken)
 
 returns-2 : tie.Need-returns-2
 returns-2 c =
-    let a = c .before .args in wrote-none (a .at) (a .k) (a .s) (a .paired) (a .pairs .now) (c .if1 .left)
+    let a = c .before .args in put-none (a .at) (a .k) (a .s) (a .paired) (a .pairs .now) (c .if1 .left)
 
 pub push-spec : {M : Type 1} → statement M
 push-spec =

@@ -7,16 +7,16 @@ use native.Mathlib.Nat.{sub-zero}
 use native.Mathlib.Omega.{arith}
 use Rattle.lists.specs.Lists.{range, upto}
 use Rattle.lists.proofs.Ranges.{length-range}
+use Rattle.lists.proofs.Writing.{Writing, writing-start, writing-step, writing-end, writing-room}
 use Rattle.join_spec.specs.PairList.{ontoPair}
 use Rattle.join_pairs.specs.Containing.{pairsWith}
-use Rattle.join_pairs.proofs.Stores.{Writing, writing-start, writing-step, writing-end, writing-room}
 use Rattle.join_pairs.proofs.Kept.{length-pairs, all-next, all-none}
 use Rattle.join_pairs.proofs.rows.write_all.Statement.{statement}
 use Rattle.join_pairs.proofs.rows.write_all.Tie as tie
 
 abbrev Inv-loop : tie.InvT-loop
 Inv-loop pairs₀ at k rights n₀ s₀ pairs n s =
-    Writing at (pairsWith k (upto rights)) pairs₀ n (pairsWith k (range s (rights - s))) pairs
+    Writing pairs₀ at (pairsWith k (upto rights)) pairs n (pairsWith k (range s (rights - s)))
 
 abbrev μ-loop : tie.MeasureT-loop
 μ-loop pairs₀ at k rights n₀ s₀ pairs n s =
@@ -25,7 +25,9 @@ abbrev μ-loop : tie.MeasureT-loop
 loop-holds : tie.Need-loop-holds Inv-loop μ-loop
 loop-holds c =
     let a = c .before .args in
-    rw (sub-zero (a .rights)) (writing-start (a .at) (pairsWith (a .k) (upto (a .rights))) (a .pairs .now))
+    rw (sub-zero (a .rights))
+    (writing-start (a .pairs .now) (a .at) (pairsWith (a .k) (upto (a .rights)))
+    (omega (arith, length-pairs (a .k) (upto (a .rights)), length-range 0 (a .rights))))
 
 push-requires : tie.Need-push-requires Inv-loop μ-loop
 push-requires c κs =
@@ -38,8 +40,7 @@ push-requires c κs =
       right = omega arith;
       room =
           writing-room (at-loop .inv) (ontoPair true (a .k) s []) (pairsWith (a .k) (range (s + 1) (a .rights - (s + 1))))
-          (all-next (a .k) s (a .rights) (c .before .loop-test .taken))
-          (omega (arith, length-pairs (a .k) (upto (a .rights)), length-range 0 (a .rights)));
+          (all-next (a .k) s (a .rights) (c .before .loop-test .taken));
     }
 
 add-s : tie.Need-add-s Inv-loop μ-loop
@@ -57,10 +58,7 @@ loop-again c =
     let at-loop-test = c .before .before .before .before .loop-test in
     let at-push = c .before .before .push in
     let a = start .args in
-    let s = at-loop .s in
-    writing-step (at-loop .inv) (ontoPair true (a .k) s []) (pairsWith (a .k) (range (s + 1) (a .rights - (s + 1))))
-    (all-next (a .k) s (a .rights) (at-loop-test .taken))
-    (at-push .ensures)
+    writing-step (at-loop .inv) (all-next (a .k) (at-loop .s) (a .rights) (at-loop-test .taken)) (at-push .ensures)
 
 same-length : tie.Need-same-length Inv-loop μ-loop
 same-length c =

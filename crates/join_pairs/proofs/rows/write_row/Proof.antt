@@ -6,7 +6,9 @@ use mathlib.Core.List.{List, [], _∷_, _++_}
 use mathlib.Core.Bool.{Bool}
 use native.Mathlib.Omega.{arith}
 use Rattle.lists.specs.Lists.{slice}
+use Rattle.lists.specs.Writing.{Put}
 use Rattle.lists.proofs.Slices.{slice-past, slice-next}
+use Rattle.lists.proofs.Writing.{Writing, writing-start, writing-step, writing-end, writing-room}
 use Rattle.join_spec.specs.Query.{Query}
 use Rattle.join_spec.specs.PairList.{ontoPair}
 use Rattle.join_index.specs.declared.Layout.{Layout}
@@ -14,18 +16,18 @@ use Rattle.join_check.specs.declared.checks.Probe.{Probe}
 use Rattle.join_check.specs.Words.{Word}
 use Rattle.join_check.proofs.Places.{place-right}
 use Rattle.join_pairs.specs.Containing.{containedAt, rowOf, CheckThere}
-use Rattle.join_pairs.specs.Writing.{Wrote, PushRoom, RowRoom}
-use Rattle.join_pairs.proofs.Stores.{Writing, writing-start, writing-step, writing-end, writing-room}
+use Rattle.join_pairs.specs.Writing.{PushRoom, RowRoom}
 use Rattle.join_pairs.proofs.Kept.{row-next, row-none}
 use Rattle.join_pairs.proofs.Inverted.{slice-memb}
 use Rattle.join_pairs.proofs.rows.write_row.Statement.{statement}
 use Rattle.join_pairs.proofs.rows.write_row.Tie as tie
 
-record RowLeft (lay : Layout) (w : List ℕ) (p : Probe) (k from to at : ℕ) (was : List ℕ) (n : ℕ) (pairs : List ℕ) (i : ℕ) : Type 0 where
+record RowLeft (lay : Layout) (w : List ℕ) (p : Probe) (k from to at : ℕ) (was : List ℕ) (n : ℕ) (pairs : List ℕ) (i : ℕ)
+    : Type 0 where
   low : from ≤ i
   written :
       (q : Query) → RowRoom lay q w p k from to at was
-      → Writing at (rowOf q k (slice from to w)) was n (rowOf q k (slice i to w)) pairs
+      → Writing was at (rowOf q k (slice from to w)) pairs n (rowOf q k (slice i to w))
 
 row-past : (q : Query) (k : ℕ) (w : List ℕ) (i to : ℕ) → to ≤ i → rowOf q k (slice i to w) ≡ []
 row-past q k w i to past =
@@ -48,12 +50,11 @@ module _ {lay : Layout} {w : List ℕ} {p : Probe} {k from to at : ℕ} {was : L
         ∙ row-next (containedAt q k) k s (slice (i + 1) to w)
         ∙ ap (λ (t : Bool). ontoPair t k s [] ++ rowOf q k (slice (i + 1) to w)) test
 
-    row-step : {r : ℕ} {u : List ℕ} → Wrote n (ontoPair b k s []) pairs u r → RowLeft lay w p k from to at was r u (i + 1)
-    row-step wrote =
+    row-step : {r : ℕ} {u : List ℕ} → Put pairs n (ontoPair b k s []) r u → RowLeft lay w p k from to at was r u (i + 1)
+    row-step put =
         record {
           low = omega (arith, left .low);
-          written = λ q there.
-              writing-step (left .written q there) (ontoPair b k s []) (rowOf q k (slice (i + 1) to w)) (row-split q there) wrote;
+          written = λ q there. writing-step (left .written q there) (row-split q there) put;
         }
 
     row-room : (q : Query) → RowRoom lay q w p k from to at was → PushRoom n k s b pairs
@@ -63,8 +64,7 @@ module _ {lay : Layout} {w : List ℕ} {p : Probe} {k from to at : ℕ} {was : L
           left = omega (arith, there .left .below, there .left .index .ground .leftFew);
           right = omega (arith, right .below, right .index .ground .rightFew);
           room =
-              writing-room (left .written q there) (ontoPair b k s []) (rowOf q k (slice (i + 1) to w)) (row-split q there)
-              (there .room);
+              writing-room (left .written q there) (ontoPair b k s []) (rowOf q k (slice (i + 1) to w)) (row-split q there);
         }
 
 abbrev Inv-loop : tie.InvT-loop
@@ -81,7 +81,8 @@ loop-holds c =
     let a = start .args in
     record {
       low = omega arith;
-      written = λ q there. writing-start (a .at) (rowOf q (a .k) (slice (a .from) (a .to) (a .work .now))) (a .pairs .now);
+      written = λ q there.
+          writing-start (a .pairs .now) (a .at) (rowOf q (a .k) (slice (a .from) (a .to) (a .work .now))) (there .room);
     }
 
 word-at-requires : tie.Need-word-at-requires Inv-loop μ-loop
