@@ -1,4 +1,5 @@
--- Rising parts of a list of words, and what two of them share, written behind them.
+-- Rising parts of a list of words: how far one is passed over in a search for the other's words, and what two of them share,
+-- written behind them.
 use Prim.Native.Nat.{ℕ, _+_, _-_, _≤_, _<_}
 use mathlib.Core.Path.{_≡_}
 use mathlib.Core.List.{List}
@@ -20,7 +21,7 @@ pub record Skipped (a b c e : ℕ) (w : List ℕ) (r : ℕ) : Type 0 where
   pub rise : rising (slice c r w) ≡ true
   pub same : subset (slice a b w) (slice c r w) ≡ subset (slice a b w) (slice c e w)
 
--- parts that end at b and e lie below out, and from out on there is room for the second
+-- parts that end at b and e lie below out, and from out on there is room for the second, which begins at c
 pub record Apart (b c e out : ℕ) (w : List ℕ) : Type 0 where
   pub left : b ≤ out
   pub right : e ≤ out

@@ -1,5 +1,5 @@
-// The checks of a join, and what else the walk reads off the index: merges of rising runs, the runs of left sets with a common
-// prefix, the right sets seen, and the checks of left sets below a node. All of it reads the work list by the layout.
+// The checks of a join, and what else is read off the index: what two rising parts of the work list share, the runs of left sets
+// with a common prefix, the right sets seen, and the checks of left sets below a node. The work list is read by its layout.
 
 // The counters of a walk: pairs by path, and the checks by how they ended.
 pub struct Tally {

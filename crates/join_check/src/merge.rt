@@ -1,4 +1,5 @@
-// Merges of two rising parts of the work list.
+// Two rising parts of the work list: whether the second has every word of the first, and the words that both have. For each
+// there are two ways, and how long the parts are decides which is taken.
 use crate::flags::flag_words;
 use crate::flags::keep_flagged;
 use crate::words::number;
@@ -8,10 +9,10 @@ ghost use Rattle.lists.specs.Lists.{subset, slice};
 ghost use Rattle.join_check.specs.Merges.{Rising, Skipped, Apart, Intersected};
 ghost use Rattle.join_check.specs.Flags.{Places};
 
-// From so many words in the first part on, a merge of both takes less time than to look for each.
+// From so many words in the first part on, a merge of both parts takes less time than to look for each word.
 const MANY_RANKS: usize = 16;
 
-// Below so many words in both parts it is not worth while to clear a table of flags.
+// Below so many words in both parts together it is not worth while to clear a table of flags.
 const FEW_WORDS: usize = 64;
 
 // Goes back in the second part to the last word that is not above the last word of the first part, and returns the place after it.
@@ -120,7 +121,8 @@ fn merge_shared(work: &mut [u32], a: usize, b: usize, c: usize, e: usize, out: u
     n
 }
 
-// The same, for parts of places, by a table that flags the words of the first part.
+// The same, for parts of places, by a table of flags: the words of the first part are flagged, and those of the second that
+// are flagged are written.
 fn flag_shared(work: &mut [u32], a: usize, b: usize, c: usize, e: usize, out: usize) -> usize
     requires { ⌜ Rising a b (now work) ⌝ }
     requires { ⌜ Rising c e (now work) ⌝ }
@@ -134,7 +136,7 @@ fn flag_shared(work: &mut [u32], a: usize, b: usize, c: usize, e: usize, out: us
     keep_flagged(work, c, e, out, &flags)
 }
 
-// The same by whichever of the two takes less time.
+// The same, for parts of places, by whichever of the two takes less time.
 pub fn intersect(work: &mut [u32], a: usize, b: usize, c: usize, e: usize, out: usize) -> usize
     requires { ⌜ Rising a b (now work) ⌝ }
     requires { ⌜ Rising c e (now work) ⌝ }
