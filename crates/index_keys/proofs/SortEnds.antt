@@ -1,5 +1,5 @@
--- The offsets of a sort as the ends of its groups: they climb to the last, and between them stand the groups' places. So what a sort
--- left can be turned about.
+-- The offsets of a sort as the ends of its groups: they climb to the last, and between them stand the groups' places. So what a
+-- sort left can be turned about.
 use Prim.Native.Nat.{ℕ, zero, suc, _+_, _-_, _≤_}
 use mathlib.Core.Path.{_≡_, sym, ap, ap₂, _∙_}
 use mathlib.Core.List.{List, [], _∷_, _++_, map}

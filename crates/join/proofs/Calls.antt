@@ -1,5 +1,5 @@
--- Demand 3 over the contract of `run`: what any calls of it show, whatever their settings and lists. A call is given by its collections, its
--- settings with the lengths of its lent lists, and the clauses that `run` ensures of its answer and pair list.
+-- Demand 3 over the contract of `run`: what any calls of it show, whatever their settings and lists. A call is given by its
+-- collections, its settings with the lengths of its lent lists, and the clauses that `run` ensures of its answer and pair list.
 use Prim.Native.Nat.{ℕ, _+_, _*_, _≤_, _<_}
 use mathlib.Core.Path.{_≡_, sym, ap, _∙_}
 use mathlib.Core.List.{List}
@@ -21,19 +21,22 @@ pub record RunCall (c : Collections) (s : Settings) (r : JoinAnswer) (before aft
   pub pairs : after ≡ pairsAfter r (pairList (leftsOf c) (rightsOf c)) before
   pub room : s .room ≡ length before
 
-module _ {c : Collections} {s : Settings} {counts : Counts} {before after : List ℕ} (call : RunCall c s (Joined counts) before after) where
+module _ {c : Collections} {s : Settings} {counts : Counts} {before after : List ℕ}
+    (call : RunCall c s (Joined counts) before after) where
   joins : answerOf c s ≡ Joined counts
   joins = sym (call .answer)
 
   -- the filled part is the pair list, and what lies beyond is as before
   pub call-filled : take (2 * counts .pairs) after ≡ pairList (leftsOf c) (rightsOf c)
   call-filled =
-      ap (take (2 * counts .pairs)) (call .pairs ∙ ap (λ (r : JoinAnswer). pairsAfter r (pairList (leftsOf c) (rightsOf c)) before) (call .answer))
+      ap (take (2 * counts .pairs))
+      (call .pairs ∙ ap (λ (r : JoinAnswer). pairsAfter r (pairList (leftsOf c) (rightsOf c)) before) (call .answer))
       ∙ laws.filled-part c s counts joins before
 
   pub call-rest : drop (2 * counts .pairs) after ≡ drop (2 * counts .pairs) before
   call-rest =
-      ap (drop (2 * counts .pairs)) (call .pairs ∙ ap (λ (r : JoinAnswer). pairsAfter r (pairList (leftsOf c) (rightsOf c)) before) (call .answer))
+      ap (drop (2 * counts .pairs))
+      (call .pairs ∙ ap (λ (r : JoinAnswer). pairsAfter r (pairList (leftsOf c) (rightsOf c)) before) (call .answer))
       ∙ laws.rest-part c s counts joins before
 
   -- each count is its definition's, and the sums hold

@@ -97,7 +97,8 @@ fn join_ready(
     work: &mut [u32],
     pairs: &mut [u16],
 ) -> JoinAnswer
-    requires { ⌜ Accepted t (now «left_ends») (now «left_items») (now «right_ends») (now «right_items») limit (now ranks) (now work) ⌝ }
+    requires { ⌜ Accepted t (now «left_ends») (now «left_items») (now «right_ends») (now «right_items») limit (now ranks)
+        (now work) ⌝ }
     ensures answer { λ r. ⌜ r ≡ walkAnswer
         (query t (now («left_ends» .entry)) (now («left_items» .entry)) (now («right_ends» .entry)) (now («right_items» .entry))
         limit (now (ranks .entry)) rule) budget (length (now (pairs .entry))) ⌝ }
@@ -160,7 +161,8 @@ pub fn run(
     pairs: &mut [u16],
 ) -> JoinAnswer
     ensures answer { λ r. ⌜ r ≡ joinAnswer t (now («left_ends» .entry)) (now («left_items» .entry)) (now («right_ends» .entry))
-        (now («right_items» .entry)) limit (now (ranks .entry)) budget rule (length (now (work .entry))) (length (now (pairs .entry))) ⌝ }
+        (now («right_items» .entry)) limit (now (ranks .entry)) budget rule (length (now (work .entry)))
+        (length (now (pairs .entry))) ⌝ }
     ensures pairs { λ r. ⌜ now (pairs .exit) ≡ pairsAfter r
         (pairList (setsOf (now («left_ends» .entry)) (now («left_items» .entry)))
         (setsOf (now («right_ends» .entry)) (now («right_items» .entry)))) (now (pairs .entry)) ⌝ }

@@ -1,5 +1,5 @@
--- The build as a whole: what each stage requires from the layout and from what the stages before it leave, and that in the end the
--- regions are the ground of the walk.
+-- The build as a whole: what each stage requires from the layout and from what the stages before it leave, and that in the end
+-- the regions are the ground of the walk.
 use Prim.Native.Nat.{ℕ, zero, suc, _+_, _*_, _≤_, _<_}
 use mathlib.Core.Path.{_≡_, refl, sym, ap, ap₂, _∙_, subst}
 use mathlib.Core.List.{List, []}
@@ -230,14 +230,17 @@ module _ {leftEnds leftItems rightEnds rightItems ranks w : List ℕ}
               (order-built :
               OrderBuilt (lay .«by_least» + length rightEnds) (length leftEnds) T
               (orderedBy (heldKey c (lay .«left_starts») (lay .«left_ranks»)) T (length leftEnds) limit 0) c d) where
-            pub sign-room : BothRoom T (lay .«right_signatures») (lay .«left_signatures») rightEnds rightItems leftEnds leftItems d
+            pub sign-room :
+                BothRoom T (lay .«right_signatures») (lay .«left_signatures») rightEnds rightItems leftEnds leftItems d
             sign-room =
                 record {
                   few = room .items;
                   rightGood = room .rightGood;
                   leftGood = room .leftGood;
                   above = omega (arith, out .leftSignatures);
-                  room = omega (arith, wide, out .slots, right-built .size, left-built .size, least-built .size, order-built .size);
+                  room =
+                      omega
+                      (arith, wide, out .slots, right-built .size, left-built .size, least-built .size, order-built .size);
                 }
 
             module _ {f : List ℕ} (signed : BothSigned (lay .«right_signatures») (lay .«left_signatures») rights lefts d f)
@@ -261,7 +264,8 @@ module _ {leftEnds leftItems rightEnds rightItems ranks w : List ℕ}
                   ∙ least-built .frame
 
               from-right : take (lay .«right_ranks» + nr) f ≡ take (lay .«right_ranks» + nr) a
-              from-right = frame-less (lay .«right_ranks» + nr) (lay .«least_offsets») b f least-below from-left ∙ left-built .frame
+              from-right =
+                  frame-less (lay .«right_ranks» + nr) (lay .«least_offsets») b f least-below from-left ∙ left-built .frame
 
               size : length f ≡ length w
               size = signed .size ∙ order-built .size ∙ least-built .size ∙ left-built .size ∙ right-built .size

@@ -1,4 +1,5 @@
--- What the regions of the work list keep while only words from the slots on change; and that the offsets of the inverted lists rise.
+-- What the regions of the work list keep while only words from the slots on change; and that the offsets of the inverted lists
+-- rise.
 use Prim.Native.Nat.{ℕ, zero, suc, _+_, _-_, _*_, _≤_, _<_}
 use mathlib.Core.Path.{_≡_, refl, ap, ap₂, _∙_}
 use mathlib.Core.List.{List}
@@ -53,7 +54,8 @@ module _ (lay : Layout) (q : Query) (w v : List ℕ) (kept : take (lay .slots) v
         left =
             λ k h. holds-frame kept
             (same-start w v (lay .slots) kept (lay .«left_starts») (lay .«left_ranks») k (omega (arith, g .leftStartsWithin)))
-            (same-start w v (lay .slots) kept (lay .«left_starts») (lay .«left_ranks») (suc k) (omega (arith, g .leftStartsWithin)))
+            (same-start w v (lay .slots) kept (lay .«left_starts») (lay .«left_ranks») (suc k)
+            (omega (arith, g .leftStartsWithin)))
             (g .left k h);
         right =
             λ s h. holds-frame kept

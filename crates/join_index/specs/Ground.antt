@@ -43,7 +43,8 @@ pub record Ground (lay : Layout) (q : Query) (w : List ℕ) : Type 0 where
       (s : ℕ) → s < length (q .rights)
       → Holds w (lay .slots) (startOf w (lay .«right_starts») (lay .«right_ranks») s)
       (startOf w (lay .«right_starts») (lay .«right_ranks») (suc s)) (rightAt q s)
-  pub leftSignature : (k : ℕ) → k < length (q .lefts) → double w (lay .«left_signatures» + 2 * k) ≡ signature (getD (q .lefts) k [])
+  pub leftSignature :
+      (k : ℕ) → k < length (q .lefts) → double w (lay .«left_signatures» + 2 * k) ≡ signature (getD (q .lefts) k [])
   pub rightSignature : (s : ℕ) → s < length (q .rights)
       → double w (lay .«right_signatures» + 2 * s) ≡ signature (getD (q .rights) s [])
   pub inverted :

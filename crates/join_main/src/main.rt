@@ -1,7 +1,7 @@
-// Document 01's shelf examples P1 to P9 and cases at the borders, through the join itself: a table of cases, a line each. A line of
-// standard output has the case's name, the answer's number with its detail (0 0 where it is accepted), the six counts, and
-// the whole pair list, which held 9 in every place before. The table, after the number of its lines, has on each line a name, a colon
-// and numbers, each followed by one byte that is no digit:
+// Document 01's shelf examples P1 to P9 and cases at the borders, through the join itself: a table of cases, a line each. A
+// line of standard output has the case's name, the answer's number with its detail (0 0 where it is accepted), the six counts,
+// and the whole pair list, which held 9 in every place before. The table, after the number of its lines, has on each line a
+// name, a colon and numbers, each followed by one byte that is no digit:
 // - T, limit, budget, rule (0 Merge, 1 Check, 2 Weighed), four codes of weights, words of the work list, places of the pair list;
 // - where the left and the right ends stop, in one list, and where left items, right items and ranks stop, in another;
 // - the two lists.

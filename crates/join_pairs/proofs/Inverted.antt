@@ -48,7 +48,8 @@ inverted-stored lay q w r there =
     }
 
 -- the inverted list where it was found: rising places of right sets
-module _ (lay : Layout) (q : Query) (w : List ℕ) (r : ℕ) (s : Span) (listed : Listed lay w r s) (there : RankThere lay q w r) where
+module _ (lay : Layout) (q : Query) (w : List ℕ) (r : ℕ) (s : Span) (listed : Listed lay w r s)
+    (there : RankThere lay q w r) where
   pub list-part : slice (s .from) (s .to) w ≡ invertedList q r
   list-part =
       ap₂ (λ (a b : ℕ). slice a b w) (listed .from) (listed .to) ∙ inverted-stored lay q w r there .is

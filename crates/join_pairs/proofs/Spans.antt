@@ -66,7 +66,8 @@ module _ {lay : Layout} {q : Query} {w : List ℕ} {from to pivot : ℕ} (there 
         arith,
         first,
         second,
-        rising-below (slice from to w) (there .rise) (i - from) (i + 1 - from) (omega arith) (omega (arith, length-slice from to w within)),
+        rising-below (slice from to w) (there .rise) (i - from) (i + 1 - from) (omega arith)
+            (omega (arith, length-slice from to w within)),
       )
 
   pub so-far-start : (s : Span) → Listed lay w pivot s → SoFar lay q w from to pivot w (s .from) (s .to) from

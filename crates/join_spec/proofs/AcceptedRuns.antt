@@ -71,8 +71,12 @@ module _ (c : Collections) (s : Settings) (counts : Counts) (joins : answerOf c 
       let places : 2 * pairCount (leftsOf c) (rightsOf c) ≤ s .room = accepted c s counts joins .places in
       let pairs-length = length-pairList (leftsOf c) (rightsOf c) in
       rw joins
-      (omega
-      (arith, length-append (pairsOf c) (drop (length (pairsOf c)) before), length-drop (length (pairsOf c)) before, pairs-length))
+      (omega (
+        arith,
+        length-append (pairsOf c) (drop (length (pairsOf c)) before),
+        length-drop (length (pairsOf c)) before,
+        pairs-length,
+      ))
 
 -- two accepted joins of the same collections, whatever their limits, ranks, budgets, rules, weights and lists
 module _ (c : Collections) (s s′ : Settings) (counts counts′ : Counts) (joins : answerOf c s ≡ Joined counts)

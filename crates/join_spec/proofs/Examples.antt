@@ -1,5 +1,6 @@
 -- Document 01, "Shelf examples": P1 to P9 as one computed table, and one result about it. Ranks equal items, T is 4 and the
--- budget the greatest unless a row says otherwise; every row states number, detail and six counts, and the whole pair list at exit.
+-- budget the greatest unless a row says otherwise; every row states number, detail and six counts, and the whole pair list at
+-- exit.
 use Prim.Native.Nat.{ℕ, _-_, _^_}
 use mathlib.Core.List.{List, [], _∷_, _++_}
 use mathlib.Core.Bool.{Bool, true, false, _&&_}

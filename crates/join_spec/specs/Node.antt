@@ -1,5 +1,5 @@
--- A node of the prefix tree stands for a path, a non-empty prefix of a left set in rank order. Here are the three numbers that the
--- merge rule sees at a node, and the rule. All sets are lists of rising ranks.
+-- A node of the prefix tree stands for a path, a non-empty prefix of a left set in rank order. Here are the three numbers that
+-- the merge rule sees at a node, and the rule. All sets are lists of rising ranks.
 use Prim.Native.Nat.{ℕ, _-_, _*_}
 use mathlib.Core.List.{List, [], _∷_}
 use mathlib.Core.Bool.{Bool, true, false, _&&_}

@@ -89,7 +89,9 @@ module _ {lay : Layout} {q : Query} {path w : List ℕ} {d lo hi : ℕ} (cands :
         (record {
           index = cands .index;
           within = within;
-          below = rw is (all-keep (λ s. ltb s (length (q .rights))) test (upto (length (q .rights))) (all-upto (length (q .rights))));
+          below =
+              rw is
+              (all-keep (λ s. ltb s (length (q .rights))) test (upto (length (q .rights))) (all-upto (length (q .rights))));
         })
         order
 

@@ -94,7 +94,8 @@ module _ {lay : Layout} {st : Settings} {q : Query} {path w : List ℕ} {d lo hi
           on = sym on;
           upto = omega (arith, node .at .some);
           few = node .at .few;
-          begins = subst (λ (l : List ℕ). Begin q path l) (sym (run-framed index framed low lo hi (node .at .few))) (node-begins node);
+          begins =
+              subst (λ (l : List ℕ). Begin q path l) (sym (run-framed index framed low lo hi (node .at .few))) (node-begins node);
           rise = narrowed .rise;
           within = part-inside;
           holds = narrowed .holds;
@@ -105,7 +106,8 @@ module _ {lay : Layout} {st : Settings} {q : Query} {path w : List ℕ} {d lo hi
     limit-visited {r} done =
         record {
           framed = framed;
-          visited = subst (λ (l : List ℕ). Visited q (st .budget) d l t r) (run-framed index framed low lo hi (node .at .few)) done;
+          visited =
+              subst (λ (l : List ℕ). Visited q (st .budget) d l t r) (run-framed index framed low lo hi (node .at .few)) done;
         }
 
     pub node-run : RunThere lay q w′ lo hi
@@ -254,6 +256,7 @@ module _ {lay : Layout} {st : Settings} {q : Query} {path w : List ℕ} {d lo hi
                     (sym (run-split lay q w lo mid hi index (end .low) (end .high) (node .at .few)))
                     (visited-then merged-lefts
                     (visited-rows (run lay w mid hi) rows-deeper
-                    (subst (λ (l : List ℕ). Visited q (st .budget) (suc d) l m r) (run-framed index framed low mid hi (node .at .few))
+                    (subst (λ (l : List ℕ). Visited q (st .budget) (suc d) l m r)
+                    (run-framed index framed low mid hi (node .at .few))
                     (done .visited))));
               }

@@ -50,8 +50,8 @@ fn weigh_node(
     to: usize,
 ) -> bool
     requires { ⌜ SomePath (λ q path. NodeAt lay q path (now work) d lo hi from to) ⌝ }
-    ensures { λ r. ⌜ ((q : Query) (path : List ℕ) → NodeAt lay q path (now (work .entry)) d lo hi from to → q .rule ≡ Weighed weights
-        → r ≡ goes q path) ⌝ }
+    ensures { λ r. ⌜ ((q : Query) (path : List ℕ) → NodeAt lay q path (now (work .entry)) d lo hi from to
+        → q .rule ≡ Weighed weights → r ≡ goes q path) ⌝ }
 {
     let offsets = lay.offsets;
     let index = lay.index;

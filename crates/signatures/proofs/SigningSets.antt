@@ -22,7 +22,8 @@ use Rattle.signatures.specs.Signing.{double, ItemsRoom, Stored, SigningR
 -- two words below a place up to which nothing changed
 pub double-stays : (n i : ℕ) (was is : List ℕ) → take n is ≡ take n was → i + 2 ≤ n → double is i ≡ double was i
 double-stays n i was is frame below =
-    ap₂ (λ (a b : ℕ). a + 2 ^ 32 * b) (frame-at 0 i n was is (omega arith) frame) (frame-at 0 (i + 1) n was is (omega arith) frame)
+    ap₂ (λ (a b : ℕ). a + 2 ^ 32 * b) (frame-at 0 i n was is (omega arith) frame)
+    (frame-at 0 (i + 1) n was is (omega arith) frame)
 
 -- the signatures of the first k sets are written; the others begin at start
 pub record SigningLeft (at : ℕ) (ends items table was is : List ℕ) (start k : ℕ) : Type 0 where
@@ -52,7 +53,8 @@ module _ (at : ℕ) (ends items table was is : List ℕ) (start k : ℕ) (room :
         bits = room .bits;
       }
 
-  sets-here : drop k (setsOf ends items) ≡ between start (getD ends k 0) items ∷ setsFrom (getD ends k 0) (drop (suc k) ends) items
+  sets-here : drop k (setsOf ends items)
+      ≡ between start (getD ends k 0) items ∷ setsFrom (getD ends k 0) (drop (suc k) ends) items
   unfolding setsFrom
   sets-here = sym (left .sets) ∙ ap (λ (l : List ℕ). setsFrom start l items) (drop-cons ends k 0 below)
 
@@ -79,7 +81,8 @@ module _ (at : ℕ) (ends items table was is : List ℕ) (start k : ℕ) (room :
               signatures = λ j h.
                   by-test (eqb j k)
                   (λ same.
-                  subst (λ (i : ℕ). double next (at + 2 * i) ≡ signature (getD (setsOf ends items) i [])) (sym (eqb-true j k same))
+                  subst (λ (i : ℕ). double next (at + 2 * i) ≡ signature (getD (setsOf ends items) i []))
+                  (sym (eqb-true j k same))
                   (stored .is ∙ e ∙ ap (λ (l : List ℕ). signature l) (sym set-here)))
                   (λ differ.
                   let other : j ≢ k = eqb-false j k differ in

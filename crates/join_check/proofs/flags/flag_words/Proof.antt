@@ -28,7 +28,8 @@ shared-slice-read-s c =
 cast-s : tie.Need-cast-s Inv-loop μ-loop
 cast-s c =
     let at-loop = c .before .before in
-    omega (arith, place-small (at-loop .before .pre .0) (at-loop .loop .i) (at-loop .loop .inv .low) (c .before .loop-test .taken))
+    omega
+    (arith, place-small (at-loop .before .pre .0) (at-loop .loop .i) (at-loop .loop .inv .low) (c .before .loop-test .taken))
 
 slice-write-flags : tie.Need-slice-write-flags Inv-loop μ-loop
 slice-write-flags c =

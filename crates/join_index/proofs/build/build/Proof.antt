@@ -103,13 +103,14 @@ returns c =
     let size = signed .sign-collections .kept in (
       λ rule.
           ground-items (start .args .limit) rule (start .pre)
-          (ground (by-length (start .pre)) (lefts .count-entries .ensures) (rights .count-entries2 .ensures) (out .lay-out .ensures)
-          (right .build-side .ensures) (left .build-side2 .ensures) (least .build-least .ensures) (start .args .limit)
-          (order .build-order .ensures)
+          (ground (by-length (start .pre)) (lefts .count-entries .ensures) (rights .count-entries2 .ensures)
+          (out .lay-out .ensures) (right .build-side .ensures) (left .build-side2 .ensures) (least .build-least .ensures)
+          (start .args .limit) (order .build-order .ensures)
           (signed .sign-collections .ensures) rule),
       omega (
         arith,
-        right-room (by-length (start .pre)) (lefts .count-entries .ensures) (rights .count-entries2 .ensures) (out .lay-out .ensures) .room,
+        right-room (by-length (start .pre)) (lefts .count-entries .ensures) (rights .count-entries2 .ensures)
+            (out .lay-out .ensures) .room,
         right .build-side .kept .0,
         left .build-side2 .kept .0,
         least .build-least .kept .0,

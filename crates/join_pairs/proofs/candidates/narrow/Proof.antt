@@ -20,7 +20,8 @@ record NarrowLeft (lay : Layout) (w : List ℕ) (from to pivot : ℕ) (v : List 
   size : length v ≡ length w
   so-far : (q : Query) → NarrowThere lay q w from to pivot → SoFar lay q w from to pivot v a b i
 
-module _ {lay : Layout} {w : List ℕ} {from to pivot : ℕ} {v : List ℕ} {a b i : ℕ} (left : NarrowLeft lay w from to pivot v a b i) where
+module _ {lay : Layout} {w : List ℕ} {from to pivot : ℕ} {v : List ℕ} {a b i : ℕ}
+    (left : NarrowLeft lay w from to pivot v a b i) where
   narrow-step : i < to → {r : ℕ} → Word v i r → {u : List ℕ} {s : Span} → Met lay v r pivot a b u s → length u ≡ length v
       → NarrowLeft lay w from to pivot u (s .from) (s .to) (i + 1)
   narrow-step more word met size =

@@ -52,7 +52,8 @@ narrow-requires c κs =
     let found = c .before .pivot in
     record {
       query = start .pre .query;
-      holds = narrow-there (at-probe-left .ensures) (start .pre .query) (start .pre .holds .left) (found .result) (found .ensures);
+      holds =
+          narrow-there (at-probe-left .ensures) (start .pre .query) (start .pre .holds .left) (found .result) (found .ensures);
     }
 
 write-row-requires : tie.Need-write-row-requires
