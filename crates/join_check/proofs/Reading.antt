@@ -1,5 +1,5 @@
 -- What is read off the index: a set's length, its ranks by place, and its ranks from a place on. One text for left and right
--- sets.
+-- sets. And that the index stays while only the slots change.
 use Prim.Native.Nat.{ℕ, suc, _+_, _-_, _≤_, _<_}
 use mathlib.Core.Path.{_≡_, sym, ap, _∙_}
 use mathlib.Core.List.{List}
@@ -11,9 +11,16 @@ use Rattle.counting_sort.specs.Holding.{Holds}
 use Rattle.index_keys.specs.Entries.{startOf}
 use Rattle.join_index.specs.Grouping.{leftAt, rightAt, keyAt}
 use Rattle.join_index.specs.declared.Layout.{Layout}
+use Rattle.join_index.proofs.GroundLaws.{ground-frame}
 use Rattle.join_spec.specs.Query.{Query}
-use Rattle.join_check.specs.Asking.{LeftThere, RightThere}
+use Rattle.join_check.specs.Asking.{Index, LeftThere, RightThere}
 use borrow.Author.Tests.{le-leb, lt-leb}
+
+-- the index stays while only words from the slots on change
+pub index-frame : {lay : Layout} {q : Query} {w v : List ℕ} → take (lay .slots) v ≡ take (lay .slots) w → length v ≡ length w
+    → Index lay q w → Index lay q v
+index-frame {lay} {q} {w} {v} frame size index =
+    record { ground = ground-frame lay q w v frame size (index .ground); room = omega (arith, index .room) }
 
 -- a region that holds a list: how long it is, its elements, and what is left of it
 module _ {w : List ℕ} {top lo hi : ℕ} {l : List ℕ} (h : Holds w top lo hi l) (room : top ≤ length w) where

@@ -22,11 +22,11 @@ use Rattle.join_index.proofs.Ordering.{left-below, left-rising}
 use Rattle.join_check.specs.declared.checks.Probe.{Probe}
 use Rattle.join_check.specs.Asking.{LeftThere}
 use Rattle.join_check.specs.Probes.{Probed}
+use Rattle.join_check.proofs.Reading.{index-frame}
 use Rattle.join_pairs.specs.declared.candidates.Candidates.{Candidates}
 use Rattle.join_pairs.specs.Containing.{RanksThere, containedAt, pairsWith, rowAt, rowOf}
 use Rattle.join_pairs.specs.Narrowing.{NarrowThere, Narrows, Narrowed}
 use Rattle.join_pairs.specs.Writing.{AllRoom, RowRoom, LeftRoom}
-use Rattle.join_pairs.proofs.Inverted.{index-frame}
 use Rattle.join_pairs.proofs.Kept.{length-pairs, row-whole, row-empty}
 
 rising-rest : (w : List ℕ) (from to rest : ℕ) → from ≤ rest → rising (slice from to w) ≡ true → rising (slice rest to w) ≡ true

@@ -1,11 +1,11 @@
--- The inverted lists as they are stored, the ranks that stand in a part of the work list, and the index as the slots change.
+-- The inverted lists as they are stored, and the ranks that stand in a part of the work list.
 use Prim.Native.Nat.{ℕ, suc, _+_, _-_, _≤_, _<_}
 use mathlib.Core.Path.{_≡_, sym, ap, ap₂, subst, _∙_}
 use mathlib.Core.List.{List}
 use mathlib.Core.Bool.{true}
 use native.Mathlib.Omega.{arith}
 use lib.Dec.{ltb}
-use lib.ListN.{length, getD, take}
+use lib.ListN.{length, getD}
 use borrow.Author.Tests.{ltb-true}
 use Rattle.lists.specs.Lists.{all, memb, rising, slice, upto}
 use Rattle.lists.proofs.Membership.{memb-at}
@@ -17,10 +17,9 @@ use Rattle.join_spec.specs.Query.{Query}
 use Rattle.join_index.specs.Grouping.{rightAt}
 use Rattle.join_index.specs.Ground.{invertedList}
 use Rattle.join_index.specs.declared.Layout.{Layout}
-use Rattle.join_index.proofs.GroundLaws.{ground-frame}
 use Rattle.join_check.specs.Merges.{Rising}
 use Rattle.join_check.specs.Flags.{Places}
-use Rattle.join_check.specs.Asking.{Index, PlacesThere}
+use Rattle.join_check.specs.Asking.{PlacesThere}
 use Rattle.join_check.proofs.Flagging.{places-small}
 use Rattle.join_pairs.specs.declared.candidates.Span.{Span}
 use Rattle.join_pairs.specs.Containing.{RankThere, RanksThere}
@@ -100,9 +99,3 @@ slice-rank {lay} {q} {w} {from} {to} there i r low high word =
       index = there .index;
       below = ltb-true r (q .T) (ap (λ (k : ℕ). ltb k (q .T)) word ∙ test);
     }
-
--- the index stays while only words from the slots on change
-pub index-frame : {lay : Layout} {q : Query} {w v : List ℕ} → take (lay .slots) v ≡ take (lay .slots) w → length v ≡ length w
-    → Index lay q w → Index lay q v
-index-frame {lay} {q} {w} {v} frame size index =
-    record { ground = ground-frame lay q w v frame size (index .ground); room = omega (arith, index .room) }

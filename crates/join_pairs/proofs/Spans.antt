@@ -20,10 +20,11 @@ use Rattle.join_index.specs.declared.Layout.{Layout}
 use Rattle.join_index.proofs.GroundLaws.{offsets-rise}
 use Rattle.join_check.specs.Words.{Word}
 use Rattle.join_check.specs.Asking.{PlacesThere}
+use Rattle.join_check.proofs.Reading.{index-frame}
 use Rattle.join_pairs.specs.declared.candidates.Span.{Span}
 use Rattle.join_pairs.specs.Containing.{RankThere}
 use Rattle.join_pairs.specs.Narrowing.{Listed, SpanThere, Met, NarrowThere, Narrows}
-use Rattle.join_pairs.proofs.Inverted.{inverted-stored, list-part, list-places, list-rising, slice-memb, index-frame}
+use Rattle.join_pairs.proofs.Inverted.{inverted-stored, list-part, list-places, list-rising, slice-memb}
 
 pub record SoFar (lay : Layout) (q : Query) (w : List ℕ) (from to pivot : ℕ) (v : List ℕ) (a b i : ℕ) : Type 0 where
   pub places : PlacesThere lay q v a b

@@ -8,9 +8,9 @@ use Rattle.lists.proofs.Slices.{frame-less, frame-at, frame-slice}
 use Rattle.join_spec.specs.Query.{Query}
 use Rattle.join_index.specs.Ground.{offsetOf}
 use Rattle.join_index.specs.declared.Layout.{Layout}
-use Rattle.join_index.proofs.GroundLaws.{ground-frame}
 use Rattle.join_check.specs.Asking.{Index}
 use Rattle.join_check.specs.Runs.{run}
+use Rattle.join_check.proofs.Reading.{index-frame}
 use Rattle.join_walk.specs.Narrowing.{slotOf}
 use Rattle.join_walk.specs.Visiting.{Framed}
 
@@ -20,11 +20,7 @@ module _ {lay : Layout} {q : Query} {w w′ : List ℕ} {slot : ℕ} (index : In
   base = frame-less (lay .slots) slot w w′ low (framed .frame)
 
   pub index-framed : Index lay q w′
-  index-framed =
-      record {
-        ground = ground-frame lay q w w′ base (framed .size) (index .ground);
-        room = omega (arith, index .room, framed .size);
-      }
+  index-framed = index-frame base (framed .size) index
 
   pub offset-framed : (r : ℕ) → r ≤ q .T → offsetOf lay w′ r ≡ offsetOf lay w r
   offset-framed r h = frame-at 0 (lay .offsets + r) (lay .slots) w w′ (omega (arith, index .ground .offsetsWithin)) base

@@ -30,7 +30,7 @@ use Rattle.join_walk.specs.Rows.{goes}
 use Rattle.join_walk.specs.Visiting.{OnPath, NodeAt}
 use Rattle.join_walk.proofs.RunLaws.{run-length, begins-first}
 use Rattle.join_walk.proofs.Prefixes.{prefix-take, prefix-length}
-use Rattle.join_walk.proofs.NodeLaws.{beginning-is, candidates-is, holders-is, goes-is, rank-below}
+use Rattle.join_walk.proofs.NodeLaws.{beginning-is, candidates-is, holders-is, goes-is}
 use Rattle.join_walk.proofs.Narrowing.{listing-length}
 
 -- what is on a path
@@ -58,9 +58,6 @@ module _ {lay : Layout} {q : Query} {path w : List ℕ} {lo i : ℕ} (on : OnPat
   pub on-read : {k r : ℕ} → Word w (lay .order + lo) k → ((q : Query) → LeftThere lay q w k → r ≡ keyAt q i k)
       → r ≡ suc (getD path i 0)
   on-read word read = read q (on-word word) ∙ ap (keyAt q i) (word .is) ∙ on-key
-
-  pub on-below : getD path i 0 < q .T
-  on-below = rw on-rank (rank-below q (leftIn lay w lo) i on-deep)
 
 module _ {lay : Layout} {q : Query} {path w : List ℕ} {d lo hi from to : ℕ} (node : NodeAt lay q path w d lo hi from to) where
   index : Index lay q w

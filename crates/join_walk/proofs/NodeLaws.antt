@@ -1,45 +1,27 @@
 -- The three numbers of a node, as the walk finds them: m is the length of its run of left sets, c that of its list of
 -- candidates, and t a count over the inverted list of its last rank. And the candidates after a node: those before it that hold
 -- its last rank.
-use Prim.Native.Nat.{ℕ, zero, suc, _+_, _-_, _<_}
+use Prim.Native.Nat.{ℕ, zero, suc, _+_, _-_}
 use mathlib.Core.Path.{_≡_, refl, sym, ap, _∙_}
 use mathlib.Core.List.{List, [], _∷_, map}
 use mathlib.Core.Bool.{Bool, _&&_, and-comm}
 use native.Mathlib.Omega.{arith}
-use borrow.Author.Tests.{le-leb, lt-ltb, ltb-true, leb-false}
+use borrow.Author.Tests.{le-leb, lt-ltb}
 use lib.Dec.{leb, ltb}
-use lib.ListN.{length, getD}
+use lib.ListN.{length}
 use Rattle.lists.specs.Lists.{count, keep, memb, subset, prefix, upto}
-use Rattle.lists.proofs.Bools.{by-test, and-left, and-both}
-use Rattle.lists.proofs.Membership.{memb-at}
+use Rattle.lists.proofs.Bools.{and-both}
 use Rattle.lists.proofs.Counting.{count-same, count-map}
 use Rattle.lists.proofs.Filtering.{length-keep, count-keep}
 use Rattle.lists.proofs.Ranges.{count-places}
-use Rattle.sets.proofs.Ordered.{memb-ordered}
 use Rattle.join_spec.specs.Query.{Query, inOrder}
 use Rattle.join_spec.specs.Node.{seen, firstOf, lastOf, frontOf, beginning, candidates, holders, goesOn, goesOnAt}
 use Rattle.join_spec.specs.Walk.{isCandidate}
 use Rattle.join_index.specs.Grouping.{leftAt, rightAt, keyAt, orderFrom}
 use Rattle.join_index.specs.Ground.{invertedList}
+use Rattle.join_index.proofs.Ordering.{keyAt-below}
 use Rattle.join_walk.specs.Rows.{goes}
 use Rattle.join_walk.proofs.Groups.{count-groups}
-
--- a rank of a left set is below T, and so its key at any depth is at most T
-pub rank-below : (q : Query) (k d : ℕ) → d < length (leftAt q k) → getD (leftAt q k) d 0 < q .T
-unfolding leftAt
-rank-below q k d h =
-    ltb-true (getD (leftAt q k) d 0) (q .T)
-    (and-left (ltb (getD (leftAt q k) d 0) (q .T)) _
-    (sym (memb-ordered (q .T) (q .ranks) (getD (q .lefts) k []) (getD (leftAt q k) d 0)) ∙ memb-at (leftAt q k) d 0 h))
-
-pub key-below : (q : Query) (d k : ℕ) → keyAt q d k < suc (q .T)
-unfolding keyAt
-key-below q d k =
-    by-test (leb (length (leftAt q k)) d)
-    (λ e. rw e (omega arith))
-    (λ e.
-    let longer : d < length (leftAt q k) = leb-false (length (leftAt q k)) d e in
-    rw e (omega (arith, rank-below q k d longer)))
 
 -- the order holds every left place once
 pub count-order : (q : Query) (p : ℕ → Bool) (n d : ℕ) → count p (orderFrom q n d) ≡ count p (upto (length (q .lefts)))
@@ -49,7 +31,7 @@ count-order q p (suc n) d =
     count-groups (keyAt q d) p 0 (suc (q .T)) (orderFrom q n (suc d))
     ∙ count-same (λ a. leb 0 (keyAt q d a) && ltb (keyAt q d a) (0 + suc (q .T)) && p a) p (orderFrom q n (suc d))
     (λ a. ap (λ (b : Bool). b && p a)
-    (and-both (le-leb 0 (keyAt q d a) (omega arith)) (lt-ltb (keyAt q d a) (0 + suc (q .T)) (omega (arith, key-below q d a)))))
+    (and-both (le-leb 0 (keyAt q d a) (omega arith)) (lt-ltb (keyAt q d a) (0 + suc (q .T)) (omega (arith, keyAt-below q d a)))))
     ∙ count-order q p n (suc d)
 
 -- a count over the sets of a side, in rank order, by place

@@ -11,13 +11,13 @@ use lib.Seq.{take-at, drop-at}
 use Rattle.lists.specs.Lists.{all, prefix}
 use Rattle.lists.proofs.Bools.{and-left, and-right}
 use Rattle.lists.proofs.Filtering.{all-kept}
-use Rattle.lists.proofs.Slices.{length-slice, slice-split}
+use Rattle.lists.proofs.Slices.{length-slice}
 use Rattle.join_spec.specs.Query.{Query}
 use Rattle.join_index.specs.Grouping.{leftAt, orderFrom}
 use Rattle.join_index.specs.declared.Layout.{Layout}
 use Rattle.join_check.specs.Asking.{Index, RunThere}
 use Rattle.join_check.specs.Runs.{run, lead, leftIn}
-use Rattle.join_check.proofs.Orders.{order-within, run-next, lead-pass, lead-fail, lead-nil}
+use Rattle.join_check.proofs.Orders.{order-within, run-split as run-split-within, run-next, lead-pass, lead-fail, lead-nil}
 use Rattle.join_walk.specs.Visiting.{beginners}
 use Rattle.join_walk.proofs.Groups.{first-of}
 
@@ -32,8 +32,7 @@ pub run-split : (lay : Layout) (q : Query) (w : List ℕ) (lo mid hi : ℕ) → 
     → hi ≤ length (q .lefts)
     → run lay w lo hi ≡ run lay w lo mid ++ run lay w mid hi
 run-split lay q w lo mid hi index low high few =
-    slice-split (lay .order + lo) (lay .order + mid) (lay .order + hi) w (omega arith) (omega arith)
-    (omega (arith, order-within lay q w index))
+    run-split-within lay w lo mid hi low high (omega (arith, order-within lay q w index))
 
 -- the first of the left sets that begin with a path begins with it
 pub begins-first : {lay : Layout} {q : Query} {w : List ℕ} {lo hi : ℕ} (path : List ℕ) (d : ℕ) → RunThere lay q w lo hi

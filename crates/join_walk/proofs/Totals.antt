@@ -18,9 +18,9 @@ use Rattle.join_spec.specs.Walk.{Outcome, byPath, Ending, ending, endingIn, out
 use Rattle.join_spec.specs.Counting.{total}
 use Rattle.counting_sort.specs.Groups.{groupsFrom}
 use Rattle.join_index.specs.Grouping.{leftAt, rightAt, keyAt, orderFrom}
+use Rattle.join_index.proofs.Ordering.{keyAt-below}
 use Rattle.join_walk.specs.Rows.{goes, row, outcomeFrom}
 use Rattle.join_walk.proofs.Groups.{within, within-zero, within-suc, apart}
-use Rattle.join_walk.proofs.NodeLaws.{key-below}
 use Rattle.join_walk.proofs.BlockLaws.{key-ended, key-longer}
 
 sum-keep : (f : ℕ → ℕ) (p : ℕ → Bool) (l : List ℕ) → sum f (keep p l) ≡ sum (λ a. cond (p a) (f a) 0) l
@@ -62,7 +62,7 @@ sum-order q f (suc n) d =
     sum-groups (keyAt q d) f 0 (suc (q .T)) (orderFrom q n (suc d))
     ∙ sum-same (λ a. cond (within (keyAt q d) 0 (suc (q .T)) a) (f a) 0) f (orderFrom q n (suc d))
     (λ a. ap (λ (b : Bool). cond b (f a) 0)
-    (and-both (le-leb 0 (keyAt q d a) (omega arith)) (lt-ltb (keyAt q d a) (0 + suc (q .T)) (omega (arith, key-below q d a)))))
+    (and-both (le-leb 0 (keyAt q d a) (omega arith)) (lt-ltb (keyAt q d a) (0 + suc (q .T)) (omega (arith, keyAt-below q d a)))))
     ∙ sum-order q f n (suc d)
 
 -- how many right sets have such an outcome with the left set at place k

@@ -10,10 +10,10 @@ use Rattle.join_spec.specs.Query.{Query}
 use Rattle.join_spec.specs.PairList.{pairsFrom, pairList}
 use Rattle.join_spec.proofs.PairListLaws.{length-pairList}
 use Rattle.join_index.specs.declared.Layout.{Layout}
+use Rattle.join_check.proofs.Reading.{index-frame}
 use Rattle.join_pairs.specs.Containing.{rowAt}
 use Rattle.join_pairs.specs.Writing.{LeftRoom, LeftWritten, PairsRoom}
 use Rattle.join_pairs.proofs.Kept.{pairs-next, pairs-none}
-use Rattle.join_pairs.proofs.Inverted.{index-frame}
 use Rattle.join_pairs.proofs.write_pairs.Statement.{statement}
 use Rattle.join_pairs.proofs.write_pairs.Tie as tie
 
