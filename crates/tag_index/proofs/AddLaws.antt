@@ -1,5 +1,5 @@
--- One more tag of a record in the index: the tag is known, and its last place is brought up to date, or it is new, and is put where
--- the search found its position. Either way what `Adding` says holds of one tag more.
+-- One more tag of a record in the index: the tag is known, and its last place is brought up to date, or it is new, and is put
+-- where the search found its position. Either way what `Adding` says holds of one tag more.
 use mathlib.Core.Path.{_≡_, refl, sym, ap, subst, _∙_}
 use mathlib.Core.List.{List, [], _∷_, _++_}
 use mathlib.Core.Bool.{Bool, true, false, not, _||_, or-false}
@@ -17,13 +17,19 @@ use Rattle.lists.proofs.Rising.{rising-below}
 use Rattle.tag_file.specs.Format.{tagAt}
 use Rattle.tag_file.specs.Reading.{tagsAt}
 use Rattle.tag_file.specs.Records.{insert, insertAll, collapse}
-use Rattle.tag_file.proofs.Tables.{three-ways, memb-insert, rising-insert, length-insert, insert-known, insert-new, insertAll-last, length-insertAll-bound, rising-collapse, memb-collapse}
+use Rattle.tag_file.proofs.Tables.{three-ways, memb-insert, rising-insert, length-insert, insert-known, insert-new}
+use Rattle.tag_file.proofs.Tables.{insertAll-last, length-insertAll-bound, rising-collapse, memb-collapse}
 use Rattle.tag_file.proofs.RecordLaws.{length-tagsAt, tagsAt-last}
 use Rattle.tag_index.specs.Index.{tagOf, tableOf, tagValue, Lower, Seen, Put, Adding, OneMore, Ready, AllAdded}
 use Rattle.tag_index.specs.declared.Tag.{Tag}
-use Rattle.tag_index.proofs.Ids.{position, sorted-size, sorted-at, sorted-lower, same-id, last-id, listed-put, tag-other, tag-this, table-put}
+use Rattle.tag_index.proofs.Ids.{position, sorted-size, sorted-at, sorted-lower, same-id}
+use Rattle.tag_index.proofs.Ids.{last-id, listed-put, tag-other, tag-this, table-put}
 
 -- ---- one more tag at the end of a list of tags
+
+pub tagsAt-next : (k : ℕ) (file : List ℕ) (start : ℕ)
+    → tagsAt (k + 1) file start ≡ tagsAt k file start ++ (tagAt file (start + 12 * k) ∷ [])
+tagsAt-next k file start = ap (λ (m : ℕ). tagsAt m file start) (add-one k) ∙ tagsAt-last k file start
 
 memb-last : (y : ℕ) (xs : List ℕ) (x : ℕ) → memb y (xs ++ (x ∷ [])) ≡ (memb y xs || eqb y x)
 unfolding memb
@@ -42,8 +48,8 @@ not-leb a b =
 
 -- ---- the tag at place start + 12 * k
 
-module _ (file heads tails : List ℕ) (start k tags fresh : ℕ) (order seen : List ℕ) (a : Adding file heads tails start k tags fresh order seen)
-    (inside : start + 12 * k + 12 ≤ length file) where
+module _ {file heads tails : List ℕ} {start k tags fresh : ℕ} {order seen : List ℕ}
+    (a : Adding file heads tails start k tags fresh order seen) (inside : start + 12 * k + 12 ≤ length file) where
   abbrev place : ℕ
   place = start + 12 * k
 
@@ -56,11 +62,8 @@ module _ (file heads tails : List ℕ) (start k tags fresh : ℕ) (order seen : 
   abbrev done : List ℕ
   done = tagsAt k file start
 
-  done-next : tagsAt (k + 1) file start ≡ done ++ (x ∷ [])
-  done-next = ap (λ (m : ℕ). tagsAt m file start) (add-one k) ∙ tagsAt-last k file start
-
   memb-next : (y : ℕ) → memb y (tagsAt (k + 1) file start) ≡ (memb y done || eqb y x)
-  memb-next y = ap (memb y) done-next ∙ memb-last y done x
+  memb-next y = ap (memb y) (tagsAt-next k file start) ∙ memb-last y done x
 
   -- what a last place says of one tag more: of another tag as before, of this one that it is there
   mark-other : (q y : ℕ) → (y ≡ x → ⊥) → leb start q ≡ memb y done → leb start q ≡ memb y (tagsAt (k + 1) file start)
@@ -70,17 +73,21 @@ module _ (file heads tails : List ℕ) (start k tags fresh : ℕ) (order seen : 
   mark-this = le-leb start place (omega arith) ∙ sym (memb-next x ∙ or-right (memb x done) (eqb x x) (eq-eqb x x refl))
 
   counted-next : {f : ℕ} → f ≡ fresh + one (not (memb x done)) → f ≡ length (collapse (tagsAt (k + 1) file start))
-  counted-next {f} e = e ∙ ap (λ (m : ℕ). m + one (not (memb x done))) (a .counted) ∙ sym (ap (λ (l : List ℕ). length (collapse l)) done-next ∙ fresh-last done x)
+  counted-next {f} e =
+      e ∙ ap (λ (m : ℕ). m + one (not (memb x done))) (a .counted)
+      ∙ sym (ap (λ (l : List ℕ). length (collapse l)) (tagsAt-next k file start) ∙ fresh-last done x)
 
   held-next : (new : List ℕ) → new ≡ insert x table → (y : ℕ) → memb y (tagsAt (k + 1) file start) ≡ true → memb y new ≡ true
   held-next new e y m = ap (memb y) e ∙ memb-insert y x table ∙ here (eqb y x) refl
     where
       here : (b : Bool) → eqb y x ≡ b → (b || memb y table) ≡ true
       here true t = refl
-      here false f = a .held y (sym (or-false (memb y done)) ∙ ap (λ (b : Bool). memb y done || b) (sym f) ∙ sym (memb-next y) ∙ m)
+      here false f =
+          a .held y (sym (or-false (memb y done)) ∙ ap (λ (b : Bool). memb y done || b) (sym f) ∙ sym (memb-next y) ∙ m)
 
   module _ (id : ℕ) (h : id < tags) (e : tagOf heads tails id ≡ x) where
-    known : OneMore file start k tags heads tails order tags (fresh + one (ltb (getD seen id 0) start)) heads tails order (set seen id place)
+    known : OneMore file start k tags heads tails order tags (fresh + one (ltb (getD seen id 0) start))
+        heads tails order (set seen id place)
     known =
         record {
           adding = record {
@@ -89,9 +96,11 @@ module _ (file heads tails : List ℕ) (start k tags fresh : ℕ) (order seen : 
             inside = omega arith;
             before = each (λ q y. q < start + 12 * (k + 1)) (omega arith) (λ j g ne. omega (arith, a .before j g));
             marks = each (λ q y. leb start q ≡ memb y (tagsAt (k + 1) file start)) mark-this
-                (λ j g ne. mark-other (getD seen j 0) (tagOf heads tails j) (λ q. ne (same-id (a .sorted) j id g h (q ∙ sym e))) (a .marks j g));
+                (λ j g ne. mark-other (getD seen j 0) (tagOf heads tails j)
+                (λ q. ne (same-id (a .sorted) j id g h (q ∙ sym e))) (a .marks j g));
             held = held-next table (sym kept);
-            counted = counted-next (ap (λ (b : Bool). fresh + one b) (sym (not-leb start (getD seen id 0)) ∙ ap not (a .marks id h ∙ ap (λ (y : ℕ). memb y done) e)));
+            counted = counted-next (ap (λ (b : Bool). fresh + one b)
+                (sym (not-leb start (getD seen id 0)) ∙ ap not (a .marks id h ∙ ap (λ (y : ℕ). memb y done) e)));
           };
           table = sym kept;
           bound = omega arith;
@@ -101,7 +110,8 @@ module _ (file heads tails : List ℕ) (start k tags fresh : ℕ) (order seen : 
         kept =
             let p = position (a .sorted .listed) id h in
             let here : tagOf heads tails (getD order (p .at) 0) ≡ x = ap (tagOf heads tails) (p .here) ∙ e in
-            insert-known x table (p .at) (omega (arith, p .below, sorted-size (a .sorted))) (sorted-lower (a .sorted) (p .at) x (p .below) here .below)
+            insert-known x table (p .at) (omega (arith, p .below, sorted-size (a .sorted)))
+            (sorted-lower (a .sorted) (p .at) x (p .below) here .below)
             (sorted-at (a .sorted) (p .at) (p .below) ∙ here)
 
         each : (P : ℕ → ℕ → Type 0) → P place x → ((j : ℕ) → j < tags → (j ≡ id → ⊥) → P (getD seen j 0) (tagOf heads tails j))
@@ -117,10 +127,12 @@ module _ (file heads tails : List ℕ) (start k tags fresh : ℕ) (order seen : 
             other : (j : ℕ) → j < tags → (j ≡ id → ⊥) → P (getD (set seen id place) j 0) (tagOf heads tails j)
             other j g ne = rw (getD-set-other seen id j place 0 ne) (old j g ne)
 
-    pub adding-known : {r : ℕ} {is : List ℕ} → Seen seen id start place r is → OneMore file start k tags heads tails order tags (fresh + r) heads tails order is
+    pub adding-known : {r : ℕ} {is : List ℕ} → Seen seen id start place r is
+        → OneMore file start k tags heads tails order tags (fresh + r) heads tails order is
     adding-known s = rw (s .counted, s .set-to) known
 
-  module _ (at : ℕ) (low : Lower table x at) (free : tags < 4352) (missing : at < tags → tagOf heads tails (getD order at 0) ≡ x → ⊥) where
+  module _ (at : ℕ) (low : Lower table x at) (free : tags < 4352)
+      (missing : at < tags → tagOf heads tails (getD order at 0) ≡ x → ⊥) where
     pub adding-new : {tag : Tag} {now-heads now-tails now-order now-seen : List ℕ} → tagValue tag ≡ x
         → Put heads tails order seen tags at tag place now-heads now-tails now-order now-seen
         → OneMore file start k tags heads tails order (tags + 1) (fresh + 1) now-heads now-tails now-order now-seen
@@ -160,7 +172,8 @@ module _ (file heads tails : List ℕ) (start k tags fresh : ℕ) (order seen : 
         above : at < length table → x < getD table at 0
         above h =
             let inner : at < tags = omega (arith, sorted-size (a .sorted)) in
-            three-ways x (getD table at 0) (λ l. l) (λ e. absurd (missing inner (sym (e ∙ sorted-at (a .sorted) at inner)))) (λ u. absurd (omega (arith, low .reached h)))
+            three-ways x (getD table at 0) (λ l. l) (λ e. absurd (missing inner (sym (e ∙ sorted-at (a .sorted) at inner))))
+            (λ u. absurd (omega (arith, low .reached h)))
 
         wider : tableOf now-heads now-tails (tags + 1) now-order ≡ insert x table
         wider =
@@ -169,33 +182,41 @@ module _ (file heads tails : List ℕ) (start k tags fresh : ℕ) (order seen : 
 
         apart : (j : ℕ) → j < tags → getD table j 0 ≡ x → ⊥
         apart j g q =
+            let size = sorted-size (a .sorted) in
             three-ways j at (λ l. omega (arith, low .below j l))
-            (λ e. missing (subst (λ (m : ℕ). m < tags) e g) (subst (λ (m : ℕ). tagOf heads tails (getD order m 0) ≡ x) e (sym (sorted-at (a .sorted) j g) ∙ q)))
-            (λ u. omega (arith, rising-below table (a .sorted .rises) at j u (omega (arith, sorted-size (a .sorted))), above (omega (arith, sorted-size (a .sorted)))))
+            (λ e. missing (subst (λ (m : ℕ). m < tags) e g)
+            (subst (λ (m : ℕ). tagOf heads tails (getD order m 0) ≡ x) e (sym (sorted-at (a .sorted) j g) ∙ q)))
+            (λ u. omega (arith, rising-below table (a .sorted .rises) at j u (omega (arith, size)), above (omega (arith, size))))
 
         differs : (id : ℕ) → id < tags → tagOf heads tails id ≡ x → ⊥
         differs id g q =
             let at-id = position (a .sorted .listed) id g in
-            apart (at-id .at) (at-id .below) (sorted-at (a .sorted) (at-id .at) (at-id .below) ∙ ap (tagOf heads tails) (at-id .here) ∙ q)
+            apart (at-id .at) (at-id .below)
+            (sorted-at (a .sorted) (at-id .at) (at-id .below) ∙ ap (tagOf heads tails) (at-id .here) ∙ q)
 
         absent : memb x done ≡ false
-        absent = refuted (memb x done) (λ m. let q = memb-place x table (a .held x m) in apart (q .at) (omega (arith, q .below, sorted-size (a .sorted))) (q .here))
+        absent =
+            refuted (memb x done) (λ m. let q = memb-place x table (a .held x m) in
+            apart (q .at) (omega (arith, q .below, sorted-size (a .sorted))) (q .here))
 
         each : (P : ℕ → ℕ → Type 0) → P place x → ((j : ℕ) → j < tags → P (getD seen j 0) (tagOf heads tails j))
             → (j : ℕ) → j < tags + 1 → P (getD now-seen j 0) (tagOf now-heads now-tails j)
         each P new old =
+            let stored = getD-set-same seen tags place 0 (omega (arith, a .wide)) in
             last-id (λ j. P (getD now-seen j 0) (tagOf now-heads now-tails j)) tags
-            (rw (p .seen-to, getD-set-same seen tags place 0 (omega (arith, a .wide)), tag-this p heads-room tails-room, value) new)
+            (rw (p .seen-to, stored, tag-this p heads-room tails-room, value) new)
             (λ j g. rw (p .seen-to, getD-set-other seen tags j place 0 (λ e. omega arith), tag-other p j g) (old j g))
 
 -- a record has at most as many distinct tags as tags
-pub fresh-bound : {file heads tails : List ℕ} {start k tags fresh : ℕ} {order seen : List ℕ} → Adding file heads tails start k tags fresh order seen → fresh ≤ k
+pub fresh-bound : {file heads tails : List ℕ} {start k tags fresh : ℕ} {order seen : List ℕ}
+    → Adding file heads tails start k tags fresh order seen → fresh ≤ k
 fresh-bound {file} {heads} {tails} {start} {k} a =
     omega (arith, a .counted, length-insertAll-bound [] (tagsAt k file start), length-tagsAt k file start)
 
 -- ---- the tags of a record one after the other: the invariant of `add_tags`, with its start, step and end
 
-pub record Going (file : List ℕ) (start count n : ℕ) (was-heads was-tails was-order : List ℕ) (k tags fresh : ℕ) (heads tails order seen : List ℕ) : Type 0 where
+pub record Going (file : List ℕ) (start count n : ℕ) (was-heads was-tails was-order : List ℕ) (k tags fresh : ℕ)
+    (heads tails order seen : List ℕ) : Type 0 where
   pub adding : Adding file heads tails start k tags fresh order seen
   pub table : tableOf heads tails tags order ≡ insertAll (tableOf was-heads was-tails n was-order) (tagsAt k file start)
   pub within : k ≤ count
@@ -221,7 +242,8 @@ module _ {file : List ℕ} {start count n : ℕ} {was-heads was-tails was-order 
         bound = omega arith;
       }
 
-  module _ {k tags fresh : ℕ} {heads tails order seen : List ℕ} (g : Going file start count n was-heads was-tails was-order k tags fresh heads tails order seen) where
+  module _ {k tags fresh : ℕ} {heads tails order seen : List ℕ}
+      (g : Going file start count n was-heads was-tails was-order k tags fresh heads tails order seen) where
     pub going-step : {now-tags now-fresh : ℕ} {now-heads now-tails now-order now-seen : List ℕ} → k < count
         → OneMore file start k tags heads tails order now-tags now-fresh now-heads now-tails now-order now-seen
         → Going file start count n was-heads was-tails was-order (k + 1) now-tags now-fresh now-heads now-tails now-order now-seen
@@ -230,7 +252,7 @@ module _ {file : List ℕ} {start count n : ℕ} {was-heads was-tails was-order 
           adding = o .adding;
           table = o .table ∙ ap (insert (tagAt file (start + 12 * k))) (g .table)
               ∙ sym (insertAll-last (tableOf was-heads was-tails n was-order) (tagsAt k file start) (tagAt file (start + 12 * k)))
-              ∙ sym (ap (insertAll (tableOf was-heads was-tails n was-order)) (ap (λ (m : ℕ). tagsAt m file start) (add-one k) ∙ tagsAt-last k file start));
+              ∙ sym (ap (insertAll (tableOf was-heads was-tails n was-order)) (tagsAt-next k file start));
           within = omega arith;
           bound = omega (arith, g .bound, o .bound);
         }
