@@ -23,7 +23,8 @@ use Rattle.tag_scan.specs.Scan.{grownBy, isOver, Limited}
 pub allTags-last : (rs : List TagRecord) (r : TagRecord) → allTags (rs ++ (r ∷ [])) ≡ allTags rs ++ r .tags
 unfolding allTags
 allTags-last [] r = append-nil (r .tags)
-allTags-last (s ∷ rs) r = ap (λ (l : List ℕ). s .tags ++ l) (allTags-last rs r) ∙ sym (append-assoc (s .tags) (allTags rs) (r .tags))
+allTags-last (s ∷ rs) r =
+    ap (λ (l : List ℕ). s .tags ++ l) (allTags-last rs r) ∙ sym (append-assoc (s .tags) (allTags rs) (r .tags))
 
 pub tagTable-last : (rs : List TagRecord) (r : TagRecord) → tagTable (rs ++ (r ∷ [])) ≡ insertAll (tagTable rs) (r .tags)
 tagTable-last rs r = ap (insertAll []) (allTags-last rs r) ∙ insertAll-append [] (allTags rs) (r .tags)
@@ -43,7 +44,8 @@ module _ (side : Side) (rs : List TagRecord) (r : TagRecord) where
   pub sets-same : sameSide side (r .side) ≡ true → length (ofSide side (rs ++ (r ∷ []))) ≡ length (ofSide side rs) + 1
   sets-same e = ap length (ofSide-same e) ∙ length-append (ofSide side rs) (r ∷ [])
 
-  pub entries-same : sameSide side (r .side) ≡ true → entriesOf side (rs ++ (r ∷ [])) ≡ entriesOf side rs + length (collapse (r .tags))
+  pub entries-same : sameSide side (r .side) ≡ true
+      → entriesOf side (rs ++ (r ∷ [])) ≡ entriesOf side rs + length (collapse (r .tags))
   unfolding sum
   entries-same e =
       ap (sum (λ r. length (collapse (r .tags)))) (ofSide-same e)
@@ -51,15 +53,28 @@ module _ (side : Side) (rs : List TagRecord) (r : TagRecord) where
       ∙ ap (λ (k : ℕ). entriesOf side rs + k) (add-zero (length (collapse (r .tags))))
 
 -- the counts grow by the record's
-pub grown-counts : (rs : List TagRecord) (r : TagRecord) (tags fresh : ℕ) → tags ≡ length (tagTable (rs ++ (r ∷ []))) → fresh ≡ length (collapse (r .tags))
+pub grown-counts : (rs : List TagRecord) (r : TagRecord) (tags fresh : ℕ)
+    → tags ≡ length (tagTable (rs ++ (r ∷ []))) → fresh ≡ length (collapse (r .tags))
     → grownBy (countsOf rs) (r .side) tags fresh ≡ countsOf (rs ++ (r ∷ []))
 grown-counts rs r tags fresh et ef = by-side (r .side) refl
   where
     by-side : (s : Side) → r .side ≡ s → grownBy (countsOf rs) s tags fresh ≡ countsOf (rs ++ (r ∷ []))
     by-side Left e =
-        rw (sets-same Left rs r (ap (sameSide Left) e), entries-same Left rs r (ap (sameSide Left) e), ofSide-other Right rs r (ap (sameSide Right) e), et, ef)
+        rw (
+          sets-same Left rs r (ap (sameSide Left) e),
+          entries-same Left rs r (ap (sameSide Left) e),
+          ofSide-other Right rs r (ap (sameSide Right) e),
+          et,
+          ef,
+        )
     by-side Right e =
-        rw (sets-same Right rs r (ap (sameSide Right) e), entries-same Right rs r (ap (sameSide Right) e), ofSide-other Left rs r (ap (sameSide Left) e), et, ef)
+        rw (
+          sets-same Right rs r (ap (sameSide Right) e),
+          entries-same Right rs r (ap (sameSide Right) e),
+          ofSide-other Left rs r (ap (sameSide Left) e),
+          et,
+          ef,
+        )
 
 pub grown-tags : (t : Loaded) (side : Side) (tags fresh : ℕ) → grownBy t side tags fresh .tags ≡ tags
 grown-tags t Left tags fresh = refl
@@ -71,7 +86,8 @@ over-tooMany Left rs = refl
 over-tooMany Right rs = refl
 
 -- within the limits with one more record, where it passes none
-pub limited-grown : (t : Loaded) (side : Side) (tags fresh : ℕ) → Limited t → isOver (grownBy t side tags fresh) side ≡ false → Limited (grownBy t side tags fresh)
+pub limited-grown : (t : Loaded) (side : Side) (tags fresh : ℕ) → Limited t
+    → isOver (grownBy t side tags fresh) side ≡ false → Limited (grownBy t side tags fresh)
 limited-grown t Left tags fresh l f =
     let a = ltb maxSets (t .«left_sets» + 1) in
     let b = ltb maxEntries (t .«left_entries» + fresh) in

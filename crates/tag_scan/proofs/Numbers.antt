@@ -37,7 +37,8 @@ noted-start = record { wide = length-replicate {A = ℕ} 2048 0; at = λ side nu
 
 -- two keys are the same where side and number are
 same-key : (s t : Side) (m n : ℕ) → m < 65536 → n < 65536 → eqb (keyOf t n) (keyOf s m) ≡ (sameSide s t && eqb m n)
-same-key Left Left m n hm hn = same-test (eqb n m) (eqb m n) (λ t. eq-eqb m n (sym (eqb-true n m t))) (λ t. eq-eqb n m (sym (eqb-true m n t)))
+same-key Left Left m n hm hn =
+    same-test (eqb n m) (eqb m n) (λ t. eq-eqb m n (sym (eqb-true n m t))) (λ t. eq-eqb n m (sym (eqb-true m n t)))
 same-key Left Right m n hm hn = ne-eqb (65536 + n) m (λ e. omega arith)
 same-key Right Left m n hm hn = ne-eqb n (65536 + m) (λ e. omega arith)
 same-key Right Right m n hm hn =
@@ -51,7 +52,10 @@ noted-step {used} {is} {seen} r small n i =
     record {
       wide = i .size ∙ n .wide;
       at = λ side number h. i .holds (keyOf side number)
-          ∙ ap₂ (λ (a b : Bool). a || b) (same-key (r .side) side (r .number) number small h ∙ sym (or-false (sameSide (r .side) side && eqb (r .number) number))) (n .at side number h)
+          ∙ ap₂ (λ (a b : Bool). a || b)
+          (same-key (r .side) side (r .number) number small h
+          ∙ sym (or-false (sameSide (r .side) side && eqb (r .number) number)))
+          (n .at side number h)
           ∙ or-comm (any (λ s. sameSide (s .side) side && eqb (s .number) number) (r ∷ [])) (usedBy side number seen)
           ∙ sym (any-append (λ s. sameSide (s .side) side && eqb (s .number) number) seen (r ∷ []));
     }

@@ -44,8 +44,8 @@ pub record Scanning (file used heads tails order places : List ℕ) (total : Loa
   pub counts : total ≡ countsOf seen
   pub limited : Limited total
 
-pub scanning-start : (file used heads tails order places : List ℕ) (total : Loaded) → Lengths heads tails order → length places ≡ 4352 → Noted used [] → total ≡ countsOf []
-    → Scanning file used heads tails order places total 0
+pub scanning-start : (file used heads tails order places : List ℕ) (total : Loaded) → Lengths heads tails order
+    → length places ≡ 4352 → Noted used [] → total ≡ countsOf [] → Scanning file used heads tails order places total 0
 unfolding fileFault sum tableOf rising insertAll allTags keep
 scanning-start file used heads tails order places total l wide noted e =
     let zero-tags : total .tags ≡ 0 = ap (λ (t : Loaded). t .tags) e in
@@ -59,7 +59,12 @@ scanning-start file used heads tails order places total l wide noted e =
       noted = noted;
       sorted = record {
         holds = record { heads-full = l .heads-full; tails-full = l .tails-full; room = omega arith };
-        listed = record { full = l .order-full; room = omega arith; ids = λ j h. absurd (omega arith); all = λ id h. absurd (omega arith) };
+        listed = record {
+          full = l .order-full;
+          room = omega arith;
+          ids = λ j h. absurd (omega arith);
+          all = λ id h. absurd (omega arith);
+        };
         rises = ap rising empty;
       };
       wide = wide;
@@ -76,20 +81,24 @@ scanning-start file used heads tails order places total l wide noted e =
     }
 
 -- a fault is what the file is refused with
-pub refused : {file heads tails order : List ℕ} (why : Refusal) → fileFault file ≡ some why → Scanned file heads tails order (load.Refused why)
+pub refused : {file heads tails order : List ℕ} (why : Refusal) → fileFault file ≡ some why
+    → Scanned file heads tails order (load.Refused why)
 refused why e =
     record { answer = rw e; index = λ n. never (sym e ∙ n); limited = λ n. never (sym e ∙ n) }
   where
     never : {A : Type 0} {w : Refusal} → some w ≡ none → A
     never e = let z : _≡_ {A = ℕ} 0 1 = cc in absurd (omega arith)
 
-module _ {file used heads tails order places : List ℕ} {total : Loaded} {at : ℕ} (s : Scanning file used heads tails order places total at) where
+module _ {file used heads tails order places : List ℕ} {total : Loaded} {at : ℕ}
+    (s : Scanning file used heads tails order places total at) where
   -- the reading ended: there are no records from here on
-  pub scanning-stop : (a : ReadAnswer) → readAt file at ≡ a → recordsAt file at ≡ [] → Scanned file heads tails order (unless (refusalOf a) (load.Loaded total))
+  pub scanning-stop : (a : ReadAnswer) → readAt file at ≡ a → recordsAt file at ≡ []
+      → Scanned file heads tails order (unless (refusalOf a) (load.Loaded total))
   unfolding firstFault
   scanning-stop a e stop =
       record {
-        answer = ap (λ (o : Option Refusal). unless o (load.Loaded total)) (sym ends) ∙ ap (λ (t : Loaded). unless (fileFault file) (load.Loaded t)) (s .counts ∙ ap countsOf (sym all));
+        answer = ap (λ (o : Option Refusal). unless o (load.Loaded total)) (sym ends)
+            ∙ ap (λ (t : Loaded). unless (fileFault file) (load.Loaded t)) (s .counts ∙ ap countsOf (sym all));
         index = λ n. record {
           sorted = subst (λ (k : ℕ). Sorted heads tails k order) size (s .sorted);
           table = ap (λ (k : ℕ). tableOf heads tails k order) (sym size) ∙ s .table ∙ ap tagTable (sym all);
@@ -112,16 +121,20 @@ module _ {file used heads tails order places : List ℕ} {total : Loaded} {at : 
     abbrev pub this : TagRecord
     this = record { side = side; number = n; tags = tagsAt c file p }
 
-    here : fileFault file ≡ earlier (faultOf (s .seen) this) (firstFault (s .seen ++ (this ∷ [])) (recordsAt file next) (lastRefusal file))
+    here : fileFault file
+        ≡ earlier (faultOf (s .seen) this) (firstFault (s .seen ++ (this ∷ [])) (recordsAt file next) (lastRefusal file))
     unfolding firstFault
-    here = s .fault ∙ ap (λ (l : List TagRecord). firstFault (s .seen) l (lastRefusal file)) (records-next file at side n c p next e)
+    here =
+        s .fault
+        ∙ ap (λ (l : List TagRecord). firstFault (s .seen) l (lastRefusal file)) (records-next file at side n c p next e)
 
     -- the record's number was used
     pub scanning-used : numberUsed (s .seen) this ≡ true → fileFault file ≡ some (NumberUsed at)
     scanning-used t = here ∙ rw (fault-used (s .seen) this t, ← s .place)
 
     -- the record passes a limit
-    pub scanning-past : numberUsed (s .seen) this ≡ false → tooMany side (s .seen ++ (this ∷ [])) ≡ true → fileFault file ≡ some (TooMany at)
+    pub scanning-past : numberUsed (s .seen) this ≡ false → tooMany side (s .seen ++ (this ∷ [])) ≡ true
+        → fileFault file ≡ some (TooMany at)
     scanning-past f t = here ∙ rw (fault-past (s .seen) this f t, ← s .place)
 
     pub scanning-ready : c < 256 → Ready file p c (total .tags) heads tails order places
@@ -138,7 +151,8 @@ module _ {file used heads tails order places : List ℕ} {total : Loaded} {at : 
     module _ {tags fresh : ℕ} {now-heads now-tails now-order now-places : List ℕ}
         (added : AllAdded file p c (total .tags) heads tails order tags fresh now-heads now-tails now-order now-places) where
       table-next : tableOf now-heads now-tails tags now-order ≡ tagTable (s .seen ++ (this ∷ []))
-      table-next = added .table ∙ ap (λ (l : List ℕ). insertAll l (tagsAt c file p)) (s .table) ∙ sym (tagTable-last (s .seen) this)
+      table-next =
+          added .table ∙ ap (λ (l : List ℕ). insertAll l (tagsAt c file p)) (s .table) ∙ sym (tagTable-last (s .seen) this)
 
       counts-next : grownBy total side tags fresh ≡ countsOf (s .seen ++ (this ∷ []))
       counts-next =
@@ -150,8 +164,9 @@ module _ {file used heads tails order places : List ℕ} {total : Loaded} {at : 
       pub scanning-over : isOver (grownBy total side tags fresh) side ≡ tooMany side (s .seen ++ (this ∷ []))
       scanning-over = ap (λ (t : Loaded). isOver t side) counts-next ∙ over-tooMany side (s .seen ++ (this ∷ []))
 
-      pub scanning-next : {now-used : List ℕ} {now-total : Loaded} → n < 65536 → numberUsed (s .seen) this ≡ false → Inserted used (keyOf side n) now-used
-          → now-total ≡ grownBy total side tags fresh → isOver (grownBy total side tags fresh) side ≡ false
+      pub scanning-next : {now-used : List ℕ} {now-total : Loaded} → n < 65536 → numberUsed (s .seen) this ≡ false
+          → Inserted used (keyOf side n) now-used → now-total ≡ grownBy total side tags fresh
+          → isOver (grownBy total side tags fresh) side ≡ false
           → Scanning file now-used now-heads now-tails now-order now-places now-total next
       scanning-next {now-used} {now-total} small f noted grew limit =
           let w = read-whole file at side n c p next e in

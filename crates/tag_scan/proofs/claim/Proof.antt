@@ -12,21 +12,29 @@ key-of-requires c κs = search needs
 
 contains-requires : tie.Need-contains-requires
 contains-requires c κs =
-    omega (arith, c .before .before .before .pre, c .before .key-of .ensures, key-bound (c .before .before .before .args .side) (c .before .before .before .args .number) (c .before .before .before .fits .number .fits))
+    let start = c .before .before .before in
+    let bound = key-bound (start .args .side) (start .args .number) (start .fits .number .fits) in
+    omega (arith, start .pre, c .before .key-of .ensures, bound)
 
 insert-requires : tie.Need-insert-requires
 insert-requires c κs =
-    omega (arith, c .before .before .before .before .before .pre, c .before .before .before .key-of .ensures, key-bound (c .before .before .before .before .before .args .side) (c .before .before .before .before .before .args .number) (c .before .before .before .before .before .fits .number .fits))
+    let at-key = c .before .before .before in
+    let start = at-key .before .before in
+    let bound = key-bound (start .args .side) (start .args .number) (start .fits .number .fits) in
+    omega (arith, start .pre, at-key .key-of .ensures, bound)
 
 same-length : tie.Need-same-length
 same-length c = search needs
 
 returns : tie.Need-returns
 returns c =
-    let used = c .before .before .before .before .before .before .before .before .args .used .now in
+    let at-contains = c .before .before .before .before in
+    let at-key = at-contains .before .before in
+    let start = at-key .before .before in
+    let used = start .args .used .now in
     record {
-      before = c .before .before .before .before .contains .ensures ∙ ap (member used) (c .before .before .before .before .before .before .key-of .ensures);
-      noted = rw (c .before .before .before .before .before .before .key-of .ensures) at (c .before .before .insert .ensures);
+      before = at-contains .contains .ensures ∙ ap (member used) (at-key .key-of .ensures);
+      noted = rw (at-key .key-of .ensures) at (c .before .before .insert .ensures);
     }
 
 pub claim-spec : {M : Type 1} → statement M

@@ -9,11 +9,13 @@ returns c =
 
 returns-2 : tie.Need-returns-2
 returns-2 c =
-    rw (le-ltb 4096 (c .before .before .args .sets) (c .before .if1 .left), lt-ltb 65535 (c .before .before .args .entries) (c .if2 .taken))
+    let a = c .before .before .args in
+    rw (le-ltb 4096 (a .sets) (c .before .if1 .left), lt-ltb 65535 (a .entries) (c .if2 .taken))
 
 returns-3 : tie.Need-returns-3
 returns-3 c =
-    rw (le-ltb 4096 (c .before .before .args .sets) (c .before .if1 .left), le-ltb 65535 (c .before .before .args .entries) (c .if2 .left))
+    let a = c .before .before .args in
+    rw (le-ltb 4096 (a .sets) (c .before .if1 .left), le-ltb 65535 (a .entries) (c .if2 .left))
 
 pub is-past-spec : {M : Type 1} → statement M
 is-past-spec = tie.close (tie.spec returns returns-2 returns-3)

@@ -1,5 +1,5 @@
--- `tag_scan::scan` meets its contract. The invariant: what the counts, the index and the noted numbers say of the records seen, and
--- that the first fault of the others is the file's (`Scanning`). The measure is how many bytes are left.
+-- `tag_scan::scan` meets its contract. The invariant: what the counts, the index and the noted numbers say of the records seen,
+-- and that the first fault of the others is the file's (`Scanning`). The measure is how many bytes are left.
 use mathlib.Core.Path.{_≡_, refl, sym, ap, subst, _∙_}
 use mathlib.Core.List.{[]}
 use Prim.Native.Nat.{ℕ, _+_, _-_, _<_}
@@ -17,7 +17,8 @@ use Rattle.tag_file.proofs.Tables.{length-insertAll-bound}
 use Rattle.tag_file.proofs.Ended.{no-records}
 use Rattle.tag_scan.specs.Scan.{Scanned, isOver}
 use Rattle.tag_scan.proofs.Numbers.{noted-start, noted-tells}
-use Rattle.tag_scan.proofs.Scanning.{Scanning, scanning-start, refused, scanning-stop, scanning-used, scanning-past, scanning-ready, scanning-over, scanning-next}
+use Rattle.tag_scan.proofs.Scanning.{Scanning, scanning-start, refused, scanning-stop, scanning-used}
+use Rattle.tag_scan.proofs.Scanning.{scanning-past, scanning-ready, scanning-over, scanning-next}
 use Rattle.tag_scan.proofs.scan.Statement.{statement}
 use Rattle.tag_scan.proofs.scan.Tie as tie
 
@@ -33,7 +34,8 @@ loop-holds : tie.Need-loop-holds Inv-loop μ-loop
 unfolding keep sum insertAll allTags
 loop-holds c =
     let a = c .before .args in
-    scanning-start (a .file .now) _ (a .heads .now) (a .tails .now) (a .order .now) _ _ (c .before .pre) (length-replicate {A = ℕ} 4352 0) noted-start refl
+    scanning-start (a .file .now) _ (a .heads .now) (a .tails .now) (a .order .now) _ _ (c .before .pre)
+    (length-replicate {A = ℕ} 4352 0) noted-start refl
 
 read-record-requires : tie.Need-read-record-requires Inv-loop μ-loop
 read-record-requires c κs =
@@ -49,10 +51,14 @@ stopped-requires c κs =
 
 returns : tie.Need-returns Inv-loop μ-loop
 returns c =
-    let l = c .before .before .before .loop in
-    let file = c .before .before .before .before .before .args .file .now in
+    let at-loop = c .before .before .before in
+    let start = at-loop .before .before in
+    let l = at-loop .loop in
+    let file = start .args .file .now in
+    let read = c .before .before .read-record in
+    let stop = no-records file (l .at) (read .result) (sym (read .ensures)) (c .before .match .keys2) in
     subst (λ (r : LoadAnswer). Scanned file (l .heads) (l .tails) (l .order) r) (sym (c .stopped .ensures))
-    (scanning-stop (l .inv) (c .before .before .read-record .result) (sym (c .before .before .read-record .ensures)) (no-records file (l .at) (c .before .before .read-record .result) (sym (c .before .before .read-record .ensures)) (c .before .match .keys2)))
+    (scanning-stop (l .inv) (read .result) (sym (read .ensures)) stop)
 
 slice-aggregate-claim : tie.Need-slice-aggregate-claim Inv-loop μ-loop
 slice-aggregate-claim c =
@@ -64,54 +70,79 @@ claim-requires c κs =
 
 returns-2 : tie.Need-returns-2 Inv-loop μ-loop
 returns-2 c =
-    let file = c .before .before .before .before .before .before .before .before .before .before .args .file .now in
-    let s = c .before .before .before .before .before .before .before .before .loop .inv in
-    let at = c .before .before .before .before .before .before .before .before .loop .at in
-    let v = c .before .before .before .before .before .answer .given .0 in
+    let at-answer = c .before .before .before .before .before in
+    let at-read = at-answer .before .before in
+    let at-loop = at-read .before in
+    let at-bytes = at-loop .before in
+    let start = at-bytes .before in
+    let file = start .args .file .now in
+    let s = at-loop .loop .inv in
+    let at = at-loop .loop .at in
+    let v = at-answer .answer .given .0 in
     let side = v .0 in
     let n = v .1 .0 in
     let count = v .1 .1 .0 in
     let p = v .1 .1 .1 .0 in
     let next = v .1 .1 .1 .1 .0 in
-    let e = sym (c .before .before .before .before .before .before .before .read-record .ensures) ∙ c .before .before .before .before .before .answer .given .1 in
+    let e = sym (at-read .read-record .ensures) ∙ at-answer .answer .given .1 in
     let w = read-whole file at side n count p next e in
-    let byte = c .before .before .before .before .before .before .before .before .before .shared-slice-known .given in
+    let byte = at-bytes .shared-slice-known .given in
     let r : TagRecord = record { side = side; number = n; tags = tagsAt count file p } in
     let small : n < 65536 = omega (arith, w .number, byte (at + 2), byte (at + 3)) in
-    let tells : numberUsed (s .seen) r ≡ c .before .before .claim .result = sym (noted-tells r small (s .noted)) ∙ sym (c .before .before .claim .ensures .before) in
+    let tells : numberUsed (s .seen) r ≡ c .before .before .claim .result =
+    sym (noted-tells r small (s .noted)) ∙ sym (c .before .before .claim .ensures .before) in
     refused (NumberUsed at) (scanning-used s side n count p next e (tells ∙ c .if1 .taken))
 
 add-tags-requires : tie.Need-add-tags-requires Inv-loop μ-loop
 add-tags-requires c κs =
-    let file = c .before .before .before .before .before .before .before .before .before .before .before .before .before .before .before .args .file .now in
-    let s = c .before .before .before .before .before .before .before .before .before .before .before .before .before .loop .inv in
-    let at = c .before .before .before .before .before .before .before .before .before .before .before .before .before .loop .at in
-    let v = c .before .before .before .before .before .before .before .before .before .before .answer .given .0 in
+    let at-answer = c .before .before .before .before .before .before .before .before .before .before in
+    let at-read = at-answer .before .before in
+    let at-loop = at-read .before in
+    let at-bytes = at-loop .before in
+    let start = at-bytes .before in
+    let file = start .args .file .now in
+    let s = at-loop .loop .inv in
+    let at = at-loop .loop .at in
+    let v = at-answer .answer .given .0 in
     let side = v .0 in
     let n = v .1 .0 in
     let count = v .1 .1 .0 in
     let p = v .1 .1 .1 .0 in
     let next = v .1 .1 .1 .1 .0 in
-    let e = sym (c .before .before .before .before .before .before .before .before .before .before .before .before .read-record .ensures) ∙ c .before .before .before .before .before .before .before .before .before .before .answer .given .1 in
+    let e = sym (at-read .read-record .ensures) ∙ at-answer .answer .given .1 in
     let w = read-whole file at side n count p next e in
-    let byte = c .before .before .before .before .before .before .before .before .before .before .before .before .before .before .shared-slice-known .given in
+    let byte = at-bytes .shared-slice-known .given in
     scanning-ready s side n count p next e (omega (arith, w .count, byte (at + 4)))
 
 grown-requires : tie.Need-grown-requires Inv-loop μ-loop
 grown-requires c κs =
-    let file = c .before .before .before .before .before .before .before .before .before .before .before .before .before .before .before .before .args .file .now in
-    let s = c .before .before .before .before .before .before .before .before .before .before .before .before .before .before .loop .inv in
-    let at = c .before .before .before .before .before .before .before .before .before .before .before .before .before .before .loop .at in
-    let v = c .before .before .before .before .before .before .before .before .before .before .before .answer .given .0 in
+    let at-answer = c .before .before .before .before .before .before .before .before .before .before .before in
+    let at-read = at-answer .before .before in
+    let at-loop = at-read .before in
+    let at-bytes = at-loop .before in
+    let start = at-bytes .before in
+    let file = start .args .file .now in
+    let s = at-loop .loop .inv in
+    let at = at-loop .loop .at in
+    let v = at-answer .answer .given .0 in
     let side = v .0 in
     let n = v .1 .0 in
     let count = v .1 .1 .0 in
     let p = v .1 .1 .1 .0 in
     let next = v .1 .1 .1 .1 .0 in
-    let e = sym (c .before .before .before .before .before .before .before .before .before .before .before .before .before .read-record .ensures) ∙ c .before .before .before .before .before .before .before .before .before .before .before .answer .given .1 in
+    let e = sym (at-read .read-record .ensures) ∙ at-answer .answer .given .1 in
     let w = read-whole file at side n count p next e in
-    let byte = c .before .before .before .before .before .before .before .before .before .before .before .before .before .before .before .shared-slice-known .given in
-    (s .limited, omega (arith, c .add-tags .ensures .counted, length-insertAll-bound [] (tagsAt count file p), length-tagsAt count file p, w .count, byte (at + 4)))
+    let byte = at-bytes .shared-slice-known .given in (
+      s .limited,
+      omega (
+        arith,
+        c .add-tags .ensures .counted,
+        length-insertAll-bound [] (tagsAt count file p),
+        length-tagsAt count file p,
+        w .count,
+        byte (at + 4),
+      ),
+    )
 
 is-over-requires : tie.Need-is-over-requires Inv-loop μ-loop
 is-over-requires c κs =
@@ -119,59 +150,84 @@ is-over-requires c κs =
 
 returns-3 : tie.Need-returns-3 Inv-loop μ-loop
 returns-3 c =
-    let file = c .before .before .before .before .before .before .before .before .before .before .before .before .before .before .before .before .before .before .before .args .file .now in
-    let s = c .before .before .before .before .before .before .before .before .before .before .before .before .before .before .before .before .before .loop .inv in
-    let at = c .before .before .before .before .before .before .before .before .before .before .before .before .before .before .before .before .before .loop .at in
-    let v = c .before .before .before .before .before .before .before .before .before .before .before .before .before .before .answer .given .0 in
+    let at-tags = c .before .before .before in
+    let at-if1 = at-tags .before .before .before .before .before .before in
+    let at-claim = at-if1 .before .before in
+    let at-answer = at-claim .before .before .before in
+    let at-read = at-answer .before .before in
+    let at-loop = at-read .before in
+    let at-bytes = at-loop .before in
+    let start = at-bytes .before in
+    let file = start .args .file .now in
+    let s = at-loop .loop .inv in
+    let at = at-loop .loop .at in
+    let v = at-answer .answer .given .0 in
     let side = v .0 in
     let n = v .1 .0 in
     let count = v .1 .1 .0 in
     let p = v .1 .1 .1 .0 in
     let next = v .1 .1 .1 .1 .0 in
-    let e = sym (c .before .before .before .before .before .before .before .before .before .before .before .before .before .before .before .before .read-record .ensures) ∙ c .before .before .before .before .before .before .before .before .before .before .before .before .before .before .answer .given .1 in
+    let e = sym (at-read .read-record .ensures) ∙ at-answer .answer .given .1 in
     let w = read-whole file at side n count p next e in
-    let byte = c .before .before .before .before .before .before .before .before .before .before .before .before .before .before .before .before .before .before .shared-slice-known .given in
+    let byte = at-bytes .shared-slice-known .given in
     let r : TagRecord = record { side = side; number = n; tags = tagsAt count file p } in
     let small : n < 65536 = omega (arith, w .number, byte (at + 2), byte (at + 3)) in
-    let tells : numberUsed (s .seen) r ≡ c .before .before .before .before .before .before .before .before .before .before .before .claim .result = sym (noted-tells r small (s .noted)) ∙ sym (c .before .before .before .before .before .before .before .before .before .before .before .claim .ensures .before) in
-    let limit = c .before .is-over .ensures ∙ ap (λ (t : Loaded). isOver t side) (c .before .before .grown .ensures) ∙ scanning-over s side n count p next e (c .before .before .before .add-tags .ensures) in
-    refused (TooMany at) (scanning-past s side n count p next e (tells ∙ c .before .before .before .before .before .before .before .before .before .if1 .left) (sym limit ∙ c .if2 .taken))
+    let tells : numberUsed (s .seen) r ≡ at-claim .claim .result =
+    sym (noted-tells r small (s .noted)) ∙ sym (at-claim .claim .ensures .before) in
+    let grew = c .before .before .grown .ensures in
+    let limit = c .before .is-over .ensures ∙ ap (λ (t : Loaded). isOver t side) grew
+    ∙ scanning-over s side n count p next e (at-tags .add-tags .ensures) in
+    refused (TooMany at) (scanning-past s side n count p next e (tells ∙ at-if1 .if1 .left) (sym limit ∙ c .if2 .taken))
 
 loop-less : tie.Need-loop-less Inv-loop μ-loop
 loop-less c =
-    let file = c .before .before .before .before .before .before .before .before .before .before .before .before .before .before .before .before .before .before .before .args .file .now in
-    let s = c .before .before .before .before .before .before .before .before .before .before .before .before .before .before .before .before .before .loop .inv in
-    let at = c .before .before .before .before .before .before .before .before .before .before .before .before .before .before .before .before .before .loop .at in
-    let v = c .before .before .before .before .before .before .before .before .before .before .before .before .before .before .answer .given .0 in
+    let at-claim = c .before .before .before .before .before .before .before .before .before .before .before in
+    let at-answer = at-claim .before .before .before in
+    let at-read = at-answer .before .before in
+    let at-loop = at-read .before in
+    let start = at-loop .before .before in
+    let file = start .args .file .now in
+    let at = at-loop .loop .at in
+    let v = at-answer .answer .given .0 in
     let side = v .0 in
     let n = v .1 .0 in
     let count = v .1 .1 .0 in
     let p = v .1 .1 .1 .0 in
     let next = v .1 .1 .1 .1 .0 in
-    let e = sym (c .before .before .before .before .before .before .before .before .before .before .before .before .before .before .before .before .read-record .ensures) ∙ c .before .before .before .before .before .before .before .before .before .before .before .before .before .before .answer .given .1 in
+    let e = sym (at-read .read-record .ensures) ∙ at-answer .answer .given .1 in
     let w = read-whole file at side n count p next e in
-    let byte = c .before .before .before .before .before .before .before .before .before .before .before .before .before .before .before .before .before .before .shared-slice-known .given in
     omega (arith, w .place, w .past, w .within)
 
 loop-again : tie.Need-loop-again Inv-loop μ-loop
 loop-again c =
-    let file = c .before .before .before .before .before .before .before .before .before .before .before .before .before .before .before .before .before .before .before .args .file .now in
-    let s = c .before .before .before .before .before .before .before .before .before .before .before .before .before .before .before .before .before .loop .inv in
-    let at = c .before .before .before .before .before .before .before .before .before .before .before .before .before .before .before .before .before .loop .at in
-    let v = c .before .before .before .before .before .before .before .before .before .before .before .before .before .before .answer .given .0 in
+    let at-tags = c .before .before .before in
+    let at-if1 = at-tags .before .before .before .before .before .before in
+    let at-claim = at-if1 .before .before in
+    let at-answer = at-claim .before .before .before in
+    let at-read = at-answer .before .before in
+    let at-loop = at-read .before in
+    let at-bytes = at-loop .before in
+    let start = at-bytes .before in
+    let file = start .args .file .now in
+    let s = at-loop .loop .inv in
+    let at = at-loop .loop .at in
+    let v = at-answer .answer .given .0 in
     let side = v .0 in
     let n = v .1 .0 in
     let count = v .1 .1 .0 in
     let p = v .1 .1 .1 .0 in
     let next = v .1 .1 .1 .1 .0 in
-    let e = sym (c .before .before .before .before .before .before .before .before .before .before .before .before .before .before .before .before .read-record .ensures) ∙ c .before .before .before .before .before .before .before .before .before .before .before .before .before .before .answer .given .1 in
+    let e = sym (at-read .read-record .ensures) ∙ at-answer .answer .given .1 in
     let w = read-whole file at side n count p next e in
-    let byte = c .before .before .before .before .before .before .before .before .before .before .before .before .before .before .before .before .before .before .shared-slice-known .given in
+    let byte = at-bytes .shared-slice-known .given in
     let r : TagRecord = record { side = side; number = n; tags = tagsAt count file p } in
     let small : n < 65536 = omega (arith, w .number, byte (at + 2), byte (at + 3)) in
-    let tells : numberUsed (s .seen) r ≡ c .before .before .before .before .before .before .before .before .before .before .before .claim .result = sym (noted-tells r small (s .noted)) ∙ sym (c .before .before .before .before .before .before .before .before .before .before .before .claim .ensures .before) in
-    let limit = ap (λ (t : Loaded). isOver t side) (sym (c .before .before .grown .ensures)) ∙ sym (c .before .is-over .ensures) ∙ c .if2 .left in
-    scanning-next s side n count p next e (c .before .before .before .add-tags .ensures) small (tells ∙ c .before .before .before .before .before .before .before .before .before .if1 .left) (c .before .before .before .before .before .before .before .before .before .before .before .claim .ensures .noted) (c .before .before .grown .ensures) limit
+    let tells : numberUsed (s .seen) r ≡ at-claim .claim .result =
+    sym (noted-tells r small (s .noted)) ∙ sym (at-claim .claim .ensures .before) in
+    let grew = c .before .before .grown .ensures in
+    let limit = ap (λ (t : Loaded). isOver t side) (sym grew) ∙ sym (c .before .is-over .ensures) ∙ c .if2 .left in
+    scanning-next s side n count p next e (at-tags .add-tags .ensures) small (tells ∙ at-if1 .if1 .left)
+    (at-claim .claim .ensures .noted) grew limit
 
 pub scan-spec : {M : Type 1} → statement M
 scan-spec =
