@@ -1,5 +1,5 @@
--- The second pass over a side: its invariant, with its start, step and end. It says what is left: of each list what is written and what
--- the records still to come give are together what is wanted.
+-- The second pass over a side: its invariant, with its start, step and end. It says what is left: of each list what is written
+-- and what the records still to come give are together what is wanted.
 use mathlib.Core.Path.{_≡_, refl, ap, subst, _∙_}
 use mathlib.Core.List.{List, [], _∷_, _++_}
 use mathlib.Core.Bool.{Bool, true, false, _||_}
@@ -41,12 +41,16 @@ memb-tagsAt (suc n) file at zero h =
 memb-tagsAt (suc n) file at (suc k) h =
     let e : at + 12 + 12 * k ≡ at + 12 * suc k = omega arith in
     or-right (eqb (tagAt file (at + 12 * suc k)) (tagAt file at)) (memb (tagAt file (at + 12 * suc k)) (tagsAt n file (at + 12)))
-    (subst (λ (m : ℕ). memb (tagAt file m) (tagsAt n file (at + 12)) ≡ true) e (memb-tagsAt n file (at + 12) k (le-of-suc-le-suc h)))
+    (subst (λ (m : ℕ). memb (tagAt file m) (tagsAt n file (at + 12)) ≡ true) e
+    (memb-tagsAt n file (at + 12) k (le-of-suc-le-suc h)))
 
-pub record Filling (file : List ℕ) (side : Side) (numbers₀ ends₀ items₀ marks numbers ends items : List ℕ) (done : Filled) (at : ℕ) : Type 0 where
+pub record Filling (file : List ℕ) (side : Side) (numbers₀ ends₀ items₀ : List ℕ)
+    (marks numbers ends items : List ℕ) (done : Filled) (at : ℕ) : Type 0 where
   pub for-numbers : Writing numbers₀ 0 (numbersOf side (records file)) numbers (done .sets) (numbersOf side (recordsAt file at))
-  pub for-ends : Writing ends₀ 0 (endsOf side (records file)) ends (done .sets) (endsFrom (done .entries) (setsOfSide side (tagTable (records file)) (recordsAt file at)))
-  pub for-items : Writing items₀ 0 (joinedItems side (records file)) items (done .entries) (join (setsOfSide side (tagTable (records file)) (recordsAt file at)))
+  pub for-ends : Writing ends₀ 0 (endsOf side (records file)) ends (done .sets)
+      (endsFrom (done .entries) (setsOfSide side (tagTable (records file)) (recordsAt file at)))
+  pub for-items : Writing items₀ 0 (joinedItems side (records file)) items (done .entries)
+      (join (setsOfSide side (tagTable (records file)) (recordsAt file at)))
   pub held : (y : ℕ) → memb y (allTags (recordsAt file at)) ≡ true → memb y (tagTable (records file)) ≡ true
   pub unmarked : Unmarked marks
 
@@ -72,12 +76,14 @@ module _ {file : List ℕ} {side : Side} {numbers₀ ends₀ items₀ marks numb
     pub filled-ends : ends ≡ filledWith (endsOf side (records file)) ends₀
     unfolding keep endsFrom
     filled-ends =
-        written-whole (writing-end (f .for-ends) (ap (λ (l : List TagRecord). endsFrom (done .entries) (setsOfSide side (tagTable (records file)) l)) stop)) (omega (arith, f .for-ends .room))
+        let end = ap (λ (l : List TagRecord). endsFrom (done .entries) (setsOfSide side (tagTable (records file)) l)) stop in
+        written-whole (writing-end (f .for-ends) end) (omega (arith, f .for-ends .room))
 
     pub filled-items : items ≡ filledWith (joinedItems side (records file)) items₀
     unfolding keep join
     filled-items =
-        written-whole (writing-end (f .for-items) (ap (λ (l : List TagRecord). join (setsOfSide side (tagTable (records file)) l)) stop)) (omega (arith, f .for-items .room))
+        let end = ap (λ (l : List TagRecord). join (setsOfSide side (tagTable (records file)) l)) stop in
+        written-whole (writing-end (f .for-items) end) (omega (arith, f .for-items .room))
 
   module _ (kind : Side) (n c p next : ℕ) (e : readAt file at ≡ Record kind n c p next) where
     abbrev this : TagRecord
@@ -102,7 +108,8 @@ module _ {file : List ℕ} {side : Side} {numbers₀ ends₀ items₀ marks numb
     sets-next = ap (setsOfSide side table) rest ∙ sets-cons side this (recordsAt file next) table
 
     ends-next : endsFrom (done .entries) (setsOfSide side table (recordsAt file at))
-        ≡ onto (sameSide side kind) (done .entries + length new) [] ++ endsFrom (done .entries + length (join (onto (sameSide side kind) new []))) to-come
+        ≡ onto (sameSide side kind) (done .entries + length new) []
+        ++ endsFrom (done .entries + length (join (onto (sameSide side kind) new []))) to-come
     ends-next =
         ap (endsFrom (done .entries)) sets-next ∙ ends-onto (sameSide side kind) new to-come (done .entries)
 
@@ -132,15 +139,17 @@ module _ {file : List ℕ} {side : Side} {numbers₀ ends₀ items₀ marks numb
         }
 
     -- the items of the record are those of its tags that are marked
-    pub filling-items : {heads tails : List ℕ} {m : ℕ} {order got : List ℕ} → Sorted heads tails m order → tableOf heads tails m order ≡ table
-        → m ≤ 4096 → Marking file heads tails m order p c got → members got ≡ new
+    pub filling-items : {heads tails : List ℕ} {m : ℕ} {order got : List ℕ} → Sorted heads tails m order
+        → tableOf heads tails m order ≡ table → m ≤ 4096 → Marking file heads tails m order p c got → members got ≡ new
     filling-items sorted same small marking =
         marked-items marking (omega (arith, sorted-size sorted)) ∙ ap (λ (t : List ℕ). itemsOf t (tagsAt c file p)) same
 
-    pub filling-room : length (joinedItems side (records file)) ≤ 65535 → sameSide side kind ≡ true → RoomForOne (done .sets) (done .entries) new numbers ends items
+    pub filling-room : length (joinedItems side (records file)) ≤ 65535 → sameSide side kind ≡ true
+        → RoomForOne (done .sets) (done .entries) new numbers ends items
     filling-room few mine =
         let a = writing-room (f .for-numbers) (n ∷ []) (numbersOf side (recordsAt file next)) (rw mine at numbers-next) in
-        let b = writing-room (f .for-ends) ((done .entries + length new) ∷ []) (endsFrom (done .entries + length (join (new ∷ []))) to-come) (rw mine at ends-next) in
+        let b = writing-room (f .for-ends) ((done .entries + length new) ∷ [])
+        (endsFrom (done .entries + length (join (new ∷ []))) to-come) (rw mine at ends-next) in
         let d = writing-room (f .for-items) (join (new ∷ [])) (join to-come) (rw mine at items-next) in
         let g = ap length (rw mine at items-next) in
         record {

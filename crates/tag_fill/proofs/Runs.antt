@@ -19,15 +19,18 @@ module _ (side : Side) (r : TagRecord) (rs : List TagRecord) where
   unfolding keep
   numbers-cons = by-mine (sameSide side (r .side))
     where
-      by-mine : (b : Bool) → map (λ (q : TagRecord). q .number) (onto b r (ofSide side rs)) ≡ onto b (r .number) [] ++ numbersOf side rs
+      by-mine : (b : Bool)
+          → map (λ (q : TagRecord). q .number) (onto b r (ofSide side rs)) ≡ onto b (r .number) [] ++ numbersOf side rs
       by-mine true = refl
       by-mine false = refl
 
-  pub sets-cons : (table : List ℕ) → setsOfSide side table (r ∷ rs) ≡ onto (sameSide side (r .side)) (itemsOf table (r .tags)) [] ++ setsOfSide side table rs
+  pub sets-cons : (table : List ℕ)
+      → setsOfSide side table (r ∷ rs) ≡ onto (sameSide side (r .side)) (itemsOf table (r .tags)) [] ++ setsOfSide side table rs
   unfolding keep
   sets-cons table = by-mine (sameSide side (r .side))
     where
-      by-mine : (b : Bool) → map (λ (q : TagRecord). itemsOf table (q .tags)) (onto b r (ofSide side rs)) ≡ onto b (itemsOf table (r .tags)) [] ++ setsOfSide side table rs
+      by-mine : (b : Bool) → map (λ (q : TagRecord). itemsOf table (q .tags)) (onto b r (ofSide side rs))
+          ≡ onto b (itemsOf table (r .tags)) [] ++ setsOfSide side table rs
       by-mine true = refl
       by-mine false = refl
 
@@ -40,10 +43,12 @@ module _ (mine : Bool) (set : List ℕ) (sets : List (List ℕ)) where
       by-mine true = ap (λ (l : List ℕ). l ++ join sets) (sym (append-nil set))
       by-mine false = refl
 
-  pub ends-onto : (e : ℕ) → endsFrom e (onto mine set [] ++ sets) ≡ onto mine (e + length set) [] ++ endsFrom (e + length (join (onto mine set []))) sets
+  pub ends-onto : (e : ℕ) → endsFrom e (onto mine set [] ++ sets)
+      ≡ onto mine (e + length set) [] ++ endsFrom (e + length (join (onto mine set []))) sets
   unfolding endsFrom join
   ends-onto e = by-mine mine
     where
-      by-mine : (b : Bool) → endsFrom e (onto b set [] ++ sets) ≡ onto b (e + length set) [] ++ endsFrom (e + length (join (onto b set []))) sets
+      by-mine : (b : Bool)
+          → endsFrom e (onto b set [] ++ sets) ≡ onto b (e + length set) [] ++ endsFrom (e + length (join (onto b set []))) sets
       by-mine true = ap (λ (l : List ℕ). (e + length set) ∷ endsFrom (e + length l) sets) (sym (append-nil set))
       by-mine false = ap (λ (k : ℕ). endsFrom k sets) (sym (add-zero e))

@@ -1,5 +1,5 @@
--- `tag_fill::fill_side` meets its contract. The invariant: what is written of each list and what the records still to come give are
--- together what is wanted, and no item is marked (`Filling`). The measure is how many bytes are left.
+-- `tag_fill::fill_side` meets its contract. The invariant: what is written of each list and what the records still to come give
+-- are together what is wanted, and no item is marked (`Filling`). The measure is how many bytes are left.
 use mathlib.Core.Path.{sym, _∙_}
 use Prim.Native.Nat.{_-_}
 use native.Mathlib.Omega.{arith}
@@ -9,7 +9,8 @@ use Rattle.tag_file.specs.Reading.{tagsAt}
 use Rattle.tag_file.proofs.RecordLaws.{read-whole}
 use Rattle.tag_file.proofs.Ended.{no-records}
 use Rattle.tag_index.specs.Index.{tableOf}
-use Rattle.tag_fill.proofs.Filling.{Filling, filling-start, filled-numbers, filled-ends, filled-items, filling-known, filling-items, filling-room, filling-own, filling-other}
+use Rattle.tag_fill.proofs.Filling.{Filling, filling-start, filled-numbers, filled-ends, filled-items}
+use Rattle.tag_fill.proofs.Filling.{filling-known, filling-items, filling-room, filling-own, filling-other}
 use Rattle.tag_fill.proofs.Marks.{unmarked-marked}
 use Rattle.tag_fill.proofs.fill_side.Statement.{statement}
 use Rattle.tag_fill.proofs.fill_side.Tie as tie
@@ -42,8 +43,10 @@ same-length-3 c = c .before .before .loop .inv .for-items .same
 
 returns : tie.Need-returns Inv-loop μ-loop
 returns c =
+    let start = c .before .before .before .before .before .before .before in
     let l = c .before .before .loop in
-    let stop = no-records (c .before .before .before .before .before .before .before .args .file .now) (l .at) (c .before .read-record .result) (sym (c .before .read-record .ensures)) (c .match .keys2) in
+    let read = c .before .read-record in
+    let stop = no-records (start .args .file .now) (l .at) (read .result) (sym (read .ensures)) (c .match .keys2) in
     (filled-numbers (l .inv) stop, (filled-ends (l .inv) stop, filled-items (l .inv) stop))
 
 is-side-requires : tie.Need-is-side-requires Inv-loop μ-loop
@@ -54,8 +57,8 @@ loop-less c =
     let told = c .before .before .before in
     let read = told .before .before in
     let l = read .before .loop in
-    let s = read .before .before .before .before .before .before in
-    let file = s .args .file .now in
+    let start = read .before .before .before .before .before .before in
+    let file = start .args .file .now in
     let v = told .answer .given .0 in
     let e = sym (read .read-record .ensures) ∙ told .answer .given .1 in
     let w = read-whole file (l .at) (v .0) (v .1 .0) (v .1 .1 .0) (v .1 .1 .1 .0) (v .1 .1 .1 .1 .0) e in
@@ -80,12 +83,13 @@ mark-tags-requires c κs =
     let told = c .before .before .before .before in
     let read = told .before .before in
     let l = read .before .loop in
-    let s = read .before .before .before .before .before .before in
+    let start = read .before .before .before .before .before .before in
     let v = told .answer .given .0 in
     let e = sym (read .read-record .ensures) ∙ told .answer .given .1 in
-    let a = s .args in
-    let p = s .pre in (
-      filling-known (l .inv) (v .0) (v .1 .0) (v .1 .1 .0) (v .1 .1 .1 .0) (v .1 .1 .1 .1 .0) e (p .sorted) (p .ranked) (p .table) (p .small),
+    let a = start .args in
+    let p = start .pre in (
+      filling-known (l .inv) (v .0) (v .1 .0) (v .1 .1 .0) (v .1 .1 .1 .0) (v .1 .1 .1 .1 .0) e
+          (p .sorted) (p .ranked) (p .table) (p .small),
       unmarked-marked (tableOf (a .heads .now) (a .tails .now) (a .n) (a .order .now)) (l .inv .unmarked),
     )
 
@@ -99,12 +103,13 @@ put-record-requires c κs =
     let told = own .before .before .before in
     let read = told .before .before in
     let l = read .before .loop in
-    let s = read .before .before .before .before .before .before in
+    let start = read .before .before .before .before .before .before in
     let v = told .answer .given .0 in
     let e = sym (read .read-record .ensures) ∙ told .answer .given .1 in
-    let p = s .pre in
+    let p = start .pre in
     let m = mark .mark-tags .ensures in
-    let same = filling-items (l .inv) (v .0) (v .1 .0) (v .1 .1 .0) (v .1 .1 .1 .0) (v .1 .1 .1 .1 .0) e (p .sorted) (p .table) (p .small) m in
+    let same = filling-items (l .inv) (v .0) (v .1 .0) (v .1 .1 .0) (v .1 .1 .1 .0) (v .1 .1 .1 .1 .0) e
+    (p .sorted) (p .table) (p .small) m in
     let mine = sym (own .before .is-side .ensures) ∙ not-false (own .before .is-side .result) (own .if1 .left) in
     (m .wide, rw same (filling-room (l .inv) (v .0) (v .1 .0) (v .1 .1 .0) (v .1 .1 .1 .0) (v .1 .1 .1 .1 .0) e (p .few) mine))
 
@@ -116,8 +121,8 @@ loop-less-2 c =
     let told = own .before .before .before in
     let read = told .before .before in
     let l = read .before .loop in
-    let s = read .before .before .before .before .before .before in
-    let file = s .args .file .now in
+    let start = read .before .before .before .before .before .before in
+    let file = start .args .file .now in
     let v = told .answer .given .0 in
     let e = sym (read .read-record .ensures) ∙ told .answer .given .1 in
     let w = read-whole file (l .at) (v .0) (v .1 .0) (v .1 .1 .0) (v .1 .1 .1 .0) (v .1 .1 .1 .1 .0) e in
@@ -131,12 +136,13 @@ loop-again-2 c =
     let told = own .before .before .before in
     let read = told .before .before in
     let l = read .before .loop in
-    let s = read .before .before .before .before .before .before in
+    let start = read .before .before .before .before .before .before in
     let v = told .answer .given .0 in
     let e = sym (read .read-record .ensures) ∙ told .answer .given .1 in
-    let p = s .pre in
+    let p = start .pre in
     let m = mark .mark-tags .ensures in
-    let same = filling-items (l .inv) (v .0) (v .1 .0) (v .1 .1 .0) (v .1 .1 .1 .0) (v .1 .1 .1 .1 .0) e (p .sorted) (p .table) (p .small) m in
+    let same = filling-items (l .inv) (v .0) (v .1 .0) (v .1 .1 .0) (v .1 .1 .1 .0) (v .1 .1 .1 .1 .0) e
+    (p .sorted) (p .table) (p .small) m in
     let mine = sym (own .before .is-side .ensures) ∙ not-false (own .before .is-side .result) (own .if1 .left) in
     let o = put .put-record .ensures in
     filling-own (l .inv) (v .0) (v .1 .0) (v .1 .1 .0) (v .1 .1 .1 .0) (v .1 .1 .1 .1 .0) e mine (rw same at (o .1)) (o .0)

@@ -24,7 +24,8 @@ abbrev μ-loop : tie.MeasureT-loop
 loop-holds : tie.Need-loop-holds Inv-loop μ-loop
 loop-holds c =
     let a = c .before .args in
-    (writing-start (a .tags .now) 0 (tagBytes (tableOf (a .heads .now) (a .tails .now) (a .n) (a .order .now))) (omega (arith, c .before .pre .1)), omega arith)
+    let table = tableOf (a .heads .now) (a .tails .now) (a .n) (a .order .now) in
+    (writing-start (a .tags .now) 0 (tagBytes table) (omega (arith, c .before .pre .1)), omega arith)
 
 mul-id : tie.Need-mul-id Inv-loop μ-loop
 mul-id c =
@@ -36,32 +37,46 @@ element-copy-out-id c =
 
 cast-id : tie.Need-cast-id Inv-loop μ-loop
 cast-id c =
-    omega (arith, c .before .before .before .before .pre .0 .listed .ids (c .before .before .loop .i) (c .before .loop-test .taken), c .before .before .before .before .pre .0 .listed .room)
+    let at-loop = c .before .before in
+    let listed = at-loop .before .before .pre .0 .listed in
+    omega (arith, listed .ids (at-loop .loop .i) (c .before .loop-test .taken), listed .room)
 
 mul-put-tag : tie.Need-mul-put-tag Inv-loop μ-loop
 mul-put-tag c =
-    omega (arith, c .before .before .before .before .pre .0 .listed .ids (c .before .before .loop .i) (c .before .loop-test .taken), c .before .before .before .before .pre .0 .listed .room)
+    let at-loop = c .before .before in
+    let listed = at-loop .before .before .pre .0 .listed in
+    omega (arith, listed .ids (at-loop .loop .i) (c .before .loop-test .taken), listed .room)
 
 element-copy-out-put-tag : tie.Need-element-copy-out-put-tag Inv-loop μ-loop
 element-copy-out-put-tag c =
-    omega (arith, c .before .before .before .before .pre .0 .listed .ids (c .before .before .loop .i) (c .before .loop-test .taken), c .before .before .before .before .pre .0 .listed .room)
+    let at-loop = c .before .before in
+    let listed = at-loop .before .before .pre .0 .listed in
+    omega (arith, listed .ids (at-loop .loop .i) (c .before .loop-test .taken), listed .room)
 
 mul-put-tag-2 : tie.Need-mul-put-tag-2 Inv-loop μ-loop
 mul-put-tag-2 c =
-    omega (arith, c .before .before .before .before .before .pre .0 .listed .ids (c .before .before .before .loop .i) (c .before .before .loop-test .taken), c .before .before .before .before .before .pre .0 .listed .room)
+    let at-loop = c .before .before .before in
+    let listed = at-loop .before .before .pre .0 .listed in
+    omega (arith, listed .ids (at-loop .loop .i) (c .before .before .loop-test .taken), listed .room)
 
 element-copy-out-put-tag-2 : tie.Need-element-copy-out-put-tag-2 Inv-loop μ-loop
 element-copy-out-put-tag-2 c =
-    omega (arith, c .before .before .before .before .before .pre .0 .listed .ids (c .before .before .before .loop .i) (c .before .before .loop-test .taken), c .before .before .before .before .before .pre .0 .listed .room)
+    let at-loop = c .before .before .before in
+    let listed = at-loop .before .before .pre .0 .listed in
+    omega (arith, listed .ids (at-loop .loop .i) (c .before .before .loop-test .taken), listed .room)
 
 put-tag-requires : tie.Need-put-tag-requires Inv-loop μ-loop
 put-tag-requires c κs =
-    let a = c .before .before .before .before .before .before .before .args in
-    let s = c .before .before .before .before .before .before .before .pre .0 in
+    let test = c .before .before .before .before in
+    let at-loop = test .before in
+    let start = at-loop .before .before in
+    let a = start .args in
+    let s = start .pre .0 in
     let table = tableOf (a .heads .now) (a .tails .now) (a .n) (a .order .now) in
-    let i = c .before .before .before .before .before .loop .i in
-    let next = table-next table i (omega (arith, sorted-size s, c .before .before .before .before .loop-test .taken)) in
-    omega (arith, writing-room (c .before .before .before .before .before .loop .inv .0) (bytesOf 12 (getD table i 0)) (tagBytes (drop (i + 1) table)) next, length-bytesOf 12 (getD table i 0))
+    let i = at-loop .loop .i in
+    let next = table-next table i (omega (arith, sorted-size s, test .loop-test .taken)) in
+    let room = writing-room (at-loop .loop .inv .0) (bytesOf 12 (getD table i 0)) (tagBytes (drop (i + 1) table)) next in
+    omega (arith, room, length-bytesOf 12 (getD table i 0))
 
 add-i : tie.Need-add-i Inv-loop μ-loop
 add-i c =
@@ -73,14 +88,17 @@ loop-less c =
 
 loop-again : tie.Need-loop-again Inv-loop μ-loop
 loop-again c =
-    let a = c .before .before .before .before .before .before .before .before .before .before .args in
-    let s = c .before .before .before .before .before .before .before .before .before .before .pre .0 in
+    let test = c .before .before .before .before .before .before .before in
+    let at-loop = test .before in
+    let start = at-loop .before .before in
+    let a = start .args in
+    let s = start .pre .0 in
     let table = tableOf (a .heads .now) (a .tails .now) (a .n) (a .order .now) in
-    let i = c .before .before .before .before .before .before .before .before .loop .i in
-    let inside = c .before .before .before .before .before .before .before .loop-test .taken in
+    let i = at-loop .loop .i in
+    let inside = test .loop-test .taken in
     let next = table-next table i (omega (arith, sorted-size s)) in
     let here = ap (bytesOf 12) (sym (sorted-at s i inside)) in
-    (writing-step (c .before .before .before .before .before .before .before .before .loop .inv .0) next (rw here at (c .before .before .put-tag .ensures)), omega arith)
+    (writing-step (at-loop .loop .inv .0) next (rw here at (c .before .before .put-tag .ensures)), omega arith)
 
 same-length : tie.Need-same-length Inv-loop μ-loop
 same-length c =
@@ -88,10 +106,11 @@ same-length c =
 
 returns : tie.Need-returns Inv-loop μ-loop
 returns c =
-    let a = c .before .before .before .args in
+    let start = c .before .before .before in
+    let a = start .args in
     let table = tableOf (a .heads .now) (a .tails .now) (a .n) (a .order .now) in
-    let past = table-end table (c .before .loop .i) (omega (arith, sorted-size (c .before .before .before .pre .0), c .loop-test .left)) in
-    written-whole (writing-end (c .before .loop .inv .0) past) (omega (arith, c .before .before .before .pre .1))
+    let past = table-end table (c .before .loop .i) (omega (arith, sorted-size (start .pre .0), c .loop-test .left)) in
+    written-whole (writing-end (c .before .loop .inv .0) past) (omega (arith, start .pre .1))
 
 pub fill-tags-spec : {M : Type 1} → statement M
 fill-tags-spec =

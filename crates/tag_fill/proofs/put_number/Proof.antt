@@ -1,5 +1,5 @@
--- `tag_fill::put_number` meets its contract. The invariant: with the bytes still to come the whole number is written (`BytesLeft`).
--- The measure is how many bytes are left.
+-- `tag_fill::put_number` meets its contract. The invariant: with the bytes still to come the whole number is written
+-- (`BytesLeft`). The measure is how many bytes are left.
 use native.Mathlib.Omega.{arith}
 use Rattle.tag_fill.proofs.TableBytes.{BytesLeft, bytes-start, bytes-step, bytes-end}
 use Rattle.tag_fill.proofs.put_number.Statement.{statement}
