@@ -24,12 +24,18 @@ side-holds side rs numbers ends items = rw (length-numbersOf side rs, length-end
 
 -- the counts tell whether there is room
 pub room-counted : (rs : List TagRecord) (tags leftNumbers leftEnds leftItems rightNumbers rightEnds rightItems : List ℕ)
-    → hasRoom (countsOf rs) (length tags) (length leftNumbers) (length leftEnds) (length leftItems) (length rightNumbers) (length rightEnds) (length rightItems)
+    → hasRoom (countsOf rs) (length tags) (length leftNumbers) (length leftEnds) (length leftItems)
+    (length rightNumbers) (length rightEnds) (length rightItems)
     ≡ roomFor (filled rs) (listsOf tags leftNumbers leftEnds leftItems rightNumbers rightEnds rightItems)
 unfolding roomFor
 room-counted rs tags leftNumbers leftEnds leftItems rightNumbers rightEnds rightItems =
-    rw (side-holds Left rs leftNumbers leftEnds leftItems, side-holds Right rs rightNumbers rightEnds rightItems, ← length-tagBytes (tagTable rs))
-    (regroup (holds (tagBytes (tagTable rs)) tags) (holds (numbersOf Left rs) leftNumbers) (holds (endsOf Left rs) leftEnds) (holds (joinedItems Left rs) leftItems)
+    rw (
+      side-holds Left rs leftNumbers leftEnds leftItems,
+      side-holds Right rs rightNumbers rightEnds rightItems,
+      ← length-tagBytes (tagTable rs),
+    )
+    (regroup (holds (tagBytes (tagTable rs)) tags)
+    (holds (numbersOf Left rs) leftNumbers) (holds (endsOf Left rs) leftEnds) (holds (joinedItems Left rs) leftItems)
     (holds (numbersOf Right rs) rightNumbers && (holds (endsOf Right rs) rightEnds && holds (joinedItems Right rs) rightItems)))
   where
     regroup : (a b c d e : Bool) → (a && ((b && (c && d)) && e)) ≡ (a && (b && (c && (d && e))))
@@ -74,7 +80,8 @@ room-parts rs tags leftNumbers leftEnds leftItems rightNumbers rightEnds rightIt
       for-rightItems = leb-true (length (joinedItems Right rs)) (length rightItems) (and-right f g t5);
     }
 
-module _ {file heads tails order : List ℕ} {n : ℕ} {tags leftNumbers leftEnds leftItems rightNumbers rightEnds rightItems : List ℕ}
+module _ {file heads tails order : List ℕ} {n : ℕ}
+    {tags leftNumbers leftEnds leftItems rightNumbers rightEnds rightItems : List ℕ}
     (f : Fillable file heads tails order n tags leftNumbers leftEnds leftItems rightNumbers rightEnds rightItems) where
   parts : Parts (records file) tags leftNumbers leftEnds leftItems rightNumbers rightEnds rightItems
   parts = room-parts (records file) tags leftNumbers leftEnds leftItems rightNumbers rightEnds rightItems (f .room)

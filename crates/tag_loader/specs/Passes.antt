@@ -49,8 +49,10 @@ pub record AllFilled (rs : List TagRecord) (tags leftNumbers leftEnds leftItems 
   pub rightItems-filled : now-rightItems ≡ filledWith (joinedItems Right rs) rightItems
 
 -- the index of a file with n tags, within the limits, and lists that are long enough
-pub record Fillable (file heads tails order : List ℕ) (n : ℕ) (tags leftNumbers leftEnds leftItems rightNumbers rightEnds rightItems : List ℕ) : Type 0 where
+pub record Fillable (file heads tails order : List ℕ) (n : ℕ)
+    (tags leftNumbers leftEnds leftItems rightNumbers rightEnds rightItems : List ℕ) : Type 0 where
   pub index : Indexed file heads tails order
   pub count : n ≡ length (tagTable (records file))
   pub limited : Limited (countsOf (records file))
-  pub room : roomFor (filled (records file)) (listsOf tags leftNumbers leftEnds leftItems rightNumbers rightEnds rightItems) ≡ true
+  pub room : roomFor (filled (records file)) (listsOf tags leftNumbers leftEnds leftItems rightNumbers rightEnds rightItems)
+      ≡ true

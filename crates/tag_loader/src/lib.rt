@@ -1,5 +1,5 @@
-// The loader of tag files: a first pass finds the first record at fault, or the counts and the index of the distinct tags; a second
-// pass fills the seven lent lists. It allocates nothing beyond its own arrays.
+// The loader of tag files: a first pass finds the first record at fault, or the counts and the index of the distinct tags; a
+// second pass fills the seven lent lists. It allocates nothing beyond its own arrays.
 use lists::zero_u8;
 use lists::zero_u16;
 use lists::zero_u32;
@@ -26,7 +26,8 @@ fn side_fits(sets: usize, entries: usize, numbers: usize, ends: usize, items: us
 
 // Fills the lists of a side with zeros.
 fn clear_side(numbers: &mut [u16], ends: &mut [u32], items: &mut [u16])
-    ensures { λ _. ⌜ SideCleared (now (numbers .entry)) (now (ends .entry)) (now (items .entry)) (now (numbers .exit)) (now (ends .exit)) (now (items .exit)) ⌝ }
+    ensures { λ _. ⌜ SideCleared (now (numbers .entry)) (now (ends .entry)) (now (items .entry))
+        (now (numbers .exit)) (now (ends .exit)) (now (items .exit)) ⌝ }
 {
     zero_u16(numbers);
     zero_u32(ends);
@@ -43,7 +44,12 @@ fn clear_lists(
     right_ends: &mut [u32],
     right_items: &mut [u16],
 )
-    ensures { λ _. ⌜ Cleared (now (tags .entry)) (now («left_numbers» .entry)) (now («left_ends» .entry)) (now («left_items» .entry)) (now («right_numbers» .entry)) (now («right_ends» .entry)) (now («right_items» .entry)) (now (tags .exit)) (now («left_numbers» .exit)) (now («left_ends» .exit)) (now («left_items» .exit)) (now («right_numbers» .exit)) (now («right_ends» .exit)) (now («right_items» .exit)) ⌝ }
+    ensures { λ _. ⌜ Cleared (now (tags .entry))
+        (now («left_numbers» .entry)) (now («left_ends» .entry)) (now («left_items» .entry))
+        (now («right_numbers» .entry)) (now («right_ends» .entry)) (now («right_items» .entry))
+        (now (tags .exit))
+        (now («left_numbers» .exit)) (now («left_ends» .exit)) (now («left_items» .exit))
+        (now («right_numbers» .exit)) (now («right_ends» .exit)) (now («right_items» .exit)) ⌝ }
 {
     zero_u8(tags);
     clear_side(left_numbers, left_ends, left_items);
@@ -102,8 +108,15 @@ fn fill_lists(
     right_ends: &mut [u32],
     right_items: &mut [u16],
 )
-    requires { ⌜ Fillable (now file) (now heads) (now tails) (now order) n (now tags) (now «left_numbers») (now «left_ends») (now «left_items») (now «right_numbers») (now «right_ends») (now «right_items») ⌝ }
-    ensures { λ _. ⌜ AllFilled (records (now (file .entry))) (now (tags .entry)) (now («left_numbers» .entry)) (now («left_ends» .entry)) (now («left_items» .entry)) (now («right_numbers» .entry)) (now («right_ends» .entry)) (now («right_items» .entry)) (now (tags .exit)) (now («left_numbers» .exit)) (now («left_ends» .exit)) (now («left_items» .exit)) (now («right_numbers» .exit)) (now («right_ends» .exit)) (now («right_items» .exit)) ⌝ }
+    requires { ⌜ Fillable (now file) (now heads) (now tails) (now order) n (now tags)
+        (now «left_numbers») (now «left_ends») (now «left_items»)
+        (now «right_numbers») (now «right_ends») (now «right_items») ⌝ }
+    ensures { λ _. ⌜ AllFilled (records (now (file .entry))) (now (tags .entry))
+        (now («left_numbers» .entry)) (now («left_ends» .entry)) (now («left_items» .entry))
+        (now («right_numbers» .entry)) (now («right_ends» .entry)) (now («right_items» .entry))
+        (now (tags .exit))
+        (now («left_numbers» .exit)) (now («left_ends» .exit)) (now («left_items» .exit))
+        (now («right_numbers» .exit)) (now («right_ends» .exit)) (now («right_items» .exit)) ⌝ }
 {
     let mut ranks = [0u16; 4352];
     rank_ids(order, n, &mut ranks);
@@ -147,14 +160,23 @@ pub fn load(
     right_ends: &mut [u32],
     right_items: &mut [u16],
 ) -> LoadAnswer
-    ensures answer { λ r. ⌜ r ≡ loadAnswer (now (file .entry)) (listsOf (now (tags .entry)) (now («left_numbers» .entry)) (now («left_ends» .entry)) (now («left_items» .entry)) (now («right_numbers» .entry)) (now («right_ends» .entry)) (now («right_items» .entry))) ⌝ }
-    ensures tags { λ r. ⌜ now (tags .exit) ≡ lentAfter r (filled (records (now (file .entry))) .tags) (now (tags .entry)) ⌝ }
-    ensures left_numbers { λ r. ⌜ now («left_numbers» .exit) ≡ lentAfter r (filled (records (now (file .entry))) .leftNumbers) (now («left_numbers» .entry)) ⌝ }
-    ensures left_ends { λ r. ⌜ now («left_ends» .exit) ≡ lentAfter r (filled (records (now (file .entry))) .leftEnds) (now («left_ends» .entry)) ⌝ }
-    ensures left_items { λ r. ⌜ now («left_items» .exit) ≡ lentAfter r (filled (records (now (file .entry))) .leftItems) (now («left_items» .entry)) ⌝ }
-    ensures right_numbers { λ r. ⌜ now («right_numbers» .exit) ≡ lentAfter r (filled (records (now (file .entry))) .rightNumbers) (now («right_numbers» .entry)) ⌝ }
-    ensures right_ends { λ r. ⌜ now («right_ends» .exit) ≡ lentAfter r (filled (records (now (file .entry))) .rightEnds) (now («right_ends» .entry)) ⌝ }
-    ensures right_items { λ r. ⌜ now («right_items» .exit) ≡ lentAfter r (filled (records (now (file .entry))) .rightItems) (now («right_items» .entry)) ⌝ }
+    ensures answer { λ r. ⌜ r ≡ loadAnswer (now (file .entry)) (listsOf (now (tags .entry))
+        (now («left_numbers» .entry)) (now («left_ends» .entry)) (now («left_items» .entry))
+        (now («right_numbers» .entry)) (now («right_ends» .entry)) (now («right_items» .entry))) ⌝ }
+    ensures tags { λ r. ⌜ now (tags .exit)
+        ≡ lentAfter r (filled (records (now (file .entry))) .tags) (now (tags .entry)) ⌝ }
+    ensures left_numbers { λ r. ⌜ now («left_numbers» .exit)
+        ≡ lentAfter r (filled (records (now (file .entry))) .leftNumbers) (now («left_numbers» .entry)) ⌝ }
+    ensures left_ends { λ r. ⌜ now («left_ends» .exit)
+        ≡ lentAfter r (filled (records (now (file .entry))) .leftEnds) (now («left_ends» .entry)) ⌝ }
+    ensures left_items { λ r. ⌜ now («left_items» .exit)
+        ≡ lentAfter r (filled (records (now (file .entry))) .leftItems) (now («left_items» .entry)) ⌝ }
+    ensures right_numbers { λ r. ⌜ now («right_numbers» .exit)
+        ≡ lentAfter r (filled (records (now (file .entry))) .rightNumbers) (now («right_numbers» .entry)) ⌝ }
+    ensures right_ends { λ r. ⌜ now («right_ends» .exit)
+        ≡ lentAfter r (filled (records (now (file .entry))) .rightEnds) (now («right_ends» .entry)) ⌝ }
+    ensures right_items { λ r. ⌜ now («right_items» .exit)
+        ≡ lentAfter r (filled (records (now (file .entry))) .rightItems) (now («right_items» .entry)) ⌝ }
 {
     let mut heads = [0usize; 4352];
     let mut tails = [0u32; 4352];

@@ -12,19 +12,26 @@ use Rattle.tag_loader.proofs.fill_lists.Tie as tie
 
 rank-ids-requires : tie.Need-rank-ids-requires
 rank-ids-requires c κs =
-    (sorted-here (c .before .before .before .before .before .before .before .before .before .pre) .listed, length-replicate {A = ℕ} 4352 0)
+    let start = c .before .before .before .before .before .before .before .before .before in
+    (sorted-here (start .pre) .listed, length-replicate {A = ℕ} 4352 0)
 
 fill-tags-requires : tie.Need-fill-tags-requires
 fill-tags-requires c κs =
-    (sorted-here (c .before .before .before .before .before .before .before .before .before .before .before .pre), tags-room (c .before .before .before .before .before .before .before .before .before .before .before .pre))
+    let start = c .before .before .before .before .before .before .before .before .before .before .before in
+    (sorted-here (start .pre), tags-room (start .pre))
 
 fill-side-requires : tie.Need-fill-side-requires
 fill-side-requires c κs =
-    left-ready (c .before .before .before .before .before .before .before .before .before .before .before .before .before .before .before .before .before .before .pre) (c .before .before .before .before .before .before .before .before .rank-ids .ensures)
+    let at-ranks = c .before .before .before .before .before .before .before .before in
+    let start = at-ranks .before .before .before .before .before .before .before .before .before .before in
+    left-ready (start .pre) (at-ranks .rank-ids .ensures)
 
 fill-side-requires-2 : tie.Need-fill-side-requires-2
 fill-side-requires-2 c κs =
-    right-ready (c .before .before .before .before .before .before .before .before .before .before .before .before .before .before .before .before .before .before .before .before .before .before .before .before .before .before .before .before .before .pre) (c .before .before .before .before .before .before .before .before .before .before .before .before .before .before .before .before .before .before .before .rank-ids .ensures)
+    let at-left = c .before .before .before .before .before .before .before .before .before .before in
+    let at-ranks = at-left .before .before .before .before .before .before .before .before .before in
+    let start = at-ranks .before .before .before .before .before .before .before .before .before .before in
+    right-ready (start .pre) (at-ranks .rank-ids .ensures)
 
 same-length : tie.Need-same-length
 same-length c = search needs
@@ -49,11 +56,15 @@ same-length-7 c = search needs
 
 returns : tie.Need-returns
 returns c =
-    let s = c .before .before .before .before .before .before .before .before .before .before .before .before .before .before .before .before .before .before .before .before .before .before .before .before .before .before .before .before .before .before .before .before .before .before .before .before in
-    let l = c .before .before .before .before .before .before .before .before .before .before .before .before .before .before .before .before .before .fill-side .ensures in
-    let r = c .before .before .before .before .before .before .fill-side2 .ensures in
+    let at-right = c .before .before .before .before .before .before in
+    let at-left = at-right .before .before .before .before .before .before .before .before .before .before .before in
+    let at-tags = at-left .before .before .before .before .before .before .before in
+    let start = at-tags .before .before .before .before .before .before .before .before .before .before .before .before in
+    let l = at-left .fill-side .ensures in
+    let r = at-right .fill-side2 .ensures in
     record {
-      tags-filled = c .before .before .before .before .before .before .before .before .before .before .before .before .before .before .before .before .before .before .before .before .before .before .before .before .fill-tags .ensures ∙ ap (λ (t : List ℕ). filledWith (tagBytes t) (s .args .tags .now)) (table-here (s .pre));
+      tags-filled = at-tags .fill-tags .ensures
+          ∙ ap (λ (t : List ℕ). filledWith (tagBytes t) (start .args .tags .now)) (table-here (start .pre));
       leftNumbers-filled = l .0;
       leftEnds-filled = l .1 .0;
       leftItems-filled = l .1 .1;

@@ -20,15 +20,24 @@ side-fits-requires c κs = search needs
 returns-2 : tie.Need-returns-2
 returns-2 c =
     let a = c .before .before .before .before .args in
-    rw (le-leb (12 * a .total .tags) (a .tags) (c .before .before .if1 .left), sym (c .before .side-fits .ensures) ∙ not-true (c .before .side-fits .result) (c .if2 .taken))
+    let fits = c .before .side-fits in
+    rw (
+      le-leb (12 * a .total .tags) (a .tags) (c .before .before .if1 .left),
+      sym (fits .ensures) ∙ not-true (fits .result) (c .if2 .taken),
+    )
 
 side-fits-requires-2 : tie.Need-side-fits-requires-2
 side-fits-requires-2 c κs = search needs
 
 returns-3 : tie.Need-returns-3
 returns-3 c =
-    let a = c .before .before .before .before .before .args in
-    rw (le-leb (12 * a .total .tags) (a .tags) (c .before .before .before .if1 .left), sym (c .before .before .side-fits .ensures) ∙ not-false (c .before .before .side-fits .result) (c .before .if2 .left)) (c .side-fits2 .ensures)
+    let at-if1 = c .before .before .before in
+    let a = at-if1 .before .before .args in
+    let fits = c .before .before .side-fits in
+    rw (
+      le-leb (12 * a .total .tags) (a .tags) (at-if1 .if1 .left),
+      sym (fits .ensures) ∙ not-false (fits .result) (c .before .if2 .left),
+    ) (c .side-fits2 .ensures)
 
 pub has-room-spec : {M : Type 1} → statement M
 has-room-spec =

@@ -1,9 +1,8 @@
 -- `tag_loader::load` meets its contract: by the three ends of `Answers`.
 use mathlib.Core.Path.{sym, _∙_}
 use borrow.Author.Tests.{not-true, not-false}
-use Rattle.tag_file.specs.Records.{records}
-use Rattle.tag_file.specs.Loading.{filled, listsOf}
-use Rattle.tag_loader.proofs.Answers.{answer-refused, zeros-refused, answer-sound, sound-limited, answer-short, answer-loaded, answer-fillable}
+use Rattle.tag_loader.proofs.Answers.{answer-refused, zeros-refused, answer-sound, sound-limited}
+use Rattle.tag_loader.proofs.Answers.{answer-short, answer-loaded, answer-fillable}
 use borrow.Author.Needs.{needs}
 use Rattle.tag_loader.proofs.load.Statement.{statement}
 use Rattle.tag_loader.proofs.load.Tie as tie
@@ -43,33 +42,25 @@ same-length-7 c = search needs
 
 returns : tie.Need-returns
 returns c =
-    let a = c .before .before .before .before .before .before .before .before .before .before .before .before .before .before .before .before .before .before .before .before .before .before .before .before .before .before .before .before .before .before .before .before .before .before .before .before .before .args in
-    let tags = a .tags .now in
-    let ln = a .left-numbers .now in
-    let le = a .left-ends .now in
-    let li = a .left-items .now in
-    let rn = a .right-numbers .now in
-    let re = a .right-ends .now in
-    let ri = a .right-items .now in
-    let f = filled (records (a .file .now)) in
-    let told = c .before .before .before .before .before .before .before .before .before .before .before .before .before .before .before .before .before .before .before .before .before .before .enum-told .given in
+    let at-clear =
+    c .before .before .before .before .before .before .before .before .before .before .before .before .before .before in
+    let at-told = at-clear .before .before .before .before .before .before .before .before in
+    let at-scan = at-told .before .before in
+    let told = at-told .enum-told .given in
     let e = told .1 in
-    let z = c .before .before .before .before .before .before .before .before .before .before .before .before .before .before .clear-lists .ensures in (
-      answer-refused (told .0 .0) (c .before .before .before .before .before .before .before .before .before .before .before .before .before .before .before .before .before .before .before .before .before .before .before .before .scan .ensures) e (listsOf tags ln le li rn re ri),
+    let z = at-clear .clear-lists .ensures in (
+      answer-refused (told .0 .0) (at-scan .scan .ensures) e _,
       (
-        zeros-refused e (f .tags) tags _ (z .tags-zero),
+        zeros-refused e _ _ _ (z .tags-zero),
         (
-          zeros-refused e (f .leftNumbers) ln _ (z .left .numbers-zero),
+          zeros-refused e _ _ _ (z .left .numbers-zero),
           (
-            zeros-refused e (f .leftEnds) le _ (z .left .ends-zero),
+            zeros-refused e _ _ _ (z .left .ends-zero),
             (
-              zeros-refused e (f .leftItems) li _ (z .left .items-zero),
+              zeros-refused e _ _ _ (z .left .items-zero),
               (
-                zeros-refused e (f .rightNumbers) rn _ (z .right .numbers-zero),
-                (
-                  zeros-refused e (f .rightEnds) re _ (z .right .ends-zero),
-                  zeros-refused e (f .rightItems) ri _ (z .right .items-zero),
-                ),
+                zeros-refused e _ _ _ (z .right .numbers-zero),
+                (zeros-refused e _ _ _ (z .right .ends-zero), zeros-refused e _ _ _ (z .right .items-zero)),
               ),
             ),
           ),
@@ -79,7 +70,8 @@ returns c =
 
 has-room-requires : tie.Need-has-room-requires
 has-room-requires c κs =
-    sound-limited (c .before .before .before .scan .ensures) (answer-sound (c .before .before .before .scan .ensures) (c .before .answer .given .1))
+    let at-scan = c .before .before .before in
+    sound-limited (at-scan .scan .ensures) (answer-sound (at-scan .scan .ensures) (c .before .answer .given .1))
 
 clear-lists-requires-2 : tie.Need-clear-lists-requires-2
 clear-lists-requires-2 c κs = search needs
@@ -107,32 +99,30 @@ same-length-14 c = search needs
 
 returns-2 : tie.Need-returns-2
 returns-2 c =
-    let a = c .before .before .before .before .before .before .before .before .before .before .before .before .before .before .before .before .before .before .before .before .before .before .before .before .before .before .before .before .before .before .before .before .before .before .before .before .before .before .before .before .args in
-    let tags = a .tags .now in
-    let ln = a .left-numbers .now in
-    let le = a .left-ends .now in
-    let li = a .left-items .now in
-    let rn = a .right-numbers .now in
-    let re = a .right-ends .now in
-    let ri = a .right-items .now in
-    let sound = answer-sound (c .before .before .before .before .before .before .before .before .before .before .before .before .before .before .before .before .before .before .before .before .before .before .before .before .before .before .before .scan .ensures) (c .before .before .before .before .before .before .before .before .before .before .before .before .before .before .before .before .before .before .before .before .before .before .before .before .before .answer .given .1) in
-    let z = c .before .before .before .before .before .before .before .before .before .before .before .before .before .before .clear-lists2 .ensures in (
-      answer-short sound tags ln le li rn re ri (sym (c .before .before .before .before .before .before .before .before .before .before .before .before .before .before .before .before .before .before .before .before .before .before .before .has-room .ensures) ∙ not-true (c .before .before .before .before .before .before .before .before .before .before .before .before .before .before .before .before .before .before .before .before .before .before .before .has-room .result) (c .before .before .before .before .before .before .before .before .before .before .before .before .before .before .before .before .before .before .before .before .before .before .if1 .taken)),
-      (z .tags-zero, (z .left .numbers-zero, (z .left .ends-zero, (z .left .items-zero, (z .right .numbers-zero, (z .right .ends-zero, z .right .items-zero)))))),
+    let at-clear =
+    c .before .before .before .before .before .before .before .before .before .before .before .before .before .before in
+    let at-if1 = at-clear .before .before .before .before .before .before .before .before in
+    let at-room = at-if1 .before in
+    let at-answer = at-room .before .before in
+    let at-scan = at-answer .before .before in
+    let sound = answer-sound (at-scan .scan .ensures) (at-answer .answer .given .1) in
+    let z = at-clear .clear-lists2 .ensures in
+    let l = z .left in
+    let r = z .right in (
+      answer-short sound _ _ _ _ _ _ _
+          (sym (at-room .has-room .ensures) ∙ not-true (at-room .has-room .result) (at-if1 .if1 .taken)),
+      (z .tags-zero, (l .numbers-zero, (l .ends-zero, (l .items-zero, (r .numbers-zero, (r .ends-zero, r .items-zero)))))),
     )
 
 fill-lists-requires : tie.Need-fill-lists-requires
 fill-lists-requires c κs =
-    let a = c .before .before .before .before .before .before .before .before .before .before .before .before .before .before .before .before .before .before .before .before .before .before .before .before .before .before .before .before .before .args in
-    let tags = a .tags .now in
-    let ln = a .left-numbers .now in
-    let le = a .left-ends .now in
-    let li = a .left-items .now in
-    let rn = a .right-numbers .now in
-    let re = a .right-ends .now in
-    let ri = a .right-items .now in
-    let sound = answer-sound (c .before .before .before .before .before .before .before .before .before .before .before .before .before .before .before .before .scan .ensures) (c .before .before .before .before .before .before .before .before .before .before .before .before .before .before .answer .given .1) in
-    answer-fillable sound tags ln le li rn re ri (c .before .before .before .before .before .before .before .before .before .before .before .before .before .before .before .before .scan .ensures) (sym (c .before .before .before .before .before .before .before .before .before .before .before .before .has-room .ensures) ∙ not-false (c .before .before .before .before .before .before .before .before .before .before .before .before .has-room .result) (c .before .before .before .before .before .before .before .before .before .before .before .if1 .left))
+    let at-if1 = c .before .before .before .before .before .before .before .before .before .before .before in
+    let at-room = at-if1 .before in
+    let at-answer = at-room .before .before in
+    let at-scan = at-answer .before .before in
+    let sound = answer-sound (at-scan .scan .ensures) (at-answer .answer .given .1) in
+    answer-fillable sound _ _ _ _ _ _ _ (at-scan .scan .ensures)
+    (sym (at-room .has-room .ensures) ∙ not-false (at-room .has-room .result) (at-if1 .if1 .left))
 
 same-length-15 : tie.Need-same-length-15
 same-length-15 c = search needs
@@ -157,18 +147,23 @@ same-length-21 c = search needs
 
 returns-3 : tie.Need-returns-3
 returns-3 c =
-    let a = c .before .before .before .before .before .before .before .before .before .before .before .before .before .before .before .before .before .before .before .before .before .before .before .before .before .before .before .before .before .before .before .before .before .before .before .before .before .before .before .before .before .before .before .before .args in
-    let tags = a .tags .now in
-    let ln = a .left-numbers .now in
-    let le = a .left-ends .now in
-    let li = a .left-items .now in
-    let rn = a .right-numbers .now in
-    let re = a .right-ends .now in
-    let ri = a .right-items .now in
-    let sound = answer-sound (c .before .before .before .before .before .before .before .before .before .before .before .before .before .before .before .before .before .before .before .before .before .before .before .before .before .before .before .before .before .before .before .scan .ensures) (c .before .before .before .before .before .before .before .before .before .before .before .before .before .before .before .before .before .before .before .before .before .before .before .before .before .before .before .before .before .answer .given .1) in
-    let z = c .before .before .before .before .before .before .before .before .before .before .before .before .before .before .fill-lists .ensures in (
-      answer-loaded sound tags ln le li rn re ri (sym (c .before .before .before .before .before .before .before .before .before .before .before .before .before .before .before .before .before .before .before .before .before .before .before .before .before .before .before .has-room .ensures) ∙ not-false (c .before .before .before .before .before .before .before .before .before .before .before .before .before .before .before .before .before .before .before .before .before .before .before .before .before .before .before .has-room .result) (c .before .before .before .before .before .before .before .before .before .before .before .before .before .before .before .before .before .before .before .before .before .before .before .before .before .before .if1 .left)),
-      (z .tags-filled, (z .leftNumbers-filled, (z .leftEnds-filled, (z .leftItems-filled, (z .rightNumbers-filled, (z .rightEnds-filled, z .rightItems-filled)))))),
+    let at-fill =
+    c .before .before .before .before .before .before .before .before .before .before .before .before .before .before in
+    let at-if1 = at-fill .before .before .before .before .before .before .before .before .before .before .before .before in
+    let at-room = at-if1 .before in
+    let at-answer = at-room .before .before in
+    let at-scan = at-answer .before .before in
+    let sound = answer-sound (at-scan .scan .ensures) (at-answer .answer .given .1) in
+    let z = at-fill .fill-lists .ensures in (
+      answer-loaded sound _ _ _ _ _ _ _
+          (sym (at-room .has-room .ensures) ∙ not-false (at-room .has-room .result) (at-if1 .if1 .left)),
+      (
+        z .tags-filled,
+        (
+          z .leftNumbers-filled,
+          (z .leftEnds-filled, (z .leftItems-filled, (z .rightNumbers-filled, (z .rightEnds-filled, z .rightItems-filled)))),
+        ),
+      ),
     )
 
 pub load-spec : {M : Type 1} → statement M

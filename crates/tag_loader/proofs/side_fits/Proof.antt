@@ -5,15 +5,18 @@ use Rattle.tag_loader.proofs.side_fits.Tie as tie
 
 returns : tie.Need-returns
 returns c =
-    rw (le-leb (c .before .before .args .sets) (c .before .before .args .numbers) (c .before .if1 .taken), le-leb (c .before .before .args .sets) (c .before .before .args .ends) (c .if2 .taken))
+    let a = c .before .before .args in
+    rw (le-leb (a .sets) (a .numbers) (c .before .if1 .taken), le-leb (a .sets) (a .ends) (c .if2 .taken))
 
 returns-2 : tie.Need-returns-2
 returns-2 c =
-    rw (le-leb (c .before .before .args .sets) (c .before .before .args .numbers) (c .before .if1 .taken), lt-leb (c .before .before .args .sets) (c .before .before .args .ends) (c .if2 .left))
+    let a = c .before .before .args in
+    rw (le-leb (a .sets) (a .numbers) (c .before .if1 .taken), lt-leb (a .sets) (a .ends) (c .if2 .left))
 
 returns-3 : tie.Need-returns-3
 returns-3 c =
-    rw (lt-leb (c .before .args .sets) (c .before .args .numbers) (c .if1 .left))
+    let a = c .before .args in
+    rw (lt-leb (a .sets) (a .numbers) (c .if1 .left))
 
 pub side-fits-spec : {M : Type 1} → statement M
 side-fits-spec = tie.close (tie.spec returns returns-2 returns-3)
