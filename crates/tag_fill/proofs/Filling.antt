@@ -3,7 +3,7 @@
 use mathlib.Core.Path.{_≡_, refl, ap, subst, _∙_}
 use mathlib.Core.List.{List, [], _∷_, _++_}
 use mathlib.Core.Bool.{Bool, true, false, _||_}
-use Prim.Native.Nat.{ℕ, zero, suc, _+_, _*_, _<_, _≤_}
+use Prim.Native.Nat.{ℕ, zero, suc, _+_, _-_, _*_, _<_, _≤_}
 use native.Mathlib.Nat.{not-suc-le-zero, le-of-suc-le-suc}
 use native.Mathlib.Omega.{arith}
 use borrow.Author.Tests.{eq-eqb}
@@ -85,7 +85,8 @@ module _ {file : List ℕ} {side : Side} {numbers₀ ends₀ items₀ marks numb
         let end = ap (λ (l : List TagRecord). join (setsOfSide side (tagTable (records file)) l)) stop in
         written-whole (writing-end (f .for-items) end) (omega (arith, f .for-items .room))
 
-  module _ (kind : Side) (n c p next : ℕ) (e : readAt file at ≡ Record kind n c p next) where
+  -- the record here, of this side or the other
+  module _ {kind : Side} {n c p next : ℕ} (e : readAt file at ≡ Record kind n c p next) where
     abbrev this : TagRecord
     this = record { side = kind; number = n; tags = tagsAt c file p }
 
@@ -122,6 +123,11 @@ module _ {file : List ℕ} {side : Side} {numbers₀ ends₀ items₀ marks numb
     tags-next : (y : ℕ) → memb y (allTags (recordsAt file at)) ≡ (memb y (tagsAt c file p) || memb y later)
     unfolding allTags
     tags-next y = ap (λ (rs : List TagRecord). memb y (allTags rs)) rest ∙ memb-append y (tagsAt c file p) later
+
+    pub filling-less : length file - next < length file - at
+    filling-less =
+        let w = read-whole file at kind n c p next e in
+        omega (arith, w .place, w .past, w .within)
 
     pub filling-known : {heads tails : List ℕ} {m : ℕ} {order ranks : List ℕ} → Sorted heads tails m order → Ranked m order ranks
         → tableOf heads tails m order ≡ table → m ≤ 4096 → Known file heads tails m order ranks p c

@@ -3,11 +3,11 @@ use mathlib.Core.Path.{_≡_, refl, sym, ap, subst, _∙_}
 use mathlib.Core.List.{List, [], _∷_, _++_, append-nil, append-assoc}
 use mathlib.Core.Bool.{true, false}
 use mathlib.Core.Option.{Option, none, some}
-use Prim.Native.Nat.{ℕ, _+_, _<_, _≤_}
+use Prim.Native.Nat.{ℕ, _+_, _-_, _<_, _≤_}
 use native.Mathlib.Omega.{arith}
 use lib.ListN.{length, getD}
 use Rattle.lists.specs.Lists.{keep, sum, rising}
-use Rattle.bit_sets.specs.BitSets.{Inserted}
+use Rattle.bit_sets.specs.BitSets.{member, Inserted}
 use Rattle.sets.specs.declared.Side.{Side}
 use Rattle.sets.specs.declared.Refusal.{Refusal}
 use Rattle.sets.specs.declared.Refusal.the-variants.{NumberUsed, TooMany}
@@ -19,11 +19,12 @@ use Rattle.tag_file.specs.Loading.{numberUsed, tooMany, faultOf, earlier, first
 use Rattle.tag_file.specs.declared.ReadAnswer.{ReadAnswer}
 use Rattle.tag_file.specs.declared.ReadAnswer.the-variants.{Record, Refused}
 use Rattle.tag_file.proofs.FaultLaws.{fault-used, fault-past, fault-none}
+use Rattle.tag_file.proofs.Tables.{length-insertAll-bound}
 use Rattle.tag_file.proofs.RecordLaws.{length-tagsAt, read-whole, records-next, totalLength-last}
 use Rattle.tag_index.specs.Index.{tableOf, Sorted, Ready, AllAdded}
 use Rattle.tag_index.proofs.Ids.{sorted-size}
 use Rattle.tag_scan.specs.Scan.{keyOf, grownBy, isOver, Limited, Lengths, Scanned}
-use Rattle.tag_scan.proofs.Numbers.{Noted, noted-step}
+use Rattle.tag_scan.proofs.Numbers.{Noted, noted-step, noted-tells}
 use Rattle.tag_scan.proofs.Counting.{tagTable-last, grown-counts, grown-tags, over-tooMany, limited-grown}
 
 -- what the reading of a file ends with
@@ -117,7 +118,8 @@ module _ {file used heads tails order places : List ℕ} {total : Loaded} {at : 
           s .fault ∙ ap (λ (l : List TagRecord). firstFault (s .seen) l (lastRefusal file)) stop
           ∙ ap refusalOf (ap (readAt file) (ap totalLength all ∙ sym (s .place)) ∙ e)
 
-  module _ (side : Side) (n c p next : ℕ) (e : readAt file at ≡ Record side n c p next) where
+  -- the record here: its number was used, it passes a limit, or it is taken in
+  module _ {side : Side} {n c p next : ℕ} (e : readAt file at ≡ Record side n c p next) where
     abbrev pub this : TagRecord
     this = record { side = side; number = n; tags = tagsAt c file p }
 
@@ -127,6 +129,23 @@ module _ {file used heads tails order places : List ℕ} {total : Loaded} {at : 
     here =
         s .fault
         ∙ ap (λ (l : List TagRecord). firstFault (s .seen) l (lastRefusal file)) (records-next file at side n c p next e)
+
+    pub scanning-less : length file - next < length file - at
+    scanning-less =
+        let w = read-whole file at side n c p next e in
+        omega (arith, w .place, w .past, w .within)
+
+    -- its number has two bytes, its count one
+    module _ (byte : (i : ℕ) → getD file i 0 < 256) where
+      pub number-small : n < 65536
+      number-small = omega (arith, read-whole file at side n c p next e .number, byte (at + 2), byte (at + 3))
+
+      pub count-small : c < 256
+      count-small = omega (arith, read-whole file at side n c p next e .count, byte (at + 4))
+
+    -- what the noted numbers tell of it
+    pub scanning-tells : n < 65536 → numberUsed (s .seen) this ≡ member used (keyOf side n)
+    scanning-tells small = sym (noted-tells this small (s .noted))
 
     -- the record's number was used
     pub scanning-used : numberUsed (s .seen) this ≡ true → fileFault file ≡ some (NumberUsed at)
@@ -159,6 +178,10 @@ module _ {file used heads tails order places : List ℕ} {total : Loaded} {at : 
           ap (λ (t : Loaded). grownBy t side tags fresh) (s .counts)
           ∙ grown-counts (s .seen) this tags fresh
           (sym (sorted-size (added .sorted)) ∙ ap length table-next) (added .counted)
+
+      pub fresh-small : c < 256 → fresh ≤ 255
+      fresh-small small =
+          omega (arith, added .counted, length-insertAll-bound [] (tagsAt c file p), length-tagsAt c file p)
 
       -- what the limits say of it
       pub scanning-over : isOver (grownBy total side tags fresh) side ≡ tooMany side (s .seen ++ (this ∷ []))

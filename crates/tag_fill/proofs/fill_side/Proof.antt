@@ -2,15 +2,13 @@
 -- are together what is wanted, and no item is marked (`Filling`). The measure is how many bytes are left.
 use mathlib.Core.Path.{sym, _∙_}
 use Prim.Native.Nat.{_-_}
-use native.Mathlib.Omega.{arith}
 use borrow.Author.Tests.{not-true, not-false}
 use lib.ListN.{length}
 use Rattle.tag_file.specs.Reading.{tagsAt}
-use Rattle.tag_file.proofs.RecordLaws.{read-whole}
 use Rattle.tag_file.proofs.Ended.{no-records}
 use Rattle.tag_index.specs.Index.{tableOf}
 use Rattle.tag_fill.proofs.Filling.{Filling, filling-start, filled-numbers, filled-ends, filled-items}
-use Rattle.tag_fill.proofs.Filling.{filling-known, filling-items, filling-room, filling-own, filling-other}
+use Rattle.tag_fill.proofs.Filling.{filling-less, filling-known, filling-items, filling-room, filling-own, filling-other}
 use Rattle.tag_fill.proofs.Marks.{unmarked-marked}
 use Rattle.tag_fill.proofs.fill_side.Statement.{statement}
 use Rattle.tag_fill.proofs.fill_side.Tie as tie
@@ -56,23 +54,16 @@ loop-less : tie.Need-loop-less Inv-loop μ-loop
 loop-less c =
     let told = c .before .before .before in
     let read = told .before .before in
-    let l = read .before .loop in
-    let start = read .before .before .before .before .before .before in
-    let file = start .args .file .now in
-    let v = told .answer .given .0 in
-    let e = sym (read .read-record .ensures) ∙ told .answer .given .1 in
-    let w = read-whole file (l .at) (v .0) (v .1 .0) (v .1 .1 .0) (v .1 .1 .1 .0) (v .1 .1 .1 .1 .0) e in
-    omega (arith, w .place, w .past, w .within)
+    filling-less (read .before .loop .inv) (sym (read .read-record .ensures) ∙ told .answer .given .1)
 
 loop-again : tie.Need-loop-again Inv-loop μ-loop
 loop-again c =
     let told = c .before .before .before in
     let read = told .before .before in
     let l = read .before .loop in
-    let v = told .answer .given .0 in
     let e = sym (read .read-record .ensures) ∙ told .answer .given .1 in
     let other = sym (c .before .is-side .ensures) ∙ not-true (c .before .is-side .result) (c .if1 .taken) in
-    filling-other (l .inv) (v .0) (v .1 .0) (v .1 .1 .0) (v .1 .1 .1 .0) (v .1 .1 .1 .1 .0) e other
+    filling-other (l .inv) e other
 
 slice-aggregate-mark-tags : tie.Need-slice-aggregate-mark-tags Inv-loop μ-loop
 slice-aggregate-mark-tags c = sym (c .before .before .before .before .before .before .before .loop .inv .unmarked .wide)
@@ -84,12 +75,10 @@ mark-tags-requires c κs =
     let read = told .before .before in
     let l = read .before .loop in
     let start = read .before .before .before .before .before .before in
-    let v = told .answer .given .0 in
     let e = sym (read .read-record .ensures) ∙ told .answer .given .1 in
     let a = start .args in
     let p = start .pre in (
-      filling-known (l .inv) (v .0) (v .1 .0) (v .1 .1 .0) (v .1 .1 .1 .0) (v .1 .1 .1 .1 .0) e
-          (p .sorted) (p .ranked) (p .table) (p .small),
+      filling-known (l .inv) e (p .sorted) (p .ranked) (p .table) (p .small),
       unmarked-marked (tableOf (a .heads .now) (a .tails .now) (a .n) (a .order .now)) (l .inv .unmarked),
     )
 
@@ -104,14 +93,12 @@ put-record-requires c κs =
     let read = told .before .before in
     let l = read .before .loop in
     let start = read .before .before .before .before .before .before in
-    let v = told .answer .given .0 in
     let e = sym (read .read-record .ensures) ∙ told .answer .given .1 in
     let p = start .pre in
     let m = mark .mark-tags .ensures in
-    let same = filling-items (l .inv) (v .0) (v .1 .0) (v .1 .1 .0) (v .1 .1 .1 .0) (v .1 .1 .1 .1 .0) e
-    (p .sorted) (p .table) (p .small) m in
+    let same = filling-items (l .inv) e (p .sorted) (p .table) (p .small) m in
     let mine = sym (own .before .is-side .ensures) ∙ not-false (own .before .is-side .result) (own .if1 .left) in
-    (m .wide, rw same (filling-room (l .inv) (v .0) (v .1 .0) (v .1 .1 .0) (v .1 .1 .1 .0) (v .1 .1 .1 .1 .0) e (p .few) mine))
+    (m .wide, rw same (filling-room (l .inv) e (p .few) mine))
 
 loop-less-2 : tie.Need-loop-less-2 Inv-loop μ-loop
 loop-less-2 c =
@@ -120,13 +107,7 @@ loop-less-2 c =
     let own = mark .before .before in
     let told = own .before .before .before in
     let read = told .before .before in
-    let l = read .before .loop in
-    let start = read .before .before .before .before .before .before in
-    let file = start .args .file .now in
-    let v = told .answer .given .0 in
-    let e = sym (read .read-record .ensures) ∙ told .answer .given .1 in
-    let w = read-whole file (l .at) (v .0) (v .1 .0) (v .1 .1 .0) (v .1 .1 .1 .0) (v .1 .1 .1 .1 .0) e in
-    omega (arith, w .place, w .past, w .within)
+    filling-less (read .before .loop .inv) (sym (read .read-record .ensures) ∙ told .answer .given .1)
 
 loop-again-2 : tie.Need-loop-again-2 Inv-loop μ-loop
 loop-again-2 c =
@@ -137,15 +118,13 @@ loop-again-2 c =
     let read = told .before .before in
     let l = read .before .loop in
     let start = read .before .before .before .before .before .before in
-    let v = told .answer .given .0 in
     let e = sym (read .read-record .ensures) ∙ told .answer .given .1 in
     let p = start .pre in
     let m = mark .mark-tags .ensures in
-    let same = filling-items (l .inv) (v .0) (v .1 .0) (v .1 .1 .0) (v .1 .1 .1 .0) (v .1 .1 .1 .1 .0) e
-    (p .sorted) (p .table) (p .small) m in
+    let same = filling-items (l .inv) e (p .sorted) (p .table) (p .small) m in
     let mine = sym (own .before .is-side .ensures) ∙ not-false (own .before .is-side .result) (own .if1 .left) in
     let o = put .put-record .ensures in
-    filling-own (l .inv) (v .0) (v .1 .0) (v .1 .1 .0) (v .1 .1 .1 .0) (v .1 .1 .1 .1 .0) e mine (rw same at (o .1)) (o .0)
+    filling-own (l .inv) e mine (rw same at (o .1)) (o .0)
 
 pub fill-side-spec : {M : Type 1} → statement M
 fill-side-spec =

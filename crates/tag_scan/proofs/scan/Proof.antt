@@ -1,24 +1,19 @@
 -- `tag_scan::scan` meets its contract. The invariant: what the counts, the index and the noted numbers say of the records seen,
 -- and that the first fault of the others is the file's (`Scanning`). The measure is how many bytes are left.
-use mathlib.Core.Path.{_≡_, refl, sym, ap, subst, _∙_}
-use mathlib.Core.List.{[]}
-use Prim.Native.Nat.{ℕ, _+_, _-_, _<_}
-use native.Mathlib.Omega.{arith}
+use mathlib.Core.Path.{refl, sym, ap, subst, _∙_}
+use Prim.Native.Nat.{ℕ, _-_}
 use lib.ListN.{length, length-replicate}
 use Rattle.lists.specs.Lists.{keep, sum}
 use Rattle.sets.specs.declared.Refusal.the-variants.{NumberUsed, TooMany}
 use Rattle.sets.specs.declared.Loaded.{Loaded}
 use Rattle.sets.specs.declared.LoadAnswer.{LoadAnswer}
-use Rattle.tag_file.specs.Reading.{tagsAt}
-use Rattle.tag_file.specs.Records.{TagRecord, insertAll, allTags}
-use Rattle.tag_file.specs.Loading.{numberUsed}
-use Rattle.tag_file.proofs.RecordLaws.{read-whole, length-tagsAt}
-use Rattle.tag_file.proofs.Tables.{length-insertAll-bound}
+use Rattle.tag_file.specs.Records.{insertAll, allTags}
 use Rattle.tag_file.proofs.Ended.{no-records}
 use Rattle.tag_scan.specs.Scan.{Scanned, isOver}
-use Rattle.tag_scan.proofs.Numbers.{noted-start, noted-tells}
+use Rattle.tag_scan.proofs.Numbers.{noted-start}
 use Rattle.tag_scan.proofs.Scanning.{Scanning, scanning-start, refused, scanning-stop, scanning-used}
 use Rattle.tag_scan.proofs.Scanning.{scanning-past, scanning-ready, scanning-over, scanning-next}
+use Rattle.tag_scan.proofs.Scanning.{scanning-less, number-small, count-small, scanning-tells, fresh-small}
 use Rattle.tag_scan.proofs.scan.Statement.{statement}
 use Rattle.tag_scan.proofs.scan.Tie as tie
 
@@ -74,24 +69,12 @@ returns-2 c =
     let at-read = at-answer .before .before in
     let at-loop = at-read .before in
     let at-bytes = at-loop .before in
-    let start = at-bytes .before in
-    let file = start .args .file .now in
     let s = at-loop .loop .inv in
-    let at = at-loop .loop .at in
-    let v = at-answer .answer .given .0 in
-    let side = v .0 in
-    let n = v .1 .0 in
-    let count = v .1 .1 .0 in
-    let p = v .1 .1 .1 .0 in
-    let next = v .1 .1 .1 .1 .0 in
     let e = sym (at-read .read-record .ensures) ∙ at-answer .answer .given .1 in
-    let w = read-whole file at side n count p next e in
     let byte = at-bytes .shared-slice-known .given in
-    let r : TagRecord = record { side = side; number = n; tags = tagsAt count file p } in
-    let small : n < 65536 = omega (arith, w .number, byte (at + 2), byte (at + 3)) in
-    let tells : numberUsed (s .seen) r ≡ c .before .before .claim .result =
-    sym (noted-tells r small (s .noted)) ∙ sym (c .before .before .claim .ensures .before) in
-    refused (NumberUsed at) (scanning-used s side n count p next e (tells ∙ c .if1 .taken))
+    let small = number-small s e (λ i. byte i .fits) in
+    let tells = scanning-tells s e small ∙ sym (c .before .before .claim .ensures .before) in
+    refused (NumberUsed (at-loop .loop .at)) (scanning-used s e (tells ∙ c .if1 .taken))
 
 add-tags-requires : tie.Need-add-tags-requires Inv-loop μ-loop
 add-tags-requires c κs =
@@ -99,20 +82,10 @@ add-tags-requires c κs =
     let at-read = at-answer .before .before in
     let at-loop = at-read .before in
     let at-bytes = at-loop .before in
-    let start = at-bytes .before in
-    let file = start .args .file .now in
     let s = at-loop .loop .inv in
-    let at = at-loop .loop .at in
-    let v = at-answer .answer .given .0 in
-    let side = v .0 in
-    let n = v .1 .0 in
-    let count = v .1 .1 .0 in
-    let p = v .1 .1 .1 .0 in
-    let next = v .1 .1 .1 .1 .0 in
     let e = sym (at-read .read-record .ensures) ∙ at-answer .answer .given .1 in
-    let w = read-whole file at side n count p next e in
     let byte = at-bytes .shared-slice-known .given in
-    scanning-ready s side n count p next e (omega (arith, w .count, byte (at + 4)))
+    scanning-ready s e (count-small s e (λ i. byte i .fits))
 
 grown-requires : tie.Need-grown-requires Inv-loop μ-loop
 grown-requires c κs =
@@ -120,29 +93,10 @@ grown-requires c κs =
     let at-read = at-answer .before .before in
     let at-loop = at-read .before in
     let at-bytes = at-loop .before in
-    let start = at-bytes .before in
-    let file = start .args .file .now in
     let s = at-loop .loop .inv in
-    let at = at-loop .loop .at in
-    let v = at-answer .answer .given .0 in
-    let side = v .0 in
-    let n = v .1 .0 in
-    let count = v .1 .1 .0 in
-    let p = v .1 .1 .1 .0 in
-    let next = v .1 .1 .1 .1 .0 in
     let e = sym (at-read .read-record .ensures) ∙ at-answer .answer .given .1 in
-    let w = read-whole file at side n count p next e in
-    let byte = at-bytes .shared-slice-known .given in (
-      s .limited,
-      omega (
-        arith,
-        c .add-tags .ensures .counted,
-        length-insertAll-bound [] (tagsAt count file p),
-        length-tagsAt count file p,
-        w .count,
-        byte (at + 4),
-      ),
-    )
+    let byte = at-bytes .shared-slice-known .given in
+    (s .limited, fresh-small s e (c .add-tags .ensures) (count-small s e (λ i. byte i .fits)))
 
 is-over-requires : tie.Need-is-over-requires Inv-loop μ-loop
 is-over-requires c κs =
@@ -157,27 +111,16 @@ returns-3 c =
     let at-read = at-answer .before .before in
     let at-loop = at-read .before in
     let at-bytes = at-loop .before in
-    let start = at-bytes .before in
-    let file = start .args .file .now in
     let s = at-loop .loop .inv in
-    let at = at-loop .loop .at in
-    let v = at-answer .answer .given .0 in
-    let side = v .0 in
-    let n = v .1 .0 in
-    let count = v .1 .1 .0 in
-    let p = v .1 .1 .1 .0 in
-    let next = v .1 .1 .1 .1 .0 in
     let e = sym (at-read .read-record .ensures) ∙ at-answer .answer .given .1 in
-    let w = read-whole file at side n count p next e in
     let byte = at-bytes .shared-slice-known .given in
-    let r : TagRecord = record { side = side; number = n; tags = tagsAt count file p } in
-    let small : n < 65536 = omega (arith, w .number, byte (at + 2), byte (at + 3)) in
-    let tells : numberUsed (s .seen) r ≡ at-claim .claim .result =
-    sym (noted-tells r small (s .noted)) ∙ sym (at-claim .claim .ensures .before) in
+    let small = number-small s e (λ i. byte i .fits) in
+    let tells = scanning-tells s e small ∙ sym (at-claim .claim .ensures .before) in
     let grew = c .before .before .grown .ensures in
+    let side = at-answer .answer .given .0 .0 in
     let limit = c .before .is-over .ensures ∙ ap (λ (t : Loaded). isOver t side) grew
-    ∙ scanning-over s side n count p next e (at-tags .add-tags .ensures) in
-    refused (TooMany at) (scanning-past s side n count p next e (tells ∙ at-if1 .if1 .left) (sym limit ∙ c .if2 .taken))
+    ∙ scanning-over s e (at-tags .add-tags .ensures) in
+    refused (TooMany (at-loop .loop .at)) (scanning-past s e (tells ∙ at-if1 .if1 .left) (sym limit ∙ c .if2 .taken))
 
 loop-less : tie.Need-loop-less Inv-loop μ-loop
 loop-less c =
@@ -185,18 +128,7 @@ loop-less c =
     let at-answer = at-claim .before .before .before in
     let at-read = at-answer .before .before in
     let at-loop = at-read .before in
-    let start = at-loop .before .before in
-    let file = start .args .file .now in
-    let at = at-loop .loop .at in
-    let v = at-answer .answer .given .0 in
-    let side = v .0 in
-    let n = v .1 .0 in
-    let count = v .1 .1 .0 in
-    let p = v .1 .1 .1 .0 in
-    let next = v .1 .1 .1 .1 .0 in
-    let e = sym (at-read .read-record .ensures) ∙ at-answer .answer .given .1 in
-    let w = read-whole file at side n count p next e in
-    omega (arith, w .place, w .past, w .within)
+    scanning-less (at-loop .loop .inv) (sym (at-read .read-record .ensures) ∙ at-answer .answer .given .1)
 
 loop-again : tie.Need-loop-again Inv-loop μ-loop
 loop-again c =
@@ -207,26 +139,15 @@ loop-again c =
     let at-read = at-answer .before .before in
     let at-loop = at-read .before in
     let at-bytes = at-loop .before in
-    let start = at-bytes .before in
-    let file = start .args .file .now in
     let s = at-loop .loop .inv in
-    let at = at-loop .loop .at in
-    let v = at-answer .answer .given .0 in
-    let side = v .0 in
-    let n = v .1 .0 in
-    let count = v .1 .1 .0 in
-    let p = v .1 .1 .1 .0 in
-    let next = v .1 .1 .1 .1 .0 in
     let e = sym (at-read .read-record .ensures) ∙ at-answer .answer .given .1 in
-    let w = read-whole file at side n count p next e in
     let byte = at-bytes .shared-slice-known .given in
-    let r : TagRecord = record { side = side; number = n; tags = tagsAt count file p } in
-    let small : n < 65536 = omega (arith, w .number, byte (at + 2), byte (at + 3)) in
-    let tells : numberUsed (s .seen) r ≡ at-claim .claim .result =
-    sym (noted-tells r small (s .noted)) ∙ sym (at-claim .claim .ensures .before) in
+    let small = number-small s e (λ i. byte i .fits) in
+    let tells = scanning-tells s e small ∙ sym (at-claim .claim .ensures .before) in
     let grew = c .before .before .grown .ensures in
+    let side = at-answer .answer .given .0 .0 in
     let limit = ap (λ (t : Loaded). isOver t side) (sym grew) ∙ sym (c .before .is-over .ensures) ∙ c .if2 .left in
-    scanning-next s side n count p next e (at-tags .add-tags .ensures) small (tells ∙ at-if1 .if1 .left)
+    scanning-next s e (at-tags .add-tags .ensures) small (tells ∙ at-if1 .if1 .left)
     (at-claim .claim .ensures .noted) grew limit
 
 pub scan-spec : {M : Type 1} → statement M
