@@ -120,8 +120,11 @@ fill-lists-requires c κs =
     let at-room = at-if1 .before in
     let at-answer = at-room .before .before in
     let at-scan = at-answer .before .before in
+    let start = at-scan .before .before .before .before .before .before .before .before .before .before .before .before .before in
+    let a = start .args in
     let sound = answer-sound (at-scan .scan .ensures) (at-answer .answer .given .1) in
-    answer-fillable sound _ _ _ _ _ _ _ (at-scan .scan .ensures)
+    answer-fillable sound (a .tags .now) (a .left-numbers .now) (a .left-ends .now) (a .left-items .now)
+    (a .right-numbers .now) (a .right-ends .now) (a .right-items .now) (at-scan .scan .ensures)
     (sym (at-room .has-room .ensures) ∙ not-false (at-room .has-room .result) (at-if1 .if1 .left))
 
 same-length-15 : tie.Need-same-length-15
