@@ -1,5 +1,5 @@
--- The digits of a word: of half of it, of a power of two, of two words joined; and the places of its digits 1, with the zeros before
--- one of them skipped at once.
+-- The digits of a word: of half of it, of a power of two, of two words joined; and the places of its digits 1, with the zeros
+-- before one of them skipped at once.
 use Prim.Native.Nat.{ℕ, zero, suc, _+_, _-_, _/_, _%_, _^_, _<_, _≤_}
 use mathlib.Core.Path.{_≡_, refl, sym, ap, ap₂, _∙_}
 use mathlib.Core.List.{List, [], _∷_}

@@ -38,7 +38,10 @@ module _ (words : List ℕ) (i : ℕ) (within : i < 64 * length words) where
   inserted =
       record {
         size = length-set words (i / 64) with-digit;
-        holds = λ j. by-test (eqb (j / 64) (i / 64)) (λ t. same-word j (eqb-true (j / 64) (i / 64) t)) (λ f. other-word j (eqb-false (j / 64) (i / 64) f));
+        holds =
+            λ j.
+            by-test (eqb (j / 64) (i / 64)) (λ t. same-word j (eqb-true (j / 64) (i / 64) t))
+            (λ f. other-word j (eqb-false (j / 64) (i / 64) f));
       }
     where
       same-word : (j : ℕ) → j / 64 ≡ i / 64 → member (set words (i / 64) with-digit) j ≡ (eqb j i || member words j)
@@ -65,7 +68,8 @@ module _ (words : List ℕ) where
       let all : length words ≡ length words - 0 = omega arith in
       ap (λ (n : ℕ). keep (member words) (range 0 (64 * n))) all
 
-  pub members-next : (w : ℕ) → w < length words → membersFrom words w ≡ digitsFrom 64 (64 * w) (getD words w 0) ++ membersFrom words (w + 1)
+  pub members-next : (w : ℕ) → w < length words
+      → membersFrom words w ≡ digitsFrom 64 (64 * w) (getD words w 0) ++ membersFrom words (w + 1)
   unfolding membersFrom
   members-next w below =
       let more : 64 * (length words - w) ≡ 64 + 64 * (length words - (w + 1)) = omega arith in
@@ -84,7 +88,9 @@ module _ (words : List ℕ) where
 
   pub members-end : (w : ℕ) → length words ≤ w → membersFrom words w ≡ []
   unfolding membersFrom keep range
-  members-end w past = let none : 64 * (length words - w) ≡ 0 = omega arith in ap (λ (m : ℕ). keep (member words) (range (64 * w) m)) none
+  members-end w past =
+      let none : 64 * (length words - w) ≡ 0 = omega arith in
+      ap (λ (m : ℕ). keep (member words) (range (64 * w) m)) none
 
 -- an empty set
 pub no-member : (n j : ℕ) → member (replicate n 0) j ≡ false
