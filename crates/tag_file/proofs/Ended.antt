@@ -13,7 +13,8 @@ use Rattle.tag_file.specs.declared.ReadAnswer.the-variants.{Record, NoMo
 use Rattle.tag_file.proofs.ReadAnswer.{enum}
 use Rattle.tag_file.proofs.RecordLaws.{records-end, records-refused}
 
-pub no-records : (file : List ℕ) (at : ℕ) (a : ReadAnswer) → readAt file at ≡ a → OneOf (1 ∷ 2 ∷ []) (tagOf (declared enum) a) → recordsAt file at ≡ []
+pub no-records : (file : List ℕ) (at : ℕ) (a : ReadAnswer) → readAt file at ≡ a → OneOf (1 ∷ 2 ∷ []) (tagOf (declared enum) a)
+    → recordsAt file at ≡ []
 no-records file at (Record s n c p next) e h = absurd (⊎-elim (λ z. omega arith) (λ z. omega arith) h)
 no-records file at NoMore e h = records-end file at e
 no-records file at (Refused why) e h = records-refused file at why e

@@ -11,7 +11,8 @@ use Rattle.sets.specs.declared.Refusal.the-variants.{NumberUsed, TooMany}
 use Rattle.tag_file.specs.Records.{TagRecord, totalLength}
 use Rattle.tag_file.specs.Loading.{numberUsed, tooMany, faultOf}
 
-neither : (used many : Bool) (a b : Refusal) → cond used (some a) (cond many (some b) none) ≡ none → (used ≡ false) × (many ≡ false)
+neither : (used many : Bool) (a b : Refusal) → cond used (some a) (cond many (some b) none) ≡ none
+    → (used ≡ false) × (many ≡ false)
 neither true many a b e = let z : _≡_ {A = ℕ} 0 1 = cc in absurd (omega arith)
 neither false true a b e = let z : _≡_ {A = ℕ} 0 1 = cc in absurd (omega arith)
 neither false false a b e = (refl, refl)
@@ -33,4 +34,5 @@ module _ (seen : List TagRecord) (r : TagRecord) where
   pub fault-clear : faultOf seen r ≡ none → (numberUsed seen r ≡ false) × (tooMany (r .side) (seen ++ (r ∷ [])) ≡ false)
   unfolding faultOf
   fault-clear e =
-      neither (numberUsed seen r) (tooMany (r .side) (seen ++ (r ∷ []))) (NumberUsed (totalLength seen)) (TooMany (totalLength seen)) e
+      neither (numberUsed seen r) (tooMany (r .side) (seen ++ (r ∷ [])))
+      (NumberUsed (totalLength seen)) (TooMany (totalLength seen)) e

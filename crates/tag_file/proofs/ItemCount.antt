@@ -2,7 +2,7 @@
 -- collapsed entries; and the other lengths of the filled lists.
 use mathlib.Core.Path.{_≡_, refl, sym, ap, _∙_}
 use mathlib.Core.List.{List, [], _∷_, map}
-use mathlib.Core.Bool.{Bool, true, false, _&&_}
+use mathlib.Core.Bool.{Bool, true, false, _&&_, and-false}
 use Prim.Native.Nat.{ℕ, zero, suc, _+_, _*_, _/_, _%_}
 use native.Mathlib.Omega.{arith}
 use lib.ListN.{length, drop, getD, length-append, length-map, drop-of-length-le}
@@ -21,30 +21,27 @@ use Rattle.tag_file.proofs.Tables.{rising-collapse, memb-collapse}
 -- ---- the numbers of a rising table that are among others are those others, collapsed
 
 module _ (table tags : List ℕ) (r : rising table ≡ true) (held : (y : ℕ) → memb y tags ≡ true → memb y table ≡ true) where
-  kept : keep (λ t. memb t tags) table ≡ collapse tags
-  kept =
+  pub keep-collapse : keep (λ t. memb t tags) table ≡ collapse tags
+  keep-collapse =
       rising-same (keep (λ t. memb t tags) table) (collapse tags) (rising-keep (λ t. memb t tags) table r) (rising-collapse tags)
       (λ z. memb-keep (λ t. memb t tags) table z ∙ both z ∙ sym (memb-collapse z tags))
     where
       both : (z : ℕ) → (memb z table && memb z tags) ≡ memb z tags
-      both z = by-test (memb z tags) (λ t. rw (t, held z t)) (λ f. rw f (never (memb z table)))
-        where
-          never : (b : Bool) → (b && false) ≡ false
-          never true = refl
-          never false = refl
+      both z = by-test (memb z tags) (λ t. rw (t, held z t)) (λ f. rw f (and-false (memb z table)))
 
   by-place : (from n : ℕ) → from + n ≡ length table
       → count (λ i. memb (getD table i 0) tags) (range from n) ≡ count (λ t. memb t tags) (drop from table)
   unfolding count range
   by-place from zero e = rw (drop-of-length-le table {i = from} (omega arith))
   by-place from (suc n) e =
-      rw (drop-cons table from 0 (omega arith)) (ap (λ (k : ℕ). one (memb (getD table from 0) tags) + k) (by-place (suc from) n (omega arith)))
+      rw (drop-cons table from 0 (omega arith))
+      (ap (λ (k : ℕ). one (memb (getD table from 0) tags) + k) (by-place (suc from) n (omega arith)))
 
   pub item-count : length (itemsOf table tags) ≡ length (collapse tags)
   unfolding itemsOf
   item-count =
       length-keep (λ i. memb (getD table i 0) tags) (upto (length table)) ∙ by-place 0 (length table) (omega arith)
-      ∙ sym (length-keep (λ t. memb t tags) table) ∙ ap length kept
+      ∙ sym (length-keep (λ t. memb t tags) table) ∙ ap length keep-collapse
 
 -- ---- the lengths of what is filled
 
@@ -72,7 +69,8 @@ module _ (side : Side) (rs : List TagRecord) where
       length-endsFrom 0 (setsOfSide side (tagTable rs) rs) ∙ length-map (ofSide side rs) (λ r. itemsOf (tagTable rs) (r .tags))
 
 -- over a table that has all tags of the records
-joined-count : (side : Side) (table : List ℕ) (rs : List TagRecord) → rising table ≡ true → ((y : ℕ) → memb y (allTags rs) ≡ true → memb y table ≡ true)
+joined-count : (side : Side) (table : List ℕ) (rs : List TagRecord) → rising table ≡ true
+    → ((y : ℕ) → memb y (allTags rs) ≡ true → memb y table ≡ true)
     → length (join (setsOfSide side table rs)) ≡ entriesOf side rs
 unfolding keep sum join allTags
 joined-count side table [] r held = refl
@@ -85,7 +83,8 @@ joined-count side table (q ∷ rs) r held = by-mine (sameSide side (q .side)) (j
     others y m = held y (memb-append y (q .tags) (allTags rs) ∙ or-right (memb y (q .tags)) (memb y (allTags rs)) m)
 
     by-mine : (b : Bool) → length (join (setsOfSide side table rs)) ≡ entriesOf side rs
-        → length (join (map (λ (p : TagRecord). itemsOf table (p .tags)) (onto b q (ofSide side rs)))) ≡ sum (λ (p : TagRecord). length (collapse (p .tags))) (onto b q (ofSide side rs))
+        → length (join (map (λ (p : TagRecord). itemsOf table (p .tags)) (onto b q (ofSide side rs))))
+        ≡ sum (λ (p : TagRecord). length (collapse (p .tags))) (onto b q (ofSide side rs))
     by-mine true again =
         length-append (itemsOf table (q .tags)) (join (setsOfSide side table rs)) ∙ rw (item-count table (q .tags) r mine, again)
     by-mine false again = again

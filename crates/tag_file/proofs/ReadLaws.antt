@@ -21,10 +21,6 @@ cond-same : {A : Type 0} (b : Bool) (x : A) → cond b x x ≡ x
 cond-same true x = refl
 cond-same false x = refl
 
-and-not : (a b : Bool) → (a && false) ≡ false
-and-not true b = refl
-and-not false b = refl
-
 -- two bytes that are not these two, as one number
 module _ (a b x y : ℕ) (x-byte : x < 256) (y-byte : y < 256) where
   pub bytes-same : x * 256 + y ≡ a * 256 + b → a < 256 → b < 256 → (eqb a x && (eqb b y && true)) ≡ true
@@ -65,20 +61,29 @@ module _ (file : List ℕ) (at : ℕ) where
   pub read-short : (at ≡ length file → ⊥) → length file < at + 5 → readAt file at ≡ Refused (Malformed at)
   unfolding readAt
   read-short ne short =
-      rw (ne-eqb at (length file) ne, short-record Left short, short-record Right short, cond-same (marked Right file at) (Refused (Malformed at)))
-      (cond-same (marked Left file at) (Refused (Malformed at)))
+      rw (
+        ne-eqb at (length file) ne,
+        short-record Left short,
+        short-record Right short,
+        cond-same (marked Right file at) (Refused (Malformed at)),
+      ) (cond-same (marked Left file at) (Refused (Malformed at)))
 
   marked-bytes : (side : Side) → at + 5 ≤ length file
       → marked side file at ≡ prefix (mark side) (getD file at 0 ∷ getD file (at + 1) 0 ∷ drop (suc (at + 1)) file)
   marked-bytes side head =
       ap (prefix (mark side))
-      (drop-cons file at 0 (omega arith) ∙ rw (← add-one at) (ap (λ (l : List ℕ). getD file at 0 ∷ l) (drop-cons file (at + 1) 0 (omega arith))))
+      (drop-cons file at 0 (omega arith)
+      ∙ rw (← add-one at) (ap (λ (l : List ℕ). getD file at 0 ∷ l) (drop-cons file (at + 1) 0 (omega arith))))
 
   module _ (head : at + 5 ≤ length file) (first : getD file at 0 < 256) (second : getD file (at + 1) 0 < 256) where
     pub read-left : getD file at 0 * 256 + getD file (at + 1) 0 ≡ 0x4B54 → readAt file at ≡ recordAt Left file at
     unfolding readAt prefix
     read-left e =
-        rw (ne-eqb at (length file) (λ q. omega arith), marked-bytes Left head, bytes-same 0x4B 0x54 (getD file at 0) (getD file (at + 1) 0) first second e (omega arith) (omega arith))
+        rw (
+          ne-eqb at (length file) (λ q. omega arith),
+          marked-bytes Left head,
+          bytes-same 0x4B 0x54 (getD file at 0) (getD file (at + 1) 0) first second e (omega arith) (omega arith),
+        )
 
     pub read-right : getD file at 0 * 256 + getD file (at + 1) 0 ≡ 0x534B → readAt file at ≡ recordAt Right file at
     unfolding readAt prefix
@@ -91,7 +96,8 @@ module _ (file : List ℕ) (at : ℕ) where
           bytes-same 0x53 0x4B (getD file at 0) (getD file (at + 1) 0) first second e (omega arith) (omega arith),
         )
 
-    pub read-other : (getD file at 0 * 256 + getD file (at + 1) 0 ≡ 0x4B54 → ⊥) → (getD file at 0 * 256 + getD file (at + 1) 0 ≡ 0x534B → ⊥)
+    pub read-other : (getD file at 0 * 256 + getD file (at + 1) 0 ≡ 0x4B54 → ⊥)
+        → (getD file at 0 * 256 + getD file (at + 1) 0 ≡ 0x534B → ⊥)
         → readAt file at ≡ Refused (Malformed at)
     unfolding readAt prefix
     read-other l r =

@@ -1,5 +1,5 @@
--- The records of a file: what a whole record that was read tells, that fuel enough gives the same records, and the walk's step and
--- end. Tags one after the other: their number, and one more.
+-- The records of a file: what a whole record that was read tells, that fuel enough gives the same records, and the walk's
+-- step and end. Tags one after the other: their number, and one more.
 use mathlib.Core.Path.{_≡_, refl, ap, _∙_}
 use mathlib.Core.List.{List, [], _∷_, _++_}
 use mathlib.Core.Bool.{Bool, true, false, cond}
@@ -40,7 +40,8 @@ unfolding tagsAt
 tagsAt-last zero file at = let e : at ≡ at + 12 * 0 = omega arith in ap (λ (k : ℕ). tagAt file k ∷ []) e
 tagsAt-last (suc n) file at =
     let e : at + 12 + 12 * n ≡ at + 12 * suc n = omega arith in
-    ap (λ (l : List ℕ). tagAt file at ∷ l) (tagsAt-last n file (at + 12) ∙ ap (λ (k : ℕ). tagsAt n file (at + 12) ++ (tagAt file k ∷ [])) e)
+    ap (λ (l : List ℕ). tagAt file at ∷ l)
+    (tagsAt-last n file (at + 12) ∙ ap (λ (k : ℕ). tagsAt n file (at + 12) ++ (tagAt file k ∷ [])) e)
 
 -- ---- a whole record that was read
 
@@ -53,7 +54,8 @@ pub record Whole (file : List ℕ) (at n c p next : ℕ) : Type 0 where
 
 module _ (file : List ℕ) (at : ℕ) (s : Side) (n c p next : ℕ) where
   whole-found : (side : Side) → wholeAt file at ≡ true
-      → Record side (numberAt file at) (countAt file at) (at + 5) (at + 5 + 12 * countAt file at) ≡ Record s n c p next → Whole file at n c p next
+      → Record side (numberAt file at) (countAt file at) (at + 5) (at + 5 + 12 * countAt file at) ≡ Record s n c p next
+      → Whole file at n c p next
   whole-found side t e =
       let room = leb-true (at + 5 + 12 * countAt file at) (length file)
       (and-right (leb (at + 5) (length file)) (leb (at + 5 + 12 * countAt file at) (length file)) t) in
@@ -73,7 +75,9 @@ module _ (file : List ℕ) (at : ℕ) (s : Side) (n c p next : ℕ) where
   whole-of side e = pick (wholeAt file at) refl e
     where
       pick : (b : Bool) → wholeAt file at ≡ b
-          → cond b (Record side (numberAt file at) (countAt file at) (at + 5) (at + 5 + 12 * countAt file at)) (Refused (Malformed at)) ≡ Record s n c p next
+          → cond b (Record side (numberAt file at) (countAt file at) (at + 5) (at + 5 + 12 * countAt file at))
+          (Refused (Malformed at))
+          ≡ Record s n c p next
           → Whole file at n c p next
       pick true t e = whole-found side t e
       pick false t e = refused-not (Malformed at) e
@@ -82,17 +86,23 @@ module _ (file : List ℕ) (at : ℕ) (s : Side) (n c p next : ℕ) where
   unfolding readAt
   read-whole e = at-end (eqb at (length file)) e
     where
-      right : (b : Bool) → cond b (recordAt Right file at) (Refused (Malformed at)) ≡ Record s n c p next → Whole file at n c p next
+      right : (b : Bool) → cond b (recordAt Right file at) (Refused (Malformed at)) ≡ Record s n c p next
+          → Whole file at n c p next
       right true e = whole-of Right e
       right false e = refused-not (Malformed at) e
 
-      left : (b : Bool) → cond b (recordAt Left file at) (cond (marked Right file at) (recordAt Right file at) (Refused (Malformed at))) ≡ Record s n c p next
+      left : (b : Bool)
+          → cond b (recordAt Left file at) (cond (marked Right file at) (recordAt Right file at) (Refused (Malformed at)))
+          ≡ Record s n c p next
           → Whole file at n c p next
       left true e = whole-of Left e
       left false e = right (marked Right file at) e
 
       at-end : (b : Bool)
-          → cond b NoMore (cond (marked Left file at) (recordAt Left file at) (cond (marked Right file at) (recordAt Right file at) (Refused (Malformed at)))) ≡ Record s n c p next
+          → cond b NoMore
+          (cond (marked Left file at) (recordAt Left file at)
+          (cond (marked Right file at) (recordAt Right file at) (Refused (Malformed at))))
+          ≡ Record s n c p next
           → Whole file at n c p next
       at-end true e = no-more-not e
       at-end false e = left (marked Left file at) e
@@ -100,19 +110,24 @@ module _ (file : List ℕ) (at : ℕ) (s : Side) (n c p next : ℕ) where
 -- ---- the walk
 
 -- with fuel for every byte that is left, the records are the same
-pub records-fuel : (f g : ℕ) (file : List ℕ) (at : ℕ) → length file ≤ at + f → length file ≤ at + g → recordsFrom f file at ≡ recordsFrom g file at
+pub records-fuel : (f g : ℕ) (file : List ℕ) (at : ℕ) → length file ≤ at + f → length file ≤ at + g
+    → recordsFrom f file at ≡ recordsFrom g file at
 unfolding recordsFrom
 records-fuel zero zero file at hf hg = refl
 records-fuel zero (suc g) file at hf hg = none (readAt file at) refl
   where
     none : (a : ReadAnswer) → readAt file at ≡ a → [] ≡ onward a file (λ next. recordsFrom g file next)
-    none (Record s n c p next) e = let w = read-whole file at s n c p next e in absurd (omega (arith, w .place, w .past, w .within))
+    none (Record s n c p next) e =
+        let w = read-whole file at s n c p next e in
+        absurd (omega (arith, w .place, w .past, w .within))
     none NoMore e = refl
     none (Refused why) e = refl
 records-fuel (suc f) zero file at hf hg = none (readAt file at) refl
   where
     none : (a : ReadAnswer) → readAt file at ≡ a → onward a file (λ next. recordsFrom f file next) ≡ []
-    none (Record s n c p next) e = let w = read-whole file at s n c p next e in absurd (omega (arith, w .place, w .past, w .within))
+    none (Record s n c p next) e =
+        let w = read-whole file at s n c p next e in
+        absurd (omega (arith, w .place, w .past, w .within))
     none NoMore e = refl
     none (Refused why) e = refl
 records-fuel (suc f) (suc g) file at hf hg = both (λ next. records-fuel f g file next) (readAt file at) refl

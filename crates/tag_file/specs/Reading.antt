@@ -1,5 +1,5 @@
--- What the record reader answers at a place of a file, and the records of a whole file. Document 01, "Tag file": "A record is
--- used only if it was read whole". A left set's record is a kit's there, a right set's a stack's.
+-- What the record reader answers at a place of a file, and the tags from a place on. Document 01, "Tag file": "A record is used
+-- only if it was read whole". A left set's record is a kit's there, a right set's a stack's.
 use Prim.Native.Nat.{ℕ, zero, suc, _+_, _*_}
 use mathlib.Core.List.{List, [], _∷_}
 use mathlib.Core.Bool.{Bool, cond, _&&_}

@@ -1,4 +1,5 @@
-// The tag file: the record reader and the loader. What a record is, and what the loader fills, is defined in specs/.
+// The record reader of the tag file. What a record is, and what the loader fills, is defined in specs/; the loader has crates of
+// its own.
 use sets::Refusal;
 use sets::Side;
 ghost use mathlib.Core.Path.{_≡_};

@@ -10,15 +10,18 @@ use Rattle.tag_file.proofs.read_at.Tie as tie
 
 returns : tie.Need-returns
 returns c =
-    sym (read-end (c .before .before .args .file .now) (c .before .before .args .at) (omega arith))
+    let a = c .before .before .args in
+    sym (read-end (a .file .now) (a .at) (omega arith))
 
 returns-2 : tie.Need-returns-2
 returns-2 c =
-    sym (read-short (c .before .before .before .args .file .now) (c .before .before .before .args .at) (λ e. omega arith) (omega arith))
+    let a = c .before .before .before .args in
+    sym (read-short (a .file .now) (a .at) (λ e. omega arith) (omega arith))
 
 returns-3 : tie.Need-returns-3
 returns-3 c =
-    sym (read-short (c .before .before .before .before .args .file .now) (c .before .before .before .before .args .at) (λ e. omega arith) (omega arith))
+    let a = c .before .before .before .before .args in
+    sym (read-short (a .file .now) (a .at) (λ e. omega arith) (omega arith))
 
 byte-at-requires : tie.Need-byte-at-requires
 byte-at-requires c κs = search needs
@@ -47,7 +50,8 @@ returns-4 c =
     let at = a .at in
     let first : getD file at 0 < 256 = omega (arith, one .is, one .byte) in
     let second : getD file (at + 1) 0 < 256 = omega (arith, two .is, two .byte) in
-    c .record-at .ensures ∙ sym (read-left file at (omega arith) first second (omega (arith, one .is, two .is, c .before .if4 .taken)))
+    c .record-at .ensures
+    ∙ sym (read-left file at (omega arith) first second (omega (arith, one .is, two .is, c .before .if4 .taken)))
 
 record-at-requires-2 : tie.Need-record-at-requires-2
 record-at-requires-2 c κs = search needs
@@ -61,7 +65,8 @@ returns-5 c =
     let at = a .at in
     let first : getD file at 0 < 256 = omega (arith, one .is, one .byte) in
     let second : getD file (at + 1) 0 < 256 = omega (arith, two .is, two .byte) in
-    c .record-at2 .ensures ∙ sym (read-right file at (omega arith) first second (omega (arith, one .is, two .is, c .before .if5 .taken)))
+    c .record-at2 .ensures
+    ∙ sym (read-right file at (omega arith) first second (omega (arith, one .is, two .is, c .before .if5 .taken)))
 
 returns-6 : tie.Need-returns-6
 returns-6 c =
@@ -72,7 +77,9 @@ returns-6 c =
     let at = a .at in
     let first : getD file at 0 < 256 = omega (arith, one .is, one .byte) in
     let second : getD file (at + 1) 0 < 256 = omega (arith, two .is, two .byte) in
-    sym (read-other file at (omega arith) first second (λ e. c .before .if4 .left (omega (arith, one .is, two .is))) (λ e. c .if5 .left (omega (arith, one .is, two .is))))
+    sym
+    (read-other file at (omega arith) first second (λ e. c .before .if4 .left (omega (arith, one .is, two .is)))
+    (λ e. c .if5 .left (omega (arith, one .is, two .is))))
 
 pub read-at-spec : {M : Type 1} → statement M
 read-at-spec =

@@ -50,18 +50,21 @@ add-t16 c = search needs
 
 returns : tie.Need-returns
 returns c =
-    let a = c .before .before .before .before .before .args in
-    let file = a .file .now in
-    let at = a .at in
-    rw (c .before .before .before .byte-at .ensures .is, c .before .before .byte-at2 .ensures .is, c .before .byte-at3 .ensures .is)
-    (sym (whole-record file at (a .side) (c .before .before .before .before .before .pre) (omega (arith, c .before .byte-at3 .ensures .is, c .if1 .taken))))
+    let count = c .before in
+    let low = count .before in
+    let high = low .before in
+    let start = high .before .before in
+    let a = start .args in
+    rw (high .byte-at .ensures .is, low .byte-at2 .ensures .is, count .byte-at3 .ensures .is)
+    (sym
+    (whole-record (a .file .now) (a .at) (a .side) (start .pre) (omega (arith, count .byte-at3 .ensures .is, c .if1 .taken))))
 
 returns-2 : tie.Need-returns-2
 returns-2 c =
-    let a = c .before .before .before .before .before .args in
-    let file = a .file .now in
-    let at = a .at in
-    sym (cut-record file at (a .side) (c .before .before .before .before .before .pre) (omega (arith, c .before .byte-at3 .ensures .is, c .if1 .left)))
+    let start = c .before .before .before .before .before in
+    let a = start .args in
+    sym
+    (cut-record (a .file .now) (a .at) (a .side) (start .pre) (omega (arith, c .before .byte-at3 .ensures .is, c .if1 .left)))
 
 pub record-at-spec : {M : Type 1} → statement M
 record-at-spec =
