@@ -6,9 +6,8 @@ use mathlib.Core.List.{List}
 use mathlib.Core.Bool.{Bool, true, false, cond}
 use mathlib.Core.Option.{Option, none, some}
 use native.Mathlib.Omega.{arith}
-use lib.ListN.{length, take, drop, length-map}
+use lib.ListN.{length, take, drop}
 use lib.Seq.{take-at}
-use Rattle.sets.specs.declared.Side.{Side}
 use Rattle.sets.specs.declared.Side.the-variants.{Left, Right}
 use Rattle.sets.specs.declared.Refusal.{Refusal}
 use Rattle.sets.specs.declared.Refusal.the-variants.{ShortOutput}
@@ -16,12 +15,11 @@ use Rattle.sets.specs.declared.Loaded.{Loaded}
 use Rattle.sets.specs.declared.LoadAnswer.{LoadAnswer}
 use Rattle.sets.specs.declared.LoadAnswer.the-variants as load
 use Rattle.tag_file.specs.Format.{tagBytes}
-use Rattle.tag_file.specs.Records.{TagRecord, ofSide, records, tagTable, itemsOf, setsOfSide}
-use Rattle.tag_file.specs.Loading.{Lists, filled, countsOf, fileFault, unless, roomFor, loadAnswer, lentAfter, numbersOf, endsOf, joinedItems}
-use Rattle.tag_writer.proofs.Records.{length-tagBytes}
+use Rattle.tag_file.specs.Records.{records, tagTable}
+use Rattle.tag_file.specs.Loading.{Lists, filled, countsOf, fileFault, unless, roomFor, loadAnswer, lentAfter, numbersOf}
+use Rattle.tag_file.specs.Loading.{endsOf, joinedItems}
+use Rattle.tag_file.proofs.ItemCount.{length-tagBytes, length-numbersOf, length-endsOf, length-joinedItems}
 use Rattle.tag_round_trip.specs.Trips.{loadedFrom}
-use Rattle.tag_file.proofs.ItemCount.{length-endsFrom}
-use Rattle.tag_round_trip.proofs.Refilled.{length-filled}
 
 -- no fault, room in every list, and the counts
 pub record Accepted (file : List ℕ) (lent : Lists) (counts : Loaded) : Type 0 where
@@ -36,7 +34,8 @@ accepted-if (some why) room given counts e = let z : _≡_ {A = ℕ} 0 1 = cc in
 accepted-if none false given counts e = let z : _≡_ {A = ℕ} 0 1 = cc in absurd (omega arith)
 accepted-if none true given counts e = (refl, (refl, cc))
 
-pub accepted : (file : List ℕ) (lent : Lists) (counts : Loaded) → loadAnswer file lent ≡ load.Loaded counts → Accepted file lent counts
+pub accepted : (file : List ℕ) (lent : Lists) (counts : Loaded) → loadAnswer file lent ≡ load.Loaded counts
+    → Accepted file lent counts
 unfolding loadAnswer
 accepted file lent counts e =
     let parts = accepted-if (fileFault file) (roomFor (filled (records file)) lent) (countsOf (records file)) counts e in
@@ -60,13 +59,6 @@ part-filled : (answer : LoadAnswer) (counts : Loaded) (part lent : List ℕ) (n 
 part-filled answer counts part lent n e long =
     ap (λ (a : LoadAnswer). take n (lentAfter a part lent)) e ∙ take-at part (drop (length part) lent) n long
 
-length-numbers : (side : Side) (rs : List TagRecord) → length (numbersOf side rs) ≡ length (ofSide side rs)
-length-numbers side rs = length-map (ofSide side rs) (λ r. r .number)
-
-length-ends : (side : Side) (rs : List TagRecord) → length (endsOf side rs) ≡ length (ofSide side rs)
-length-ends side rs =
-    length-endsFrom 0 (setsOfSide side (tagTable rs) rs) ∙ length-map (ofSide side rs) (λ r. itemsOf (tagTable rs) (r .tags))
-
 -- the filled parts of the lists are what the records give
 pub parts-filled : (file : List ℕ) (lent : Lists) → loadAnswer file lent ≡ load.Loaded (countsOf (records file))
     → loadedFrom file lent (countsOf (records file)) ≡ filled (records file)
@@ -74,9 +66,9 @@ parts-filled file lent e =
     let rs = records file in
     lists-same
     (part-filled _ _ (tagBytes (tagTable rs)) (lent .tags) _ e (length-tagBytes (tagTable rs)))
-    (part-filled _ _ (numbersOf Left rs) (lent .leftNumbers) _ e (length-numbers Left rs))
-    (part-filled _ _ (endsOf Left rs) (lent .leftEnds) _ e (length-ends Left rs))
-    (part-filled _ _ (joinedItems Left rs) (lent .leftItems) _ e (length-filled rs Left))
-    (part-filled _ _ (numbersOf Right rs) (lent .rightNumbers) _ e (length-numbers Right rs))
-    (part-filled _ _ (endsOf Right rs) (lent .rightEnds) _ e (length-ends Right rs))
-    (part-filled _ _ (joinedItems Right rs) (lent .rightItems) _ e (length-filled rs Right))
+    (part-filled _ _ (numbersOf Left rs) (lent .leftNumbers) _ e (length-numbersOf Left rs))
+    (part-filled _ _ (endsOf Left rs) (lent .leftEnds) _ e (length-endsOf Left rs))
+    (part-filled _ _ (joinedItems Left rs) (lent .leftItems) _ e (length-joinedItems Left rs))
+    (part-filled _ _ (numbersOf Right rs) (lent .rightNumbers) _ e (length-numbersOf Right rs))
+    (part-filled _ _ (endsOf Right rs) (lent .rightEnds) _ e (length-endsOf Right rs))
+    (part-filled _ _ (joinedItems Right rs) (lent .rightItems) _ e (length-joinedItems Right rs))

@@ -26,9 +26,11 @@ rewritten-file : List ℕ
 rewritten-file = (0x4B ∷ 0x54 ∷ 0 ∷ 7 ∷ 2 ∷ []) ++ (tag 1 ++ tag 2) ++ (0x53 ∷ 0x4B ∷ 0 ∷ 9 ∷ 2 ∷ []) ++ (tag 1 ++ tag 2)
 
 example-accepted : fileFault file ≡ none
-unfolding file tag fileFault firstFault faultOf tooMany readAt tagsAt recordsFrom valueFrom insert insertAll allTags keep memb sum any prefix
+unfolding file tag fileFault firstFault faultOf tooMany readAt tagsAt recordsFrom valueFrom insert insertAll allTags
+    keep memb sum any prefix
 example-accepted = refl
 
 example-written : bytesOfLists (filled (records file)) ≡ rewritten-file
-unfolding file tag rewritten-file readAt tagsAt recordsFrom valueFrom insert insertAll allTags itemsOf keep memb range prefix endsFrom join setsFrom tagBytes bytesOf recordsOf fileBytes
+unfolding file tag rewritten-file readAt tagsAt recordsFrom valueFrom insert insertAll allTags itemsOf
+    keep memb range prefix endsFrom join setsFrom tagBytes bytesOf recordsOf fileBytes
 example-written = refl

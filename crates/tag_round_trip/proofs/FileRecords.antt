@@ -57,7 +57,8 @@ module _ (file : List ℕ) (low : (i : ℕ) → getD file i 0 < 256) where
   few-from (suc fuel) at = here (λ next. few-from fuel next) (readAt file at) refl
     where
       here : ((next : ℕ) → all (λ r. leb (length (r .tags)) maxSetLength) (recordsFrom fuel file next) ≡ true) → (a : ReadAnswer)
-          → readAt file at ≡ a → all (λ r. leb (length (r .tags)) maxSetLength) (onward a file (λ next. recordsFrom fuel file next)) ≡ true
+          → readAt file at ≡ a
+          → all (λ r. leb (length (r .tags)) maxSetLength) (onward a file (λ next. recordsFrom fuel file next)) ≡ true
       here again (Record s n c p next) e =
           let w = read-whole file at s n c p next e in
           let byte = low (at + 4) in

@@ -1,16 +1,18 @@
 -- The items of a record over a table, and the tags of those items: they are the record's tags, each once, rising.
 use mathlib.Core.Path.{_≡_, refl, sym, ap, _∙_}
-use Prim.Native.Nat.{ℕ, zero, suc, _+_, _≤_, _<_}
+use Prim.Native.Nat.{ℕ, zero, suc, _+_, _≤_}
 use mathlib.Core.List.{List, [], _∷_, map}
 use mathlib.Core.Bool.{Bool, true, false}
 use native.Mathlib.Omega.{arith}
 use borrow.Author.Tests.{ltb-true, le-leb}
 use lib.Dec.{ltb}
-use lib.ListN.{length, drop, getD, length-map, drop-of-length-le}
+use lib.ListN.{length, drop, getD, drop-of-length-le}
 use lib.Seq.{drop-cons}
 use Rattle.lists.specs.Lists.{all, keep, onto, memb, range, upto, rising, subset}
-use Rattle.lists.proofs.Bools.{and-both, and-left, and-right}
+use Rattle.lists.proofs.Bools.{and-both}
 use Rattle.lists.proofs.Filtering.{all-keep, keep-same}
+use Rattle.lists.proofs.Mapping.{map-agree}
+use Rattle.lists.proofs.Throughout.{all-elim, subset-elim}
 use Rattle.lists.proofs.Ranges.{all-upto}
 use Rattle.lists.proofs.Rising.{rising-keep, rising-range}
 use Rattle.sets.specs.Limits.{maxSetLength}
@@ -18,8 +20,9 @@ use Rattle.sets.specs.Collections.{goodItems}
 use Rattle.tag_file.specs.Format.{tagBytes}
 use Rattle.tag_file.specs.Records.{collapse, itemsOf}
 use Rattle.tag_file.proofs.Tables.{memb-collapse}
+use Rattle.tag_file.proofs.ItemCount.{keep-collapse, item-count}
 use Rattle.tag_writer.specs.Writer.{tagOf, tagsOf}
-use Rattle.tag_round_trip.proofs.Sorted.{keep-collapse, length-collapse}
+use Rattle.tag_round_trip.proofs.Sorted.{length-collapse}
 use Rattle.tag_round_trip.proofs.Values.{tagsFit, tagAt-table}
 
 map-keep : (f : ℕ → ℕ) (p : ℕ → Bool) (xs : List ℕ) → map f (keep (λ x. p (f x)) xs) ≡ keep p (map f xs)
@@ -51,33 +54,25 @@ module _ (table tags : List ℕ) where
   unfolding itemsOf
   items-rising = rising-keep (λ i. memb (getD table i 0) tags) (upto (length table)) (rising-range 0 (length table))
 
-map-same : (n : ℕ) (f g : ℕ → ℕ) → ((i : ℕ) → i < n → f i ≡ g i) → (xs : List ℕ) → all (λ i. ltb i n) xs ≡ true → map f xs ≡ map g xs
-unfolding all
-map-same n f g h [] low = refl
-map-same n f g h (x ∷ xs) low =
-    let e : f x ≡ g x = h x (ltb-true x n (and-left (ltb x n) (all (λ i. ltb i n) xs) low)) in
-    rw (e, map-same n f g h xs (and-right (ltb x n) (all (λ i. ltb i n) xs) low))
-
 module _ (table tags : List ℕ) (r : rising table ≡ true) (sub : subset tags table ≡ true) where
   -- an item's tag is the table's
   items-tags : map (λ i. getD table i 0) (itemsOf table tags) ≡ collapse tags
   unfolding itemsOf
   items-tags =
       map-keep (λ i. getD table i 0) (λ t. memb t tags) (upto (length table))
-      ∙ ap (keep (λ t. memb t tags)) (map-upto table) ∙ keep-collapse table tags r sub
+      ∙ ap (keep (λ t. memb t tags)) (map-upto table) ∙ keep-collapse table tags r (subset-elim tags table sub)
 
   pub tags-of-items : tagsFit table ≡ true → tagsOf (tagBytes table) (itemsOf table tags) ≡ collapse tags
   tags-of-items fit =
-      map-same (length table) (tagOf (tagBytes table)) (λ i. getD table i 0) (λ i below. tagAt-table table i fit below)
-      (itemsOf table tags) (items-below table tags)
+      map-agree (tagOf (tagBytes table)) (λ i. getD table i 0) (itemsOf table tags)
+      (λ i there.
+      tagAt-table table i fit
+      (ltb-true i (length table) (all-elim _ (itemsOf table tags) (items-below table tags) i there)))
       ∙ items-tags
-
-  pub length-items : length (itemsOf table tags) ≡ length (collapse tags)
-  length-items = sym (length-map (itemsOf table tags) (λ i. getD table i 0)) ∙ ap length items-tags
 
   pub items-good : length tags ≤ maxSetLength → goodItems (length table) (itemsOf table tags) ≡ true
   items-good few =
-      let n = length-items in
+      let n = item-count table tags r (subset-elim tags table sub) in
       let most = length-collapse tags in
       and-both (le-leb (length (itemsOf table tags)) maxSetLength (omega arith))
       (and-both (items-below table tags) (items-rising table tags))

@@ -7,7 +7,7 @@ use native.Mathlib.Omega.{arith}
 use borrow.Author.Tests.{le-leb, leb-true, eq-eqb}
 use lib.Dec.{leb}
 use lib.ListN.{length, length-append, length-map}
-use Rattle.lists.specs.Lists.{all, memb, rising, sum, subset}
+use Rattle.lists.specs.Lists.{all, memb, rising, subset}
 use Rattle.lists.proofs.Bools.{and-both, and-left, and-right, or-left, or-right}
 use Rattle.lists.proofs.Membership.{memb-append}
 use Rattle.lists.proofs.Throughout.{subset-intro}
@@ -23,11 +23,11 @@ use Rattle.tag_file.specs.Records.{TagRecord, sameSide, ofSide, collapse, allTa
 use Rattle.tag_file.specs.Loading.{endsFrom, join, numbersOf, endsOf, joinedItems, filled}
 use Rattle.tag_file.proofs.Tables.{rising-collapse, memb-collapse}
 use Rattle.tag_file.proofs.RecordLaws.{same-side}
-use Rattle.tag_file.proofs.ItemCount.{length-endsFrom}
+use Rattle.tag_file.proofs.ItemCount.{length-numbersOf, length-endsOf, length-joinedItems}
 use Rattle.tag_writer.specs.Writer.{tagsOf, sideVerdict}
 use Rattle.tag_round_trip.specs.Rewritten.{sideRecords, recordsOfLists, collapsed, collapsedSide, rewritten}
 use Rattle.tag_round_trip.proofs.Decoding.{between-joined, sets-joined}
-use Rattle.tag_round_trip.proofs.Items.{tags-of-items, length-items, items-good}
+use Rattle.tag_round_trip.proofs.Items.{tags-of-items, items-good}
 use Rattle.tag_round_trip.proofs.Values.{tagsFit}
 
 -- every record's tags are in a table that has all tags
@@ -67,20 +67,10 @@ module _ (side : Side) (table : List ℕ) (r : rising table ≡ true) where
           (record { side = k; number = s .number; tags = collapse (s .tags) } ∷ vs)
       cons-same e t rest = rw (← e, t, rest)
 
-  -- ---- the sets are good, and there are as many entries as distinct tags
+  -- ---- the sets are good
 
-  length-joined : (rs : List TagRecord) → all (λ r. subset (r .tags) table) rs ≡ true
-      → length (join (map (λ r. itemsOf table (r .tags)) rs)) ≡ sum (λ r. length (collapse (r .tags))) rs
-  unfolding all join sum
-  length-joined [] sub = refl
-  length-joined (s ∷ rs) sub =
-      length-append (itemsOf table (s .tags)) (join (map (λ r. itemsOf table (r .tags)) rs))
-      ∙ rw (
-        length-items table (s .tags) r (and-left (subset (s .tags) table) (all (λ r. subset (r .tags) table) rs) sub),
-        length-joined rs (and-right (subset (s .tags) table) (all (λ r. subset (r .tags) table) rs) sub),
-      )
-
-  sets-good : (rs : List TagRecord) → all (λ r. subset (r .tags) table) rs ≡ true → all (λ r. leb (length (r .tags)) maxSetLength) rs ≡ true
+  sets-good : (rs : List TagRecord) → all (λ r. subset (r .tags) table) rs ≡ true
+      → all (λ r. leb (length (r .tags)) maxSetLength) rs ≡ true
       → all (goodItems (length table)) (map (λ r. itemsOf table (r .tags)) rs) ≡ true
   unfolding all
   sets-good [] sub few = refl
@@ -104,7 +94,8 @@ good-joined T k start before (set ∷ sets) e places entries good =
     let next : length (before ++ set) ≡ start + length set = rw (length-append, e) in
     let end-good : goodEnd start (start + length set) items ≡ true =
     and-both (le-leb start (start + length set) (omega arith))
-    (and-both (le-leb (start + length set) maxEntries (omega arith)) (le-leb (start + length set) (length items) (omega arith))) in
+    (and-both (le-leb (start + length set) maxEntries (omega arith))
+    (le-leb (start + length set) (length items) (omega arith))) in
     let set-good : goodItems T (between start (start + length set) items) ≡ true =
     ap (goodItems T) (between-joined before set (join sets) start e) ∙ and-left (goodItems T set) (all (goodItems T) sets) good in
     let here = not-bad T k start (start + length set) items (omega arith) (and-both end-good set-good) in
@@ -128,25 +119,22 @@ module _ (rs : List TagRecord) where
       let sets = setsOfSide side table rs in
       let r = rising-collapse (allTags rs) in
       let n : length sets ≡ length (ofSide side rs) = length-map (ofSide side rs) (λ r. itemsOf table (r .tags)) in
-      let m : length (join sets) ≡ entriesOf side rs = length-joined side table r (ofSide side rs) (own-tags side) in
+      let m : length (join sets) ≡ entriesOf side rs = length-joinedItems side rs in
       let good : firstBad (length table) (endsOf side rs) (joinedItems side rs) ≡ Good =
       good-joined (length table) 0 0 [] sets refl (omega arith) (omega arith)
       (sets-good side table r (ofSide side rs) (own-tags side)
       (all-keep (λ r. leb (length (r .tags)) maxSetLength) (λ r. sameSide side (r .side)) rs few)) in
       let numbered : length (numbersOf side rs) ≡ length (endsOf side rs) =
-      length-map (ofSide side rs) (λ r. r .number) ∙ sym (length-endsFrom 0 sets ∙ n) in
+      length-numbersOf side rs ∙ sym (length-endsOf side rs) in
       rw (good, eq-eqb (length (numbersOf side rs)) (length (endsOf side rs)) numbered)
-
-  -- as many entries were joined as there are distinct tags
-  pub length-filled : (side : Side) → length (joinedItems side rs) ≡ entriesOf side rs
-  length-filled side = length-joined side (tagTable rs) (rising-collapse (allTags rs)) (ofSide side rs) (own-tags side)
 
   pub lists-records : tagsFit (tagTable rs) ≡ true → recordsOfLists (filled rs) ≡ rewritten rs
   unfolding rewritten
   lists-records fit = rw (of-side Left, of-side Right)
     where
       of-side : (side : Side)
-          → sideRecords side (tagBytes (tagTable rs)) (numbersOf side rs) (setsOf (endsOf side rs) (joinedItems side rs)) ≡ collapsedSide side rs
+          → sideRecords side (tagBytes (tagTable rs)) (numbersOf side rs) (setsOf (endsOf side rs) (joinedItems side rs))
+          ≡ collapsedSide side rs
       of-side side =
           ap (sideRecords side (tagBytes (tagTable rs)) (numbersOf side rs)) (side-sets side)
           ∙ sides-records side (tagTable rs) (rising-collapse (allTags rs)) fit (ofSide side rs)

@@ -22,7 +22,8 @@ use Rattle.tag_round_trip.proofs.Sorted.{collapse-collapse}
 -- ---- maps and filters of records
 
 module _ {A : Type 0} where
-  keep-kept : (p : A → Bool) (f : A → A) → ((x : A) → p (f x) ≡ p x) → (xs : List A) → keep p (map f (keep p xs)) ≡ map f (keep p xs)
+  keep-kept : (p : A → Bool) (f : A → A) → ((x : A) → p (f x) ≡ p x) → (xs : List A)
+      → keep p (map f (keep p xs)) ≡ map f (keep p xs)
   unfolding keep
   keep-kept p f same [] = refl
   keep-kept p f same (x ∷ xs) = here (p x) refl (keep-kept p f same xs)
@@ -149,4 +150,10 @@ filled-rewritten rs =
 
 pub counts-rewritten : (rs : List TagRecord) → countsOf (rewritten rs) ≡ countsOf rs
 counts-rewritten rs =
-    rw (table-rewritten rs, places-rewritten Left rs, places-rewritten Right rs, entries-rewritten Left rs, entries-rewritten Right rs)
+    rw (
+      table-rewritten rs,
+      places-rewritten Left rs,
+      places-rewritten Right rs,
+      entries-rewritten Left rs,
+      entries-rewritten Right rs,
+    )

@@ -1,6 +1,6 @@
--- The round trip: whatever file the loader accepts, the writer accepts what it filled, and loading the file so written, with lists
--- that are long enough, gives the same counts, tag table, record numbers, ends and items. The hypotheses and conclusions are what
--- the contracts of the loader and the writer say of three calls one after the other.
+-- The round trip: whatever file the loader accepts, the writer accepts what it filled, and loading the file so written, with
+-- lists that are long enough, gives the same counts, tag table, record numbers, ends and items. The hypotheses and
+-- conclusions are what the contracts of the loader and the writer say of three calls one after the other.
 use mathlib.Core.Path.{_≡_, refl, sym, ap, subst, _∙_}
 use Prim.Native.Nat.{ℕ, _≤_, _<_}
 use mathlib.Core.List.{List, [], _++_}
@@ -21,11 +21,12 @@ use Rattle.sets.specs.declared.WriteAnswer.the-variants as write
 use Rattle.tag_file.specs.Format.{tagBytes}
 use Rattle.tag_file.specs.Records.{TagRecord, records, tagTable, totalLength}
 use Rattle.tag_file.specs.Reading.{readAt}
-use Rattle.tag_file.specs.Loading.{Lists, filled, countsOf, fileFault, firstFault, refusalOf, roomFor, loadAnswer, numbersOf, endsOf, joinedItems}
+use Rattle.tag_file.specs.Loading.{Lists, filled, countsOf, fileFault, firstFault, refusalOf, roomFor, loadAnswer, numbersOf}
+use Rattle.tag_file.specs.Loading.{endsOf, joinedItems}
 use Rattle.tag_file.specs.declared.ReadAnswer.{ReadAnswer}
 use Rattle.tag_writer.specs.Writer.{writtenWithin, fileAfter}
 use Rattle.tag_writer.proofs.Answers.{answer-good, within}
-use Rattle.tag_writer.proofs.Records.{length-tagBytes}
+use Rattle.tag_file.proofs.ItemCount.{length-tagBytes}
 use Rattle.tag_round_trip.specs.Rewritten.{bytesOfLists, rewritten}
 use Rattle.tag_round_trip.specs.Calls.{LoadCall, WriteCall}
 use Rattle.tag_round_trip.specs.Trips.{listsAfter, partsOf, loadedFrom, writeOf, writtenTo, Loads, Trip}
@@ -144,8 +145,8 @@ round-trip file lent counts low e out enough =
         subst (λ (l : Lists). Trip (countsOf (records file)) l out) (sym same)
         (trip-filled file low clear out (subst (λ (l : Lists). length (bytesOfLists l) ≤ length out) same enough))
 
--- the same of three calls, by what their contracts say: a load that is accepted, a write of what it filled that is accepted, and a
--- load of what was written into lists that are long enough
+-- the same of three calls, by what their contracts say: a load that is accepted, a write of what it filled that is accepted,
+-- and a load of what was written into lists that are long enough
 pub calls-round-trip : (file : List ℕ) (lent got : Lists) (counts : Loaded) (out wrote : List ℕ) (n : ℕ) (again more : Lists)
     (answer : LoadAnswer) → ((i : ℕ) → getD file i 0 < 256)
     → LoadCall file lent got (load.Loaded counts)
@@ -170,7 +171,8 @@ calls-round-trip file lent got counts out wrote n again more answer low first se
     ∙ ap (λ (l : Lists). bytesOfLists l ++ drop (length (bytesOfLists l)) out) same)
     ∙ take-at bytes (drop (length bytes) out) n (parts .1) in
     let loads = loads-again file low (so .clear) again (ap (λ (l : Lists). roomFor l again) (sym same) ∙ room) in (
-      third .answered ∙ ap (λ (f : List ℕ). loadAnswer f again) output ∙ loads .answer ∙ ap (λ (c : Loaded). load.Loaded c) (so .counted),
+      third .answered ∙ ap (λ (f : List ℕ). loadAnswer f again) output ∙ loads .answer
+          ∙ ap (λ (c : Loaded). load.Loaded c) (so .counted),
       ap (partsOf counts) (third .lists) ∙ ap (λ (f : List ℕ). partsOf counts (listsAfter f again)) output
           ∙ ap (loadedFrom bytes again) (sym (so .counted)) ∙ loads .lists ∙ sym same,
     )

@@ -12,7 +12,7 @@ use lib.Seq.{take-at, drop-at, drop-drop, getD-take, getD-drop}
 use Rattle.lists.specs.Lists.{all}
 use Rattle.lists.proofs.Bools.{and-left, and-right}
 use Rattle.tag_file.specs.Format.{valueFrom, value, bytesOf, tagLength, tagAt, tagBytes}
-use Rattle.tag_writer.proofs.Records.{length-bytesOf}
+use Rattle.tag_file.proofs.ItemCount.{length-bytesOf}
 
 valueFrom-last : (v : ℕ) (bs : List ℕ) (b : ℕ) → valueFrom v (bs ++ (b ∷ [])) ≡ valueFrom v bs * 256 + b
 unfolding valueFrom
@@ -82,7 +82,8 @@ tagAt-table (t ∷ ts) zero fit h =
 tagAt-table (t ∷ ts) (suc i) fit h =
     let bytes = bytesOf tagLength t ++ tagBytes ts in
     let next : tagLength * suc i ≡ tagLength + tagLength * i = omega arith in
-    let past : drop tagLength bytes ≡ tagBytes ts = drop-at (bytesOf tagLength t) (tagBytes ts) tagLength (length-bytesOf tagLength t) in
+    let past : drop tagLength bytes ≡ tagBytes ts =
+    drop-at (bytesOf tagLength t) (tagBytes ts) tagLength (length-bytesOf tagLength t) in
     let e : drop (tagLength * suc i) bytes ≡ drop (tagLength * i) (tagBytes ts) =
     ap (λ (k : ℕ). drop k bytes) next ∙ sym (drop-drop (tagLength * i) tagLength bytes) ∙ ap (drop (tagLength * i)) past in
     ap (λ (l : List ℕ). value (take tagLength l)) e ∙ tagAt-table ts i (rest-fits t ts fit) (omega arith)

@@ -6,7 +6,8 @@ use mathlib.Core.Bool.{true}
 use borrow.Author.Tests.{lt-ltb}
 use lib.ListN.{getD}
 use Rattle.lists.specs.Lists.{all}
-use Rattle.lists.proofs.Bools.{and-both, and-left, and-right}
+use Rattle.lists.proofs.Bools.{and-both}
+use Rattle.lists.proofs.Throughout.{all-append}
 use Rattle.sets.specs.Collections.{setsOf}
 use Rattle.sets.specs.declared.Side.{Side}
 use Rattle.sets.specs.declared.Side.the-variants.{Left, Right}
@@ -24,14 +25,8 @@ pub bytesOfRecords-append : (a b : List TagRecord) → bytesOfRecords (a ++ b) �
 unfolding bytesOfRecords
 bytesOfRecords-append [] b = refl
 bytesOfRecords-append (r ∷ rs) b =
-    rw (bytesOfRecords-append rs b) (sym (append-assoc (recordBytes (r .side) (r .number) (r .tags)) (bytesOfRecords rs) (bytesOfRecords b)))
-
-pub recordsFit-append : (a b : List TagRecord) → recordsFit a ≡ true → recordsFit b ≡ true → recordsFit (a ++ b) ≡ true
-unfolding all
-recordsFit-append [] b fa fb = fb
-recordsFit-append (r ∷ rs) b fa fb =
-    and-both (and-left (tagsFit (r .tags)) (recordsFit rs) fa)
-    (recordsFit-append rs b (and-right (tagsFit (r .tags)) (recordsFit rs) fa) fb)
+    rw (bytesOfRecords-append rs b)
+    (sym (append-assoc (recordBytes (r .side) (r .number) (r .tags)) (bytesOfRecords rs) (bytesOfRecords b)))
 
 pub side-bytes : (side : Side) (tags numbers : List ℕ) (sets : List (List ℕ))
     → recordsOf side tags numbers sets ≡ bytesOfRecords (sideRecords side tags numbers sets)
@@ -68,8 +63,10 @@ module _ (l : Lists) where
   written-records low =
       ap records lists-bytes
       ∙ records-bytes (recordsOfLists l)
-      (recordsFit-append _ _ (side-fit Left (l .tags) (l .leftNumbers) (setsOf (l .leftEnds) (l .leftItems)) low)
+      (all-append (λ r. tagsFit (r .tags)) _ _
+      (side-fit Left (l .tags) (l .leftNumbers) (setsOf (l .leftEnds) (l .leftItems)) low)
       (side-fit Right (l .tags) (l .rightNumbers) (setsOf (l .rightEnds) (l .rightItems)) low))
 
-  pub written-end : ((i : ℕ) → getD (l .tags) i 0 < 256) → readAt (bytesOfLists l) (totalLength (records (bytesOfLists l))) ≡ NoMore
+  pub written-end : ((i : ℕ) → getD (l .tags) i 0 < 256)
+      → readAt (bytesOfLists l) (totalLength (records (bytesOfLists l))) ≡ NoMore
   written-end low = rw (written-records low, lists-bytes) (read-past (recordsOfLists l))

@@ -21,7 +21,8 @@ use Rattle.sets.proofs.Good.{good-places, good-entries}
 use Rattle.tag_file.specs.Format.{tagLength, headLength}
 use lib.Seq.{sets}
 use Rattle.tag_writer.specs.Room.{GoodSide}
-use Rattle.tag_writer.specs.Writer.{sideBytes, fileBytes, numbersVerdict, andThen, sideVerdict, writtenWithin, writeAnswer, fileAfter}
+use Rattle.tag_writer.specs.Writer.{sideBytes, fileBytes, numbersVerdict, andThen, sideVerdict, writtenWithin}
+use Rattle.tag_writer.specs.Writer.{writeAnswer, fileAfter}
 use Rattle.lists.proofs.Filling.{sets-then, sets-front}
 use Rattle.tag_writer.proofs.Sides.{records-length}
 
@@ -64,7 +65,8 @@ module _ (tags leftNumbers leftEnds leftItems rightNumbers rightEnds rightItems 
   whole = fileBytes tags leftNumbers leftEnds leftItems rightNumbers rightEnds rightItems
 
   pub file-size : length (fileBytes tags leftNumbers leftEnds leftItems rightNumbers rightEnds rightItems)
-      ≡ length (sideBytes Left tags leftNumbers leftEnds leftItems) + length (sideBytes Right tags rightNumbers rightEnds rightItems)
+      ≡ length (sideBytes Left tags leftNumbers leftEnds leftItems)
+      + length (sideBytes Right tags rightNumbers rightEnds rightItems)
   unfolding fileBytes
   file-size = length-append (sideBytes Left tags leftNumbers leftEnds leftItems) _
 
@@ -81,7 +83,8 @@ module _ (tags leftNumbers leftEnds leftItems rightNumbers rightEnds rightItems 
       (sideBytes Right tags rightNumbers rightEnds rightItems) left n) in
       e₂ ∙ rw e₁ (sym both ∙ sets-front whole file room)
 
-  pub sides-size : (left right : ℕ) → GoodSide tags leftNumbers leftEnds leftItems → GoodSide tags rightNumbers rightEnds rightItems
+  pub sides-size : (left right : ℕ) → GoodSide tags leftNumbers leftEnds leftItems
+      → GoodSide tags rightNumbers rightEnds rightItems
       → left ≡ headLength * length leftEnds + tagLength * entries leftEnds
       → right ≡ headLength * length rightEnds + tagLength * entries rightEnds
       → length (fileBytes tags leftNumbers leftEnds leftItems rightNumbers rightEnds rightItems) ≡ left + right
@@ -112,7 +115,8 @@ module _ (T : ℕ) (tags leftNumbers leftEnds leftItems rightNumbers rightEnds r
   answer-table h ne = rw (le-leb T maxItems h, ne-eqb (length tags) (tagLength * T) ne)
 
   module _ (h : T ≤ maxItems) (e : length tags ≡ tagLength * T) where
-    pub answer-left : (place : ℕ) → sideVerdict T leftNumbers leftEnds leftItems ≡ Bad place → Refused (BadSet Left place) ≡ answer
+    pub answer-left : (place : ℕ) → sideVerdict T leftNumbers leftEnds leftItems ≡ Bad place
+        → Refused (BadSet Left place) ≡ answer
     unfolding writeAnswer
     answer-left place bad = rw (le-leb T maxItems h, eq-eqb (length tags) (tagLength * T) e, bad)
 

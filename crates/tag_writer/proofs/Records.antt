@@ -1,14 +1,13 @@
 -- Laws of records as bytes: marks, the tags of a set one after the other, and the lengths.
 use mathlib.Core.Path.{_≡_, refl}
-use Prim.Native.Nat.{ℕ, zero, suc, _+_, _*_, _/_, _%_, _≤_, _<_}
+use Prim.Native.Nat.{ℕ, _+_, _*_, _/_, _%_, _≤_, _<_}
 use mathlib.Core.List.{List, [], _∷_, _++_}
-use native.Mathlib.Omega.{arith}
-use lib.ListN.{length, take, drop, getD, length-append, length-map}
+use lib.ListN.{length, take, drop, getD, length-map}
 use Rattle.sets.specs.Collections.{between}
 use Rattle.sets.proofs.Between.{between-cons}
 use Rattle.sets.specs.declared.Side.{Side}
 use Rattle.sets.specs.declared.Side.the-variants.{Left, Right}
-use Rattle.tag_file.specs.Format.{tagLength, headLength, bytesOf, tagBytes, mark}
+use Rattle.tag_file.specs.Format.{tagLength, headLength, tagBytes, mark}
 use Rattle.tag_writer.specs.Writer.{tagOf, tagsOf}
 use Rattle.tag_file.proofs.Bytes.{bytesOf-tagAt}
 
@@ -23,17 +22,6 @@ mark-bytes Right = refl
 pub length-head : (side : Side) (number count : ℕ) → length (headOf side number count) ≡ headLength
 length-head Left number count = refl
 length-head Right number count = refl
-
-pub length-bytesOf : (n v : ℕ) → length (bytesOf n v) ≡ n
-unfolding bytesOf
-length-bytesOf zero v = refl
-length-bytesOf (suc n) v = rw (length-append, length-bytesOf n (v / 256)) (omega arith)
-
-pub length-tagBytes : (tags : List ℕ) → length (tagBytes tags) ≡ tagLength * length tags
-unfolding tagBytes
-length-tagBytes [] = refl
-length-tagBytes (tag ∷ tags) =
-    rw (length-append, length-bytesOf tagLength tag, length-tagBytes tags) (omega arith)
 
 pub length-tagsOf : (tags set : List ℕ) → length (tagsOf tags set) ≡ length set
 length-tagsOf tags set = length-map set (tagOf tags)

@@ -15,12 +15,14 @@ use Rattle.sets.specs.declared.Verdict.the-variants.{Good}
 use Rattle.sets.proofs.Between.{length-between}
 use Rattle.sets.proofs.Good.{GoodSet, good-cons, good-rest}
 use Rattle.tag_file.specs.Format.{tagLength, headLength, recordBytes}
+use Rattle.tag_file.proofs.ItemCount.{length-tagBytes}
 use Rattle.tag_writer.specs.Room.{ItemsFit}
 use Rattle.tag_writer.specs.Writer.{tagsOf, recordsOf}
-use Rattle.tag_writer.proofs.Records.{length-head, length-tagsOf, length-tagBytes}
+use Rattle.tag_writer.proofs.Records.{length-head, length-tagsOf}
 
 -- the item at a place of a set that is not bad is below the number of tags
-item-below : (T k start end : ℕ) (items : List ℕ) → GoodSet T k start end items → (i : ℕ) → start ≤ i → i < end → getD items i 0 < T
+item-below : (T k start end : ℕ) (items : List ℕ) → GoodSet T k start end items → (i : ℕ) → start ≤ i → i < end
+    → getD items i 0 < T
 item-below T k start end items so i above below =
     let n = length-between start end items (so .within) in
     let place : start + (i - start) ≡ i = omega arith in

@@ -65,8 +65,8 @@ same-length c = search needs
 
 returns : tie.Need-returns
 returns c =
-    head-stores (c .before .before .before .args .side) _ _ _ _ _ _ (c .before .before .before .pre) (c .before .first-mark .ensures)
-    (c .second-mark .ensures)
+    let start = c .before .before .before in
+    head-stores (start .args .side) _ _ _ _ _ _ (start .pre) (c .before .first-mark .ensures) (c .second-mark .ensures)
 
 pub put-head-spec : {M : Type 1} → statement M
 put-head-spec =

@@ -17,7 +17,8 @@ length-four : (tags : List ℕ) (from : ℕ) → from + 4 ≤ length tags → le
 length-four tags from whole = simp (length-take, length-drop) (omega arith)
 
 put-fours : (tags : List ℕ) (from : ℕ) (file : List ℕ) (at : ℕ) → from + tagLength ≤ length tags → at + tagLength ≤ length file
-    → sets (sets (sets file at (take 4 (drop from tags))) (at + 4) (take 4 (drop (from + 4) tags))) (at + 8) (take 4 (drop (from + 8) tags))
+    → sets (sets (sets file at (take 4 (drop from tags))) (at + 4) (take 4 (drop (from + 4) tags))) (at + 8)
+    (take 4 (drop (from + 8) tags))
     ≡ sets file at (take tagLength (drop from tags))
 put-fours tags from file at whole room =
     let a = take 4 (drop from tags) in
@@ -61,11 +62,12 @@ returns c =
     let second = third .before .before .before .before in
     let first = second .before .before .before .before in
     let start = first .before .before .before .before in
-    let four : ℕ → List ℕ = λ k. take 4 (drop (start .args .from + k) (start .args .tags .now)) in
+    let a = start .args in
+    let four : ℕ → List ℕ = λ k. take 4 (drop (a .from + k) (a .tags .now)) in
     third .put-four3 .ensures
-    ∙ ap (λ (l : List ℕ). sets l (start .args .at + 8) (four 8))
-    (second .put-four2 .ensures ∙ ap (λ (l : List ℕ). sets l (start .args .at + 4) (four 4)) (first .put-four .ensures))
-    ∙ put-fours (start .args .tags .now) (start .args .from) (start .args .file .now) (start .args .at) (start .pre .0) (start .pre .1)
+    ∙ ap (λ (l : List ℕ). sets l (a .at + 8) (four 8))
+    (second .put-four2 .ensures ∙ ap (λ (l : List ℕ). sets l (a .at + 4) (four 4)) (first .put-four .ensures))
+    ∙ put-fours (a .tags .now) (a .from) (a .file .now) (a .at) (start .pre .0) (start .pre .1)
 
 pub put-tag-spec : {M : Type 1} → statement M
 put-tag-spec =

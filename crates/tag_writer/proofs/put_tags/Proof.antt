@@ -84,7 +84,8 @@ put-tag-requires c κs =
     let test = c .before .before in
     let entry = test .before .before .before .before .before in
     let so = test .before .loop .inv in
-    (entry .pre .0 .known _ (so .above) (test .loop-test .taken), omega (arith, so .long, so .place, entry .pre .1, test .loop-test .taken))
+    let more = test .loop-test .taken in
+    (entry .pre .0 .known _ (so .above) more, omega (arith, so .long, so .place, entry .pre .1, more))
 
 add-to : tie.Need-add-to Inv-loop μ-loop
 add-to c = omega arith
@@ -99,7 +100,8 @@ loop-again : tie.Need-loop-again Inv-loop μ-loop
 loop-again c =
     let test = c .before .before .before .before .before in
     let bytes = test .before .before .before .before in
-    copying-step _ _ _ _ _ _ _ _ _ _ (bytes .before .pre .0) (bytes .before .pre .1) (λ k. bytes .shared-slice-known .given k .fits)
+    let entry = bytes .before in
+    copying-step _ _ _ _ _ _ _ _ _ _ (entry .pre .0) (entry .pre .1) (λ k. bytes .shared-slice-known .given k .fits)
     (test .loop-test .taken) (test .before .loop .inv) (c .before .before .put-tag .ensures)
 
 same-length : tie.Need-same-length Inv-loop μ-loop

@@ -30,7 +30,8 @@ more-numbers numbers ends ne h =
 -- the side's verdict where the first bad set is known
 by-numbers : (T : ℕ) (numbers ends items : List ℕ) (first rest : Verdict) → first ≡ Good → first ≡ firstBad T ends items
     → numbersVerdict numbers ends ≡ rest → rest ≡ sideVerdict T numbers ends items
-by-numbers T numbers ends items first rest told e h = sym h ∙ ap (λ (v : Verdict). andThen v (numbersVerdict numbers ends)) (sym told ∙ e)
+by-numbers T numbers ends items first rest told e h =
+    sym h ∙ ap (λ (v : Verdict). andThen v (numbersVerdict numbers ends)) (sym told ∙ e)
 
 first-bad-requires : tie.Need-first-bad-requires
 first-bad-requires c κs = search needs
@@ -45,17 +46,21 @@ returns : tie.Need-returns
 returns c =
     let told = c .before in
     let first = told .before .before in
-    let numbers = first .before .before .before .before .args .numbers .now in
-    let ends = first .before .before .before .before .args .ends .now in
-    by-numbers _ numbers ends _ _ _ (told .enum-told .given .1) (first .first-bad .ensures) (same-lengths numbers ends (c .if1 .taken))
+    let a = first .before .before .before .before .args in
+    let numbers = a .numbers .now in
+    let ends = a .ends .now in
+    by-numbers _ numbers ends _ _ _ (told .enum-told .given .1) (first .first-bad .ensures)
+    (same-lengths numbers ends (c .if1 .taken))
 
 returns-2 : tie.Need-returns-2
 returns-2 c =
     let told = c .before .before in
     let first = told .before .before in
-    let numbers = first .before .before .before .before .args .numbers .now in
-    let ends = first .before .before .before .before .args .ends .now in
-    by-numbers _ numbers ends _ _ _ (told .enum-told .given .1) (first .first-bad .ensures) (fewer-numbers numbers ends (c .if2 .taken))
+    let a = first .before .before .before .before .args in
+    let numbers = a .numbers .now in
+    let ends = a .ends .now in
+    by-numbers _ numbers ends _ _ _ (told .enum-told .given .1) (first .first-bad .ensures)
+    (fewer-numbers numbers ends (c .if2 .taken))
 
 returns-3 : tie.Need-returns-3
 returns-3 c =
@@ -68,9 +73,11 @@ returns-4 : tie.Need-returns-4
 returns-4 c =
     let told = c .before .before in
     let first = told .before .before in
-    let numbers = first .before .before .before .before .args .numbers .now in
-    let ends = first .before .before .before .before .args .ends .now in
-    by-numbers _ numbers ends _ _ _ (told .enum-told .given .1) (first .first-bad .ensures) (more-numbers numbers ends (c .before .if1 .left) (c .if2 .left))
+    let a = first .before .before .before .before .args in
+    let numbers = a .numbers .now in
+    let ends = a .ends .now in
+    by-numbers _ numbers ends _ _ _ (told .enum-told .given .1) (first .first-bad .ensures)
+    (more-numbers numbers ends (c .before .if1 .left) (c .if2 .left))
 
 pub side-verdict-spec : {M : Type 1} → statement M
 side-verdict-spec =

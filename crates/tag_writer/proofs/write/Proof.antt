@@ -1,6 +1,7 @@
 -- `write` meets its contract: each test that refuses is a case of the answer, in the answer's order.
 use mathlib.Core.Path.{refl, sym, _∙_}
-use Rattle.tag_writer.proofs.Answers.{good-side, answer-items, answer-table, answer-left, answer-right, answer-good, file-of}
+use Rattle.tag_writer.proofs.Answers.{good-side, answer-items, answer-table, answer-left, answer-right, answer-good}
+use Rattle.tag_writer.proofs.Answers.{file-of}
 use borrow.Author.Needs.{needs}
 use Rattle.tag_writer.proofs.write.Statement.{statement}
 use Rattle.tag_writer.proofs.write.Tie as tie
@@ -63,7 +64,8 @@ returns-5 c =
     let told = wrote .before .before .before .before .before in
     let tested = told .before .before .before in
     let left = sym (told .before .before .side-verdict .ensures) ∙ told .enum-told .given .1 in
-    let right = sym (wrote .before .before .before .before .side-verdict2 .ensures) ∙ wrote .before .before .enum-told2 .given .1 in
+    let right = sym (wrote .before .before .before .before .side-verdict2 .ensures)
+    ∙ wrote .before .before .enum-told2 .given .1 in
     let good = answer-good _ _ _ _ _ _ _ _ _ (tested .before .if1 .left) (tested .if2 .left) left right in
     file-of _ _ _ _ _ (wrote .write-good .ensures .0 ∙ good) (wrote .write-good .ensures .1)
 

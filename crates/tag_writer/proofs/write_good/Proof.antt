@@ -59,13 +59,14 @@ put-side-requires c κs =
 
 put-side-requires-2 : tie.Need-put-side-requires-2
 put-side-requires-2 c κs =
-    let sizes = c .before .before .before .before .before .before in
+    let first = c .before .before .before in
+    let sizes = first .before .before .before in
     let entry = sizes .before .before .before .before .before .before .before .before .before .before in
     let a = entry .args in
     let e₁ = sizes .before .side-length .ensures in
     let e₂ = sizes .side-length2 .ensures in
     let n = side-size _ _ _ _ (entry .pre .1) Right in
-    (entry .pre .1, omega (arith, n, c .before .before .before .put-side .kept, c .before .before .before .before .before .if1 .left))
+    (entry .pre .1, omega (arith, n, first .put-side .kept, first .before .before .if1 .left))
 
 add-t11 : tie.Need-add-t11
 add-t11 c = search needs
