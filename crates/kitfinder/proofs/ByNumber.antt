@@ -26,7 +26,8 @@ rule-check number weights n e =
     (ap (λ (b : Bool). cond b Merge (cond (eqb number 1) Check (Weighed weights))) (ne-eqb number 0 n)
     ∙ ap (λ (b : Bool). cond b Check (Weighed weights)) (eq-eqb number 1 e))
 
-pub rule-weighed : (number : ℕ) (weights : Weights) → (number ≡ 0 → ⊥) → (number ≡ 1 → ⊥) → Weighed weights ≡ ruleOf number weights
+pub rule-weighed : (number : ℕ) (weights : Weights) → (number ≡ 0 → ⊥) → (number ≡ 1 → ⊥)
+    → Weighed weights ≡ ruleOf number weights
 rule-weighed number weights n e =
     sym
     (ap (λ (b : Bool). cond b Merge (cond (eqb number 1) Check (Weighed weights))) (ne-eqb number 0 n)
@@ -41,7 +42,8 @@ module _ (t : ℕ) (leftEnds leftItems rightEnds rightItems : List ℕ) (limit :
       (joinAnswer t leftEnds leftItems rightEnds rightItems limit ranks budget (ruleOf number weights) words room)
 
   pub number-above : 2 < number
-      → Refused BadSettings ≡ numberedAnswer t leftEnds leftItems rightEnds rightItems limit ranks budget number weights words room
+      → Refused BadSettings
+      ≡ numberedAnswer t leftEnds leftItems rightEnds rightItems limit ranks budget number weights words room
   unfolding numberedAnswer by-test
   number-above above = sym (ap by-test (lt-ltb 2 number above))
 

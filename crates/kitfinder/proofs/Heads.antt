@@ -7,7 +7,8 @@ use Rattle.sets.specs.Refusals.{number, detail}
 use Rattle.sets.specs.declared.Refusal.{Refusal}
 use Rattle.kitfinder.specs.Words.{refusedWords}
 
-pub refused-words : (why : Refusal) (values : ℕ) {n a b : ℕ} → n ≡ number why → a ≡ getD (detail why) 0 0 → b ≡ getD (detail why) 1 0
+pub refused-words : (why : Refusal) (values : ℕ) {n a b : ℕ} → n ≡ number why → a ≡ getD (detail why) 0 0
+    → b ≡ getD (detail why) 1 0
     → n ∷ a ∷ b ∷ replicate values 0 ≡ refusedWords why values
 refused-words why values {n} {a} {b} en ea eb =
     ap (λ (x : ℕ). x ∷ a ∷ b ∷ replicate values 0) en

@@ -1,5 +1,5 @@
--- The join's rule as a number at the C boundary: 0 Merge, 1 Check, 2 Weighed with four weights. A greater number is refused with 6,
--- before anything else is tested.
+-- The join's rule as a number at the C boundary: 0 Merge, 1 Check, 2 Weighed with four weights. A greater number is refused
+-- with 6, before anything else is tested.
 use Prim.Native.Nat.{ℕ}
 use mathlib.Core.List.{List}
 use mathlib.Core.Bool.{cond}

@@ -219,8 +219,8 @@ fn join_numbered(
     work: &mut [u32],
     pairs: &mut [u16],
 ) -> JoinAnswer
-    ensures answer { λ r. ⌜ r ≡ numberedAnswer t (now («left_ends» .entry)) (now («left_items» .entry)) (now («right_ends» .entry))
-        (now («right_items» .entry)) limit (now (ranks .entry)) budget number
+    ensures answer { λ r. ⌜ r ≡ numberedAnswer t (now («left_ends» .entry)) (now («left_items» .entry))
+        (now («right_ends» .entry)) (now («right_items» .entry)) limit (now (ranks .entry)) budget number
         weights (length (now (work .entry))) (length (now (pairs .entry))) ⌝ }
     ensures pairs { λ r. ⌜ now (pairs .exit) ≡ pairsAfter r
         (pairList (setsOf (now («left_ends» .entry)) (now («left_items» .entry)))
@@ -267,17 +267,20 @@ pub extern "C" fn kitfinder_join(
     pairs: &mut [u16],
     answer: &mut [u64; 9],
 )
-    ensures answer { λ _. ⌜ now (answer .exit) ≡ joinWords (numberedAnswer t (now («left_ends» .entry)) (now («left_items» .entry)) (now («right_ends» .entry))
-        (now («right_items» .entry)) limit (now (ranks .entry)) budget number
+    ensures answer { λ _. ⌜ now (answer .exit) ≡ joinWords
+        (numberedAnswer t (now («left_ends» .entry)) (now («left_items» .entry))
+        (now («right_ends» .entry)) (now («right_items» .entry)) limit (now (ranks .entry)) budget number
         (weightsOf a b g h) (length (now (work .entry))) (length (now (pairs .entry)))) ⌝ }
-    ensures pairs { λ _. ⌜ now (pairs .exit) ≡ pairsAfter (numberedAnswer t (now («left_ends» .entry)) (now («left_items» .entry)) (now («right_ends» .entry))
-        (now («right_items» .entry)) limit (now (ranks .entry)) budget number
+    ensures pairs { λ _. ⌜ now (pairs .exit) ≡ pairsAfter
+        (numberedAnswer t (now («left_ends» .entry)) (now («left_items» .entry))
+        (now («right_ends» .entry)) (now («right_items» .entry)) limit (now (ranks .entry)) budget number
         (weightsOf a b g h) (length (now (work .entry))) (length (now (pairs .entry))))
         (pairList (setsOf (now («left_ends» .entry)) (now («left_items» .entry)))
         (setsOf (now («right_ends» .entry)) (now («right_items» .entry)))) (now (pairs .entry)) ⌝ }
     ensures work_size { λ _. ⌜ length (now (work .exit)) ≡ length (now (work .entry)) ⌝ }
-    ensures work_kept { λ _. ⌜ (workKept (numberedAnswer t (now («left_ends» .entry)) (now («left_items» .entry)) (now («right_ends» .entry))
-        (now («right_items» .entry)) limit (now (ranks .entry)) budget number
+    ensures work_kept { λ _. ⌜ (workKept
+        (numberedAnswer t (now («left_ends» .entry)) (now («left_items» .entry))
+        (now («right_ends» .entry)) (now («right_items» .entry)) limit (now (ranks .entry)) budget number
         (weightsOf a b g h) (length (now (work .entry))) (length (now (pairs .entry)))) ≡ true
         → now (work .exit) ≡ now (work .entry)) ⌝ }
 {
@@ -319,8 +322,8 @@ pub extern "C" fn kitfinder_order(
     answer: &mut [u64; 3],
 )
     ensures answer { λ _. ⌜ now (answer .exit) ≡ orderWords
-        (orderAnswer t (now («left_ends» .entry)) (now («left_items» .entry)) (now («right_ends» .entry)) (now («right_items» .entry))
-        (now (ranks .entry))) ⌝ }
+        (orderAnswer t (now («left_ends» .entry)) (now («left_items» .entry))
+        (now («right_ends» .entry)) (now («right_items» .entry)) (now (ranks .entry))) ⌝ }
     ensures ranks { λ _. ⌜ now (ranks .exit) ≡ orderRanks t (now («left_ends» .entry)) (now («left_items» .entry))
         (now («right_ends» .entry)) (now («right_items» .entry)) (not (eqb falling 0)) (now (ranks .entry)) ⌝ }
 {
@@ -348,30 +351,30 @@ pub extern "C" fn kitfinder_load(
     right_items: &mut [u16],
     answer: &mut [u64; 8],
 )
-    ensures answer { λ _. ⌜ now (answer .exit) ≡ loadWords (loadAnswer (now (file .entry)) (listsOf (now (tags .entry))
-        (now («left_numbers» .entry)) (now («left_ends» .entry)) (now («left_items» .entry)) (now («right_numbers» .entry))
-        (now («right_ends» .entry)) (now («right_items» .entry)))) ⌝ }
-    ensures tags { λ _. ⌜ now (tags .exit) ≡ loadedList (λ l. l .tags) (now (file .entry)) (listsOf (now (tags .entry))
-        (now («left_numbers» .entry)) (now («left_ends» .entry)) (now («left_items» .entry)) (now («right_numbers» .entry))
-        (now («right_ends» .entry)) (now («right_items» .entry))) ⌝ }
-    ensures left_numbers { λ _. ⌜ now («left_numbers» .exit) ≡ loadedList (λ l. l .leftNumbers) (now (file .entry)) (listsOf (now (tags .entry))
-        (now («left_numbers» .entry)) (now («left_ends» .entry)) (now («left_items» .entry)) (now («right_numbers» .entry))
-        (now («right_ends» .entry)) (now («right_items» .entry))) ⌝ }
-    ensures left_ends { λ _. ⌜ now («left_ends» .exit) ≡ loadedList (λ l. l .leftEnds) (now (file .entry)) (listsOf (now (tags .entry))
-        (now («left_numbers» .entry)) (now («left_ends» .entry)) (now («left_items» .entry)) (now («right_numbers» .entry))
-        (now («right_ends» .entry)) (now («right_items» .entry))) ⌝ }
-    ensures left_items { λ _. ⌜ now («left_items» .exit) ≡ loadedList (λ l. l .leftItems) (now (file .entry)) (listsOf (now (tags .entry))
-        (now («left_numbers» .entry)) (now («left_ends» .entry)) (now («left_items» .entry)) (now («right_numbers» .entry))
-        (now («right_ends» .entry)) (now («right_items» .entry))) ⌝ }
-    ensures right_numbers { λ _. ⌜ now («right_numbers» .exit) ≡ loadedList (λ l. l .rightNumbers) (now (file .entry)) (listsOf (now (tags .entry))
-        (now («left_numbers» .entry)) (now («left_ends» .entry)) (now («left_items» .entry)) (now («right_numbers» .entry))
-        (now («right_ends» .entry)) (now («right_items» .entry))) ⌝ }
-    ensures right_ends { λ _. ⌜ now («right_ends» .exit) ≡ loadedList (λ l. l .rightEnds) (now (file .entry)) (listsOf (now (tags .entry))
-        (now («left_numbers» .entry)) (now («left_ends» .entry)) (now («left_items» .entry)) (now («right_numbers» .entry))
-        (now («right_ends» .entry)) (now («right_items» .entry))) ⌝ }
-    ensures right_items { λ _. ⌜ now («right_items» .exit) ≡ loadedList (λ l. l .rightItems) (now (file .entry)) (listsOf (now (tags .entry))
-        (now («left_numbers» .entry)) (now («left_ends» .entry)) (now («left_items» .entry)) (now («right_numbers» .entry))
-        (now («right_ends» .entry)) (now («right_items» .entry))) ⌝ }
+    ensures answer { λ _. ⌜ now (answer .exit) ≡ loadWords (loadAnswer (now (file .entry))
+        (listsOf (now (tags .entry)) (now («left_numbers» .entry)) (now («left_ends» .entry)) (now («left_items» .entry))
+        (now («right_numbers» .entry)) (now («right_ends» .entry)) (now («right_items» .entry)))) ⌝ }
+    ensures tags { λ _. ⌜ now (tags .exit) ≡ loadedList (λ l. l .tags) (now (file .entry))
+        (listsOf (now (tags .entry)) (now («left_numbers» .entry)) (now («left_ends» .entry)) (now («left_items» .entry))
+        (now («right_numbers» .entry)) (now («right_ends» .entry)) (now («right_items» .entry))) ⌝ }
+    ensures left_numbers { λ _. ⌜ now («left_numbers» .exit) ≡ loadedList (λ l. l .leftNumbers) (now (file .entry))
+        (listsOf (now (tags .entry)) (now («left_numbers» .entry)) (now («left_ends» .entry)) (now («left_items» .entry))
+        (now («right_numbers» .entry)) (now («right_ends» .entry)) (now («right_items» .entry))) ⌝ }
+    ensures left_ends { λ _. ⌜ now («left_ends» .exit) ≡ loadedList (λ l. l .leftEnds) (now (file .entry))
+        (listsOf (now (tags .entry)) (now («left_numbers» .entry)) (now («left_ends» .entry)) (now («left_items» .entry))
+        (now («right_numbers» .entry)) (now («right_ends» .entry)) (now («right_items» .entry))) ⌝ }
+    ensures left_items { λ _. ⌜ now («left_items» .exit) ≡ loadedList (λ l. l .leftItems) (now (file .entry))
+        (listsOf (now (tags .entry)) (now («left_numbers» .entry)) (now («left_ends» .entry)) (now («left_items» .entry))
+        (now («right_numbers» .entry)) (now («right_ends» .entry)) (now («right_items» .entry))) ⌝ }
+    ensures right_numbers { λ _. ⌜ now («right_numbers» .exit) ≡ loadedList (λ l. l .rightNumbers) (now (file .entry))
+        (listsOf (now (tags .entry)) (now («left_numbers» .entry)) (now («left_ends» .entry)) (now («left_items» .entry))
+        (now («right_numbers» .entry)) (now («right_ends» .entry)) (now («right_items» .entry))) ⌝ }
+    ensures right_ends { λ _. ⌜ now («right_ends» .exit) ≡ loadedList (λ l. l .rightEnds) (now (file .entry))
+        (listsOf (now (tags .entry)) (now («left_numbers» .entry)) (now («left_ends» .entry)) (now («left_items» .entry))
+        (now («right_numbers» .entry)) (now («right_ends» .entry)) (now («right_items» .entry))) ⌝ }
+    ensures right_items { λ _. ⌜ now («right_items» .exit) ≡ loadedList (λ l. l .rightItems) (now (file .entry))
+        (listsOf (now (tags .entry)) (now («left_numbers» .entry)) (now («left_ends» .entry)) (now («left_items» .entry))
+        (now («right_numbers» .entry)) (now («right_ends» .entry)) (now («right_items» .entry))) ⌝ }
 {
     *answer = load_words(tag_loader::load(
         file,

@@ -9,8 +9,8 @@ use Rattle.kitfinder.proofs.join_numbered.Tie as tie
 returns : tie.Need-returns
 returns c =
     let a = c .before .before .before .before .before .before .before .before .args in (
-      number-above (a .t) (a .left-ends .now) (a .left-items .now) (a .right-ends .now) (a .right-items .now) (a .limit) (a .ranks .now) (a .budget) (a .number)
-          (a .weights) (length (a .work .now)) (length (a .pairs .now)) (c .if1 .taken),
+      number-above (a .t) (a .left-ends .now) (a .left-items .now) (a .right-ends .now) (a .right-items .now) (a .limit)
+          (a .ranks .now) (a .budget) (a .number) (a .weights) (length (a .work .now)) (length (a .pairs .now)) (c .if1 .taken),
       (refl, (refl, λ _. refl)),
     )
 
@@ -28,12 +28,15 @@ same-length-2 c = search needs
 
 returns-2 : tie.Need-returns-2
 returns-2 c =
-    let a = c .before .before .before .before .before .before .before .before .before .before .before .before .before .before .before .before .args in
-    let given = c .before .before .before .before .run .ensures in
-    let ruled = c .before .before .before .before .before .before .before .rule-of .ensures in
-    let within = c .before .before .before .before .before .before .before .before .if1 .left in (
-      given .0 ∙ number-within (a .t) (a .left-ends .now) (a .left-items .now) (a .right-ends .now) (a .right-items .now) (a .limit) (a .ranks .now) (a .budget) (a .number)
-          (a .weights) (length (a .work .now)) (length (a .pairs .now)) _ within ruled,
+    let joined = c .before .before .before .before in
+    let ruled = joined .before .before .before in
+    let test = ruled .before in
+    let a = test .before .before .before .before .before .before .before .before .args in
+    let given = joined .run .ensures in (
+      given .0
+          ∙ number-within (a .t) (a .left-ends .now) (a .left-items .now) (a .right-ends .now) (a .right-items .now) (a .limit)
+          (a .ranks .now) (a .budget) (a .number) (a .weights) (length (a .work .now)) (length (a .pairs .now)) _
+          (test .if1 .left) (ruled .rule-of .ensures),
       given .1,
     )
 

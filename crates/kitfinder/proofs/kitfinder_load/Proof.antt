@@ -35,7 +35,9 @@ same-length-7 c = search needs
 
 returns : tie.Need-returns
 returns c =
-    let given = c .before .before .before .before .before .before .before .before .before .before .before .before .before .before .before .load .ensures in
+    let loaded =
+    c .before .before .before .before .before .before .before .before .before .before .before .before .before .before .before in
+    let given = loaded .load .ensures in
     let e = given .0 in
     let l1 = list-after _ _ e (given .1 .0) in
     let l2 = list-after _ _ e (given .1 .1 .0) in

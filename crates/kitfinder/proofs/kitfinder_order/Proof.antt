@@ -15,10 +15,9 @@ same-length : tie.Need-same-length
 same-length c = search needs
 
 returns : tie.Need-returns
-returns c = (
-  c .order-words .ensures ∙ ap orderWords (c .before .before .before .order .ensures .0),
-  c .before .before .before .order .ensures .1,
-)
+returns c =
+    let given = c .before .before .before .order .ensures in
+    (c .order-words .ensures ∙ ap orderWords (given .0), given .1)
 
 pub kitfinder-order-spec : {M : Type 1} → statement M
 kitfinder-order-spec = tie.close (tie.spec order-requires order-words-requires same-length returns)

@@ -15,10 +15,9 @@ same-length : tie.Need-same-length
 same-length c = search needs
 
 returns : tie.Need-returns
-returns c = (
-  c .write-words .ensures ∙ ap writeWords (c .before .before .before .write .ensures .0),
-  c .before .before .before .write .ensures .1,
-)
+returns c =
+    let given = c .before .before .before .write .ensures in
+    (c .write-words .ensures ∙ ap writeWords (given .0), given .1)
 
 pub kitfinder-write-spec : {M : Type 1} → statement M
 kitfinder-write-spec = tie.close (tie.spec write-requires write-words-requires same-length returns)
