@@ -2,7 +2,7 @@
 use Prim.Native.Nat.{ℕ, _≤_}
 use mathlib.Core.Path.{_≡_, refl, subst, ap}
 use mathlib.Core.List.{List}
-use mathlib.Core.Bool.{Bool, true, false, cond}
+use mathlib.Core.Bool.{Bool, true, false, cond, _&&_}
 use mathlib.Core.Option.{Option, none, some}
 use native.Mathlib.Omega.{arith}
 use lib.ListN.{length}
@@ -19,7 +19,6 @@ use Rattle.tag_file.specs.Loading.{fileFault, filled, roomFor, holds, countsOf,
 use Rattle.tag_file.proofs.ItemCount.{length-tagBytes, length-numbersOf, length-endsOf}
 use Rattle.kitlist.specs.Places.{Within}
 
--- an answer that loads: no fault, room, and the counts of the records
 loaded-counts : (a b : Loaded) → load.Loaded a ≡ load.Loaded b → a ≡ b
 loaded-counts a b e = ap only e
   where
@@ -27,14 +26,21 @@ loaded-counts a b e = ap only e
     only (load.Loaded counts) = counts
     only (load.Refused why) = a
 
+-- an answer that loads: no fault, room, and the counts of the records
 passed : (fault : Option Refusal) (room : Bool) (counts loaded : Loaded)
-    → unless fault (cond room (load.Loaded counts) (load.Refused ShortOutput)) ≡ load.Loaded loaded → (room ≡ true) × (counts ≡ loaded)
+    → unless fault (cond room (load.Loaded counts) (load.Refused ShortOutput)) ≡ load.Loaded loaded
+    → (room ≡ true) × (counts ≡ loaded)
 passed none true counts loaded e = (refl, loaded-counts counts loaded e)
 passed none false counts loaded e = let z : _≡_ {A = ℕ} 0 1 = cc in absurd (omega arith)
 passed (some why) room counts loaded e = let z : _≡_ {A = ℕ} 0 1 = cc in absurd (omega arith)
 
+-- the first of several lists has room
+held : (part lent : List ℕ) (others : Bool) → (holds part lent && others) ≡ true → length part ≤ length lent
+held part lent others t = leb-true (length part) (length lent) (and-left (holds part lent) others t)
+
 module _ (file tags leftNumbers leftEnds leftItems rightNumbers rightEnds rightItems ranks : List ℕ) (loaded : Loaded)
-    (e : loadAnswer file (listsOf tags leftNumbers leftEnds leftItems rightNumbers rightEnds rightItems) ≡ load.Loaded loaded) where
+    (e : loadAnswer file (listsOf tags leftNumbers leftEnds leftItems rightNumbers rightEnds rightItems)
+    ≡ load.Loaded loaded) where
   both : (roomFor (filled (records file)) (listsOf tags leftNumbers leftEnds leftItems rightNumbers rightEnds rightItems) ≡ true)
       × (countsOf (records file) ≡ loaded)
   unfolding loadAnswer
@@ -51,11 +57,11 @@ module _ (file tags leftNumbers leftEnds leftItems rightNumbers rightEnds rightI
       let t3 = and-right (holds (f .leftEnds) leftEnds) _ t2 in
       let t4 = and-right (holds (f .leftItems) leftItems) _ t3 in
       let t5 = and-right (holds (f .rightNumbers) rightNumbers) _ t4 in
-      let a : length (f .tags) ≤ length tags = leb-true (length (f .tags)) (length tags) (and-left (holds (f .tags) tags) _ t) in
-      let b : length (f .leftNumbers) ≤ length leftNumbers = leb-true (length (f .leftNumbers)) (length leftNumbers) (and-left (holds (f .leftNumbers) leftNumbers) _ t1) in
-      let c : length (f .leftEnds) ≤ length leftEnds = leb-true (length (f .leftEnds)) (length leftEnds) (and-left (holds (f .leftEnds) leftEnds) _ t2) in
-      let d : length (f .rightNumbers) ≤ length rightNumbers = leb-true (length (f .rightNumbers)) (length rightNumbers) (and-left (holds (f .rightNumbers) rightNumbers) _ t4) in
-      let g : length (f .rightEnds) ≤ length rightEnds = leb-true (length (f .rightEnds)) (length rightEnds) (and-left (holds (f .rightEnds) rightEnds) _ t5) in
+      let a = held (f .tags) tags _ t in
+      let b = held (f .leftNumbers) leftNumbers _ t1 in
+      let c = held (f .leftEnds) leftEnds _ t2 in
+      let d = held (f .rightNumbers) rightNumbers _ t4 in
+      let g = held (f .rightEnds) rightEnds _ t5 in
       let table = length-tagBytes (tagTable rs) in
       subst (λ (l : Loaded). Within l leftNumbers leftEnds rightNumbers rightEnds ranks) (both .1)
       (record {

@@ -49,8 +49,10 @@ module _ (c : Collections) (s : Settings) (counts : Counts) (joins : answerOf c 
       let counted = pairs-counted c s counts joins in
       omega arith
 
-  pub places-within : (m n : ℕ) (before after : List ℕ) (answer : JoinAnswer) → length (c .leftEnds) ≡ m → length (c .rightEnds) ≡ n
-      → answer ≡ answerOf c s → after ≡ pairsAfter answer (pairsOf c) before → pairsWithin m n (take (2 * counts .pairs) after) ≡ true
+  pub places-within : (m n : ℕ) (before after : List ℕ) (answer : JoinAnswer) → length (c .leftEnds) ≡ m
+      → length (c .rightEnds) ≡ n
+      → answer ≡ answerOf c s → after ≡ pairsAfter answer (pairsOf c) before
+      → pairsWithin m n (take (2 * counts .pairs) after) ≡ true
   places-within m n before after answer left right same is =
       let exit = is ∙ ap (λ (a : JoinAnswer). pairsAfter a (pairsOf c) before) same in
       subst (λ (l : List ℕ). pairsWithin m n l ≡ true)

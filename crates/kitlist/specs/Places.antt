@@ -1,5 +1,5 @@
--- What the inner functions of the program ask of the lists: pairs of places that lie within the lists of record numbers, and room for
--- what was loaded.
+-- What the inner functions of the program ask of the lists: pairs of places that lie within the lists of record numbers, and
+-- room for what was loaded.
 use Prim.Native.Nat.{ℕ, _≤_}
 use mathlib.Core.List.{List, [], _∷_}
 use mathlib.Core.Bool.{Bool, true, false, _&&_}

@@ -243,8 +243,8 @@ fn new_items() -> [u16; 5461]
     [0; 5461]
 }
 
-// Loads a file and lists, or says why there is no list. The lists hold every file of at most 65,536 bytes: such a file has fewer than
-// 5,462 tags, and no more than 4,096 records of a side or distinct tags pass.
+// Loads a file and lists, or says why there is no list. The lists hold every file of at most 65,536 bytes: such a file has fewer
+// than 5,462 tags, and no more than 4,096 records of a side or distinct tags pass.
 fn list_file(file: &[u8]) {
     let mut tags = new_tags();
     let mut left_numbers = new_places();

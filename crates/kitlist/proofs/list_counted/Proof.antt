@@ -9,22 +9,32 @@ cast-list-loaded : tie.Need-cast-list-loaded
 cast-list-loaded c = search needs
 
 slice-aggregate-list-loaded : tie.Need-slice-aggregate-list-loaded
-slice-aggregate-list-loaded c = sym (length-take-le _ _ (c .before .before .before .before .before .before .before .before .pre .left-numbered))
+slice-aggregate-list-loaded c =
+    let within = c .before .before .before .before .before .before .before .before .pre in
+    sym (length-take-le _ _ (within .left-numbered))
 
 slice-aggregate-list-loaded-2 : tie.Need-slice-aggregate-list-loaded-2
-slice-aggregate-list-loaded-2 c = sym (length-take-le _ _ (c .before .before .before .before .before .before .before .before .before .pre .left-ended))
+slice-aggregate-list-loaded-2 c =
+    let within = c .before .before .before .before .before .before .before .before .before .pre in
+    sym (length-take-le _ _ (within .left-ended))
 
 slice-aggregate-list-loaded-3 : tie.Need-slice-aggregate-list-loaded-3
-slice-aggregate-list-loaded-3 c = sym (length-take-le _ _ (c .before .before .before .before .before .before .before .before .before .before .pre .right-numbered))
+slice-aggregate-list-loaded-3 c =
+    let within = c .before .before .before .before .before .before .before .before .before .before .pre in
+    sym (length-take-le _ _ (within .right-numbered))
 
 slice-aggregate-list-loaded-4 : tie.Need-slice-aggregate-list-loaded-4
-slice-aggregate-list-loaded-4 c = sym (length-take-le _ _ (c .before .before .before .before .before .before .before .before .before .before .before .pre .right-ended))
+slice-aggregate-list-loaded-4 c =
+    let within = c .before .before .before .before .before .before .before .before .before .before .before .pre in
+    sym (length-take-le _ _ (within .right-ended))
 
 slice-relend-prefix-list-loaded : tie.Need-slice-relend-prefix-list-loaded
 slice-relend-prefix-list-loaded c = search needs
 
 slice-aggregate-list-loaded-5 : tie.Need-slice-aggregate-list-loaded-5
-slice-aggregate-list-loaded-5 c = sym (length-take-le _ _ (c .before .before .before .before .before .before .before .before .before .before .before .before .pre .ranked))
+slice-aggregate-list-loaded-5 c =
+    let within = c .before .before .before .before .before .before .before .before .before .before .before .before .pre in
+    sym (length-take-le _ _ (within .ranked))
 
 list-loaded-requires : tie.Need-list-loaded-requires
 list-loaded-requires c κs =

@@ -80,8 +80,10 @@ slice-aggregate-list-counted-7 c = search needs
 
 list-counted-requires : tie.Need-list-counted-requires
 list-counted-requires c κs =
-    let at-start = c .before .before .before .before .before .before .before .before .before .before .before .before .before .before .before .before .before .before .before .before .before .before .before .before .before in
-    let load = c .before .before .before .before .before .before .before .before .before .before .before .before .before .before .before .before .before .load in
+    let told = c .before .before .before .before .before .before .before .before in
+    let loaded = told .before .before .before .before .before .before .before .before .before in
+    let at-start = loaded .before .before .before .before .before .before .before .before in
+    let load = loaded .load in
     let ranks = at-start .new-places3 in
     let right-ends = at-start .before .before .new-ends2 in
     let right-numbers = at-start .before .before .before .new-places2 in
@@ -90,7 +92,7 @@ list-counted-requires c κs =
     let tags = at-start .before .before .before .before .before .before .before .new-tags in
     within-kept _ _ _ _ _ _
     (loaded-within _ (tags .result) (left-numbers .result) (left-ends .result) _ (right-numbers .result) (right-ends .result) _
-    (ranks .result) _ (sym (load .ensures .0) ∙ c .before .before .before .before .before .before .before .before .answer .given .1)
+    (ranks .result) _ (sym (load .ensures .0) ∙ told .answer .given .1)
     (omega (arith, tags .ensures)) (omega (arith, ranks .ensures)))
     (load .kept .1 .1 .0) (load .kept .1 .1 .1 .0) (load .kept .1 .1 .1 .1 .1 .0) (load .kept .1 .1 .1 .1 .1 .1 .0)
 

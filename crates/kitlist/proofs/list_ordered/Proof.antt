@@ -1,5 +1,7 @@
 -- `list_ordered` is safe: the filled part of the pair list has whole pairs of places within the two collections.
 use mathlib.Core.Path.{sym, _∙_}
+use mathlib.Core.List.{List}
+use Prim.Native.Nat.{ℕ}
 use native.Mathlib.Omega.{arith}
 use lib.ListN.{length}
 use lib.Seq.{length-take-le}
@@ -9,6 +11,15 @@ use Rattle.kitlist.proofs.PairPlaces.{places-enough, places-within}
 use borrow.Author.Needs.{needs}
 use Rattle.kitlist.proofs.list_ordered.Statement.{statement}
 use Rattle.kitlist.proofs.list_ordered.Tie as tie
+
+-- what is joined, and the join that is asked for
+abbrev joined : ℕ → List ℕ → List ℕ → List ℕ → List ℕ → Collections
+joined t leftEnds leftItems rightEnds rightItems =
+    record { T = t; leftEnds = leftEnds; leftItems = leftItems; rightEnds = rightEnds; rightItems = rightItems }
+
+abbrev asked : List ℕ → ℕ → ℕ → Settings
+asked ranks words room =
+    record { limit = 2; ranks = ranks; budget = 4294967295; rule = Merge; words = words; room = room }
 
 new-work-requires : tie.Need-new-work-requires
 new-work-requires c κs = search needs
@@ -39,42 +50,44 @@ mul-places c = search needs
 
 array-share-prefix-pairs : tie.Need-array-share-prefix-pairs
 array-share-prefix-pairs c =
-    let a = c .before .before .before .before .before .before .before .before .before .before .before .before .before .before .before .before .before .before .before .args in
-    let run = c .before .before .before .before .before .before .before .run in
-    let work = c .before .before .before .before .before .before .before .before .before .before .before .new-work in
-    let lent = c .before .before .before .before .before .before .before .before .before .before .new-pairs in
-    let collections : Collections =
-    record { T = a .t; leftEnds = a .left-ends .now; leftItems = a .left-items .now; rightEnds = a .right-ends .now; rightItems = a .right-items .now } in
-    let settings : Settings =
-    record { limit = 2; ranks = a .ranks .now; budget = 4294967295; rule = Merge; words = length (work .result); room = length (lent .result) } in
-    let joins = sym (run .ensures .0) ∙ c .before .before .before .answer .given .1 in
-    omega (arith, places-enough collections settings _ joins, run .kept .1 .1 .1 .1 .1 .1 .1 .1 .1 .1 .0)
+    let told = c .before .before .before in
+    let run = told .before .before .before .before in
+    let lent = run .before .before .before in
+    let work = lent .before in
+    let start = work .before .before .before .before .before .before .before .before in
+    let a = start .args in
+    let collections = joined (a .t) (a .left-ends .now) (a .left-items .now) (a .right-ends .now) (a .right-items .now) in
+    let settings = asked (a .ranks .now) (length (work .new-work .result)) (length (lent .new-pairs .result)) in
+    let joins = sym (run .run .ensures .0) ∙ told .answer .given .1 in
+    omega (arith, places-enough collections settings _ joins, run .run .kept .1 .1 .1 .1 .1 .1 .1 .1 .1 .1 .0)
 
 slice-aggregate-print-pairs : tie.Need-slice-aggregate-print-pairs
 slice-aggregate-print-pairs c =
-    let a = c .before .before .before .before .before .before .before .before .before .before .before .before .before .before .before .before .before .before .before .before .args in
-    let run = c .before .before .before .before .before .before .before .before .run in
-    let work = c .before .before .before .before .before .before .before .before .before .before .before .before .new-work in
-    let lent = c .before .before .before .before .before .before .before .before .before .before .before .new-pairs in
-    let collections : Collections =
-    record { T = a .t; leftEnds = a .left-ends .now; leftItems = a .left-items .now; rightEnds = a .right-ends .now; rightItems = a .right-items .now } in
-    let settings : Settings =
-    record { limit = 2; ranks = a .ranks .now; budget = 4294967295; rule = Merge; words = length (work .result); room = length (lent .result) } in
-    let joins = sym (run .ensures .0) ∙ c .before .before .before .before .answer .given .1 in
-    sym (length-take-le _ _ (omega (arith, places-enough collections settings _ joins, run .kept .1 .1 .1 .1 .1 .1 .1 .1 .1 .1 .0)))
+    let told = c .before .before .before .before in
+    let run = told .before .before .before .before in
+    let lent = run .before .before .before in
+    let work = lent .before in
+    let start = work .before .before .before .before .before .before .before .before in
+    let a = start .args in
+    let collections = joined (a .t) (a .left-ends .now) (a .left-items .now) (a .right-ends .now) (a .right-items .now) in
+    let settings = asked (a .ranks .now) (length (work .new-work .result)) (length (lent .new-pairs .result)) in
+    let joins = sym (run .run .ensures .0) ∙ told .answer .given .1 in
+    let enough = places-enough collections settings _ joins in
+    sym (length-take-le _ _ (omega (arith, enough, run .run .kept .1 .1 .1 .1 .1 .1 .1 .1 .1 .1 .0)))
 
 print-pairs-requires : tie.Need-print-pairs-requires
 print-pairs-requires c κs =
-    let a = c .before .before .before .before .before .before .before .before .before .before .before .before .before .before .before .before .before .before .before .before .args in
-    let run = c .before .before .before .before .before .before .before .before .run in
-    let work = c .before .before .before .before .before .before .before .before .before .before .before .before .new-work in
-    let lent = c .before .before .before .before .before .before .before .before .before .before .before .new-pairs in
-    let collections : Collections =
-    record { T = a .t; leftEnds = a .left-ends .now; leftItems = a .left-items .now; rightEnds = a .right-ends .now; rightItems = a .right-items .now } in
-    let settings : Settings =
-    record { limit = 2; ranks = a .ranks .now; budget = 4294967295; rule = Merge; words = length (work .result); room = length (lent .result) } in
-    let joins = sym (run .ensures .0) ∙ c .before .before .before .before .answer .given .1 in
-    places-within collections settings _ joins _ _ (lent .result) _ _ (c .before .before .before .before .before .before .before .before .before .before .before .before .before .before .before .before .before .before .before .before .pre .0) (c .before .before .before .before .before .before .before .before .before .before .before .before .before .before .before .before .before .before .before .before .pre .1) (run .ensures .0) (run .ensures .1 .0)
+    let told = c .before .before .before .before in
+    let run = told .before .before .before .before in
+    let lent = run .before .before .before in
+    let work = lent .before in
+    let start = work .before .before .before .before .before .before .before .before in
+    let a = start .args in
+    let collections = joined (a .t) (a .left-ends .now) (a .left-items .now) (a .right-ends .now) (a .right-items .now) in
+    let settings = asked (a .ranks .now) (length (work .new-work .result)) (length (lent .new-pairs .result)) in
+    let joins = sym (run .run .ensures .0) ∙ told .answer .given .1 in
+    places-within collections settings _ joins _ _ (lent .new-pairs .result) _ _ (start .pre .0) (start .pre .1)
+    (run .run .ensures .0) (run .run .ensures .1 .0)
 
 enum-known-answer-2 : tie.Need-enum-known-answer-2
 enum-known-answer-2 c = search needs

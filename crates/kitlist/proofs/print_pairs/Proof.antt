@@ -36,14 +36,17 @@ mul-wide-2 : tie.Need-mul-wide-2 Inv-loop μ-loop
 mul-wide-2 c = search needs
 
 shared-slice-read-wide-2 : tie.Need-shared-slice-read-wide-2 Inv-loop μ-loop
-shared-slice-read-wide-2 c = pair-at _ _ _ _ (c .before .before .before .before .loop .inv) (c .before .before .before .loop-test .taken) .whole
+shared-slice-read-wide-2 c =
+    let test = c .before .before .before in
+    pair-at _ _ _ _ (test .before .loop .inv) (test .loop-test .taken) .whole
 
 wide-requires-2 : tie.Need-wide-requires-2 Inv-loop μ-loop
 wide-requires-2 c κs = search needs
 
 print-pair-requires : tie.Need-print-pair-requires Inv-loop μ-loop
 print-pair-requires c κs =
-    let p = pair-at _ _ _ _ (c .before .before .before .before .before .loop .inv) (c .before .before .before .before .loop-test .taken) in
+    let test = c .before .before .before .before in
+    let p = pair-at _ _ _ _ (test .before .loop .inv) (test .loop-test .taken) in
     (omega (arith, p .left, c .before .before .wide .ensures), omega (arith, p .right, c .wide2 .ensures))
 
 add-i : tie.Need-add-i Inv-loop μ-loop
@@ -51,11 +54,14 @@ add-i c = search needs
 
 loop-less : tie.Need-loop-less Inv-loop μ-loop
 loop-less c =
-    let p = pair-at _ _ _ _ (c .before .before .before .before .before .before .loop .inv) (c .before .before .before .before .before .loop-test .taken) in
+    let test = c .before .before .before .before .before in
+    let p = pair-at _ _ _ _ (test .before .loop .inv) (test .loop-test .taken) in
     omega (arith, p .whole)
 
 loop-again : tie.Need-loop-again Inv-loop μ-loop
-loop-again c = pair-at _ _ _ _ (c .before .before .before .before .before .before .loop .inv) (c .before .before .before .before .before .loop-test .taken) .rest
+loop-again c =
+    let test = c .before .before .before .before .before in
+    pair-at _ _ _ _ (test .before .loop .inv) (test .loop-test .taken) .rest
 
 returns : tie.Need-returns Inv-loop μ-loop
 returns c = search needs
