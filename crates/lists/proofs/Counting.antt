@@ -1,5 +1,5 @@
--- Counting: `count` over `++`, `map` and a list's parts, by tests that agree, exclude or imply each other, of one number in a list
--- without repeats; and of numbers below a bound and tallies, which a counting sort is made of.
+-- Counting: `count` over `++`, `map` and a list's parts, by tests that agree, exclude or imply each other, of one number in a
+-- list without repeats; and of numbers below a bound and tallies, which a counting sort is made of.
 use mathlib.Core.Path.{_≡_, refl, sym, ap, ap₂, _∙_}
 use mathlib.Core.List.{List, [], _∷_, _++_, map}
 use mathlib.Core.Bool.{Bool, true, false, _||_}

@@ -1,5 +1,6 @@
--- Lists written into a longer one: stores one after the other; and a region that is being filled from its beginning, the invariant of
--- the loops that write one list behind a place, with its start, its steps (one element, or a run written by a callee) and its end.
+-- Lists written into a longer one: stores one after the other; and a region that is being filled from its beginning, the
+-- invariant of the loops that write one list behind a place, with its start, its steps (one element, or a run written by a
+-- callee) and its end.
 use mathlib.Core.Path.{_≡_, refl, sym, ap, subst, _∙_}
 use mathlib.Core.List.{List, [], _∷_, _++_, append-nil, append-assoc}
 use Prim.Native.Nat.{ℕ, suc, _+_, _<_, _≤_}

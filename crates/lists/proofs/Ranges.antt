@@ -116,7 +116,8 @@ length-table f n = length-map (upto n) f ∙ length-range 0 n
 pub getD-table : {A : Type 0} (f : ℕ → A) (n i : ℕ) (d : A) → i < n → getD (map f (upto n)) i d ≡ f i
 getD-table f n i d below = map-at f (upto n) i 0 d (omega (arith, length-range 0 n)) ∙ ap f (getD-upto n i 0 below)
 
-pub all-table : {A : Type 0} (p : A → Bool) (f : ℕ → A) (n : ℕ) → ((i : ℕ) → i < n → p (f i) ≡ true) → all p (map f (upto n)) ≡ true
+pub all-table : {A : Type 0} (p : A → Bool) (f : ℕ → A) (n : ℕ) → ((i : ℕ) → i < n → p (f i) ≡ true)
+    → all p (map f (upto n)) ≡ true
 all-table p f n h =
     all-make p (f 0) (map f (upto n))
     (λ i below. let inside : i < n = omega (arith, length-table f n) in ap p (getD-table f n i (f 0) inside) ∙ h i inside)

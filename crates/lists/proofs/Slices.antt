@@ -1,5 +1,6 @@
--- Parts of one list: what two lists that agree up to a place, or from a place on, share; runs `slice f t l` by their first element,
--- extended by one, joined and stored into; and the laws of `Changed lo hi`, by which a function's frame goes on through its steps.
+-- Parts of one list: what two lists that agree up to a place, or from a place on, share; runs `slice f t l` by their first
+-- element, extended by one, joined and stored into; and the laws of `Changed lo hi`, by which a function's frame goes on
+-- through its steps.
 use Prim.Native.Nat.{ℕ, zero, suc, _+_, _-_, _≤_, _<_}
 use mathlib.Core.Path.{_≡_, refl, sym, ap, _∙_}
 use mathlib.Core.List.{List, [], _∷_, _++_}
@@ -105,7 +106,8 @@ module _ {A : Type 0} where
   unfolding slice
   slice-set-above f t l i a h = ap (λ (k : List A). drop f k) (take-set-le t l i a h)
 
-  pub slice-set-end : (f i : ℕ) (l : List A) (a : A) → f ≤ i → i < length l → slice f (suc i) (set l i a) ≡ slice f i l ++ (a ∷ [])
+  pub slice-set-end : (f i : ℕ) (l : List A) (a : A) → f ≤ i → i < length l
+      → slice f (suc i) (set l i a) ≡ slice f i l ++ (a ∷ [])
   unfolding slice
   slice-set-end f i l a h below =
       ap (λ (k : List A). drop f k) (take-suc-set l i a below)

@@ -1,5 +1,5 @@
--- What holds throughout a list, or somewhere in it: `all`, `any` and `subset` by members, by places, for tests of which one implies
--- the other, and for the parts of a list. Of a filtered list see Filtering, of 0 .. n-1 Ranges, of a part Slices.
+-- What holds throughout a list, or somewhere in it: `all`, `any` and `subset` by members, by places, for tests of which one
+-- implies the other, and for the parts of a list. Of a filtered list see Filtering, of 0 .. n-1 Ranges, of a part Slices.
 use Prim.Native.Nat.{ℕ, zero, suc, _<_}
 use mathlib.Core.Path.{_≡_, refl, sym, subst}
 use mathlib.Core.List.{List, [], _∷_, _++_, map}

@@ -10,7 +10,8 @@ use Rattle.lists.specs.Writing.{Put}
 use Rattle.lists.proofs.Filling.{sets-append, sets-front}
 
 -- one run written after another
-pub put-append : {was mid is : List ℕ} {at r end : ℕ} {a b : List ℕ} → Put was at a r mid → Put mid r b end is → Put was at (a ++ b) end is
+pub put-append : {was mid is : List ℕ} {at r end : ℕ} {a b : List ℕ} → Put was at a r mid → Put mid r b end is
+    → Put was at (a ++ b) end is
 put-append {was} {mid} {is} {at} {r} {end} {a} {b} p q =
     record {
       written =
@@ -26,7 +27,8 @@ pub record Writing (was : List ℕ) (pos : ℕ) (wanted is : List ℕ) (end : �
   pub room : pos + length wanted ≤ length was
   pub same : length is ≡ length was
 
-pub writing-start : (was : List ℕ) (pos : ℕ) (wanted : List ℕ) → pos + length wanted ≤ length was → Writing was pos wanted was pos wanted
+pub writing-start : (was : List ℕ) (pos : ℕ) (wanted : List ℕ) → pos + length wanted ≤ length was
+    → Writing was pos wanted was pos wanted
 writing-start was pos wanted room = record { left = refl; total = refl; room = room; same = refl }
 
 module _ {was : List ℕ} {pos : ℕ} {wanted is : List ℕ} {end : ℕ} {rest : List ℕ} (w : Writing was pos wanted is end rest) where
@@ -34,7 +36,8 @@ module _ {was : List ℕ} {pos : ℕ} {wanted is : List ℕ} {end : ℕ} {rest :
   pub writing-room : (new later : List ℕ) → rest ≡ new ++ later → end + length new ≤ length is
   writing-room new later e = omega (arith, w .total, w .room, w .same, ap length e, length-append new later)
 
-  pub writing-step : {new later next : List ℕ} {r : ℕ} → rest ≡ new ++ later → Put is end new r next → Writing was pos wanted next r later
+  pub writing-step : {new later next : List ℕ} {r : ℕ} → rest ≡ new ++ later → Put is end new r next
+      → Writing was pos wanted next r later
   writing-step {new} {later} {next} {r} e p =
       record {
         left = ap (λ (l : List ℕ). sets l r later) (p .written) ∙ ap (λ (k : ℕ). sets (sets is end new) k later) (p .past)

@@ -67,7 +67,8 @@ module _ (T : ℕ) (ranks : List ℕ) (permutation : isPermutation T ranks ≡ t
       (and-right (ltb (getD ranks i 0) T) _ (sym (memb-ordered T ranks set (getD ranks i 0)) ∙ m))
       (λ j there e.
       let low : j < T = ltb-true j T (all-elim (λ (k : ℕ). ltb k T) set b j there) in
-      subst (λ (k : ℕ). memb k set ≡ true) (permutation-injective T ranks permutation j i low h (eqb-true (getD ranks j 0) (getD ranks i 0) e)) there)
+      let alike = permutation-injective T ranks permutation j i low h (eqb-true (getD ranks j 0) (getD ranks i 0) e) in
+      subst (λ (k : ℕ). memb k set ≡ true) alike there)
 
   -- containment may be decided on ranks
   pub subset-ordered : (a b : List ℕ) → below T a ≡ true → below T b ≡ true
@@ -97,7 +98,8 @@ module _ (T : ℕ) (ranks : List ℕ) (permutation : isPermutation T ranks ≡ t
       refuted (any (λ i. eqb (getD ranks i 0) r) set) (λ a.
       any-elim (λ (i : ℕ). eqb (getD ranks i 0) r) set a (λ i there k.
       let low : i < T = ltb-true i T (all-elim (λ (k : ℕ). ltb k T) set b i there) in
-      let alike = permutation-injective T ranks permutation i x low h (eqb-true (getD ranks i 0) r k ∙ sym (eqb-true (getD ranks x 0) r e)) in
+      let same : getD ranks i 0 ≡ getD ranks x 0 = eqb-true (getD ranks i 0) r k ∙ sym (eqb-true (getD ranks x 0) r e) in
+      let alike = permutation-injective T ranks permutation i x low h same in
       true-false (subst (λ (k : ℕ). memb k set ≡ true) alike there) absent))
 
   ranks-counted : (set : List ℕ) → below T set ≡ true → distinct set ≡ true

@@ -6,7 +6,8 @@ use mathlib.Core.Bool.{Bool, true, false}
 use Rattle.sets.specs.declared.Side.{Side}
 use Rattle.sets.specs.declared.Side.the-variants.{Left, Right}
 use Rattle.sets.specs.declared.Refusal.{Refusal}
-use Rattle.sets.specs.declared.Refusal.the-variants.{Malformed, NumberUsed, TooMany, ShortOutput, BadSet, BadSettings, ShortWork, Spent, ShortPairs}
+use Rattle.sets.specs.declared.Refusal.the-variants.{Malformed, NumberUsed, TooMany, ShortOutput, BadSet, BadSettings}
+use Rattle.sets.specs.declared.Refusal.the-variants.{ShortWork, Spent, ShortPairs}
 use Rattle.sets.specs.declared.Verdict.{Verdict}
 use Rattle.sets.specs.declared.Verdict.the-variants.{Good, Bad}
 use Rattle.sets.specs.declared.Counts.{Counts}

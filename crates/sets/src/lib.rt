@@ -1,5 +1,5 @@
 // Collections of sets, the settings of a join, and the answers of the public operations: the types that the crates
-// above share, and the two tests that every operation begins with. What each means is defined in specs/.
+// above share, and the tests of what is lent to them: the first bad set, and a rank table. What each means is defined in specs/.
 
 // The greatest count of items, T.
 pub const MAX_ITEMS: u32 = 4096;
