@@ -26,7 +26,7 @@ loaded-counts a b e = ap only e
     only (load.Loaded counts) = counts
     only (load.Refused why) = a
 
--- an answer that loads: no fault, room, and the counts of the records
+-- where an answer loads there was room, and the counts are those of the records
 passed : (fault : Option Refusal) (room : Bool) (counts loaded : Loaded)
     → unless fault (cond room (load.Loaded counts) (load.Refused ShortOutput)) ≡ load.Loaded loaded
     → (room ≡ true) × (counts ≡ loaded)

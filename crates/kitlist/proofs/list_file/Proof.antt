@@ -82,14 +82,14 @@ list-counted-requires : tie.Need-list-counted-requires
 list-counted-requires c κs =
     let told = c .before .before .before .before .before .before .before .before in
     let loaded = told .before .before .before .before .before .before .before .before .before in
-    let at-start = loaded .before .before .before .before .before .before .before .before in
+    let made = loaded .before .before .before .before .before .before .before .before in
     let load = loaded .load in
-    let ranks = at-start .new-places3 in
-    let right-ends = at-start .before .before .new-ends2 in
-    let right-numbers = at-start .before .before .before .new-places2 in
-    let left-ends = at-start .before .before .before .before .before .new-ends in
-    let left-numbers = at-start .before .before .before .before .before .before .new-places in
-    let tags = at-start .before .before .before .before .before .before .before .new-tags in
+    let ranks = made .new-places3 in
+    let right-ends = made .before .before .new-ends2 in
+    let right-numbers = made .before .before .before .new-places2 in
+    let left-ends = made .before .before .before .before .before .new-ends in
+    let left-numbers = made .before .before .before .before .before .before .new-places in
+    let tags = made .before .before .before .before .before .before .before .new-tags in
     within-kept _ _ _ _ _ _
     (loaded-within _ (tags .result) (left-numbers .result) (left-ends .result) _ (right-numbers .result) (right-ends .result) _
     (ranks .result) _ (sym (load .ensures .0) ∙ told .answer .given .1)
