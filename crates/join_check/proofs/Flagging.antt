@@ -11,6 +11,7 @@ use lib.ListN.{length, getD, set, replicate, length-set, length-replicate}
 use lib.Seq.{getD-set-same, getD-set-other}
 use borrow.Author.Tests.{ltb-true, lt-ltb, eqb-true, eqb-false}
 use Rattle.lists.specs.Lists.{one, memb, slice}
+use Rattle.lists.proofs.Counting.{one-bound}
 use Rattle.lists.proofs.Bools.{by-test}
 use Rattle.lists.proofs.Zeros.{getD-zeros}
 use Rattle.lists.proofs.Membership.{memb-append}
@@ -64,11 +65,7 @@ flagged-own f = record { size = f .size; is = λ s low. f .is s low ∙ ap one (
 
 -- a flag is 1 at the most
 pub flag-small : {test : ℕ → Bool} {flags : List ℕ} → Flagged test flags → (s : ℕ) → s < maxSets → getD flags s 0 ≤ 1
-flag-small {test} {flags} f s low = subst (λ (n : ℕ). n ≤ 1) (sym (f .is s low)) (small (test s))
-  where
-    small : (b : Bool) → one b ≤ 1
-    small true = omega arith
-    small false = omega arith
+flag-small {test} {flags} f s low = subst (λ (n : ℕ). n ≤ 1) (sym (f .is s low)) (one-bound (test s))
 
 -- one word more
 one-more : (s x : ℕ) (list flags : List ℕ) → x < length flags → getD flags s 0 ≡ one (memb s list)

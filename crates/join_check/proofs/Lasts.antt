@@ -90,7 +90,8 @@ module _ (w : List ℕ) (a b : ℕ) (within : b ≤ length w) (some : a < b) (ri
 -- one comparison of the last words of two rising parts
 module _ (w : List ℕ) (a b c e : ℕ) (leftIn : b ≤ length w) (rightIn : e ≤ length w) (some : a < b) (other : c < e)
     (left : rising (slice a b w) ≡ true) (right : rising (slice c e w) ≡ true) where
-  pub last-high : getD w (b - 1) 0 < getD w (e - 1) 0 → subset (slice a b w) (slice c e w) ≡ subset (slice a b w) (slice c (e - 1) w)
+  pub last-high : getD w (b - 1) 0 < getD w (e - 1) 0
+      → subset (slice a b w) (slice c e w) ≡ subset (slice a b w) (slice c (e - 1) w)
   last-high h =
       ap (subset (slice a b w)) (part-last c e w other rightIn)
       ∙ subset-below (slice a b w) (slice c (e - 1) w) (getD w (e - 1) 0)

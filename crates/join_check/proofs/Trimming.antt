@@ -1,4 +1,5 @@
--- Containment of two rising parts, the last word first: the invariants of `skip_ranks` and `skip_higher`, with their steps and ends.
+-- Containment of two rising parts, the last word first: the invariants of `skip_ranks` and `skip_higher`, with their steps and
+-- ends.
 use Prim.Native.Nat.{ℕ, _-_, _≤_, _<_}
 use mathlib.Core.Path.{_≡_, sym, ap₂, _∙_}
 use mathlib.Core.List.{List, []}

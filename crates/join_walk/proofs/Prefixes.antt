@@ -5,18 +5,14 @@ use mathlib.Core.Path.{_≡_, refl, sym, ap, ap₂, _∙_}
 use mathlib.Core.List.{List, [], _∷_, _++_}
 use mathlib.Core.Bool.{Bool, true, cond, _&&_, and-true, and-assoc}
 use native.Mathlib.Omega.{arith}
-use borrow.Author.Tests.{eqb-true, eq-eqb}
+use borrow.Author.Tests.{eqb-true}
 use lib.Dec.{eqb, leb, leb·suc-suc, leb·suc-zero, eqb·suc-suc, eqb·zero-suc}
 use lib.ListN.{length, take, getD}
 use Rattle.lists.specs.Lists.{prefix, keep}
-use Rattle.lists.proofs.Bools.{and-left, and-right, same-test}
+use Rattle.lists.proofs.Bools.{and-left, and-right, eqb-comm}
 use Rattle.lists.proofs.Filtering.{keep-same, keep-keep}
 use Rattle.join_spec.specs.Query.{Query}
 use Rattle.join_index.specs.Grouping.{leftAt, keyAt}
-
-pub eqb-comm : (a b : ℕ) → eqb a b ≡ eqb b a
-eqb-comm a b =
-    same-test (eqb a b) (eqb b a) (λ e. eq-eqb b a (sym (eqb-true a b e))) (λ e. eq-eqb a b (sym (eqb-true b a e)))
 
 -- what a path that a set begins with is
 pub prefix-take : (path xs : List ℕ) → prefix path xs ≡ true → path ≡ take (length path) xs

@@ -20,7 +20,7 @@ use Rattle.tag_file.specs.Records.{insert, insertAll, collapse}
 use Rattle.tag_file.proofs.Tables.{three-ways, memb-insert, rising-insert, length-insert, insert-known, insert-new}
 use Rattle.tag_file.proofs.Tables.{insertAll-last, length-insertAll-bound, rising-collapse, memb-collapse}
 use Rattle.tag_file.proofs.RecordLaws.{length-tagsAt, tagsAt-last}
-use Rattle.tag_index.specs.Index.{tagOf, tableOf, tagValue, Lower, Seen, Put, Adding, OneMore, Ready, AllAdded}
+use Rattle.tag_index.specs.Index.{tagOf, tableOf, tagValue, Lower, Seen, NewTag, Adding, OneMore, Ready, AllAdded}
 use Rattle.tag_index.specs.declared.Tag.{Tag}
 use Rattle.tag_index.proofs.Ids.{position, sorted-size, sorted-at, sorted-lower, same-id}
 use Rattle.tag_index.proofs.Ids.{last-id, listed-put, tag-other, tag-this, table-put}
@@ -134,7 +134,7 @@ module _ {file heads tails : List ℕ} {start k tags fresh : ℕ} {order seen : 
   module _ (at : ℕ) (low : Lower table x at) (free : tags < 4352)
       (missing : at < tags → tagOf heads tails (getD order at 0) ≡ x → ⊥) where
     pub adding-new : {tag : Tag} {now-heads now-tails now-order now-seen : List ℕ} → tagValue tag ≡ x
-        → Put heads tails order seen tags at tag place now-heads now-tails now-order now-seen
+        → NewTag heads tails order seen tags at tag place now-heads now-tails now-order now-seen
         → OneMore file start k tags heads tails order (tags + 1) (fresh + 1) now-heads now-tails now-order now-seen
     adding-new {tag} {now-heads} {now-tails} {now-order} {now-seen} value p =
         record {

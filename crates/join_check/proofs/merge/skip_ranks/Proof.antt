@@ -13,7 +13,9 @@ abbrev μ-loop : tie.MeasureT-loop
 μ-loop work a b c e i₀ j₀ i j = i - a
 
 loop-holds : tie.Need-loop-holds Inv-loop μ-loop
-loop-holds c = record { first = omega arith; second = omega arith; left = c .before .pre .0 .rise; right = c .before .pre .1 .rise; same = refl }
+loop-holds c =
+    let asked = c .before .pre in
+    record { first = omega arith; second = omega arith; left = asked .0 .rise; right = asked .1 .rise; same = refl }
 
 skip-higher-requires : tie.Need-skip-higher-requires Inv-loop μ-loop
 skip-higher-requires c κs =
@@ -36,7 +38,8 @@ returns c =
     trimming-skip (a .work .now) (a .a) (a .b) (a .c) (a .e) (at-loop .loop .i) (at-loop .loop .j) (skip .skip-higher .result)
     (at-loop .loop .inv) (skip .skip-higher .ensures)
     in
-    trimming-stop (a .work .now) (a .a) (a .b) (a .c) (a .e) (at-loop .loop .i) (skip .skip-higher .result) (start .pre .0 .within)
+    trimming-stop (a .work .now) (a .a) (a .b) (a .c) (a .e) (at-loop .loop .i)
+    (skip .skip-higher .result) (start .pre .0 .within)
     (start .pre .1 .within) m (skip .before .loop-test .taken) (c .if1 .taken)
 
 sub-if2 : tie.Need-sub-if2 Inv-loop μ-loop
@@ -68,7 +71,8 @@ returns-2 c =
     (at-loop .loop .inv) (skip .skip-higher .ensures)
     in
     let other = c .before .before .before .if1 .left in
-    trimming-low (a .work .now) (a .a) (a .b) (a .c) (a .e) (at-loop .loop .i) (skip .skip-higher .result) (start .pre .0 .within)
+    trimming-low (a .work .now) (a .a) (a .b) (a .c) (a .e) (at-loop .loop .i)
+    (skip .skip-higher .result) (start .pre .0 .within)
     (start .pre .1 .within) m (skip .before .loop-test .taken) (omega (arith, other))
     (omega (arith, skip .skip-higher .ensures .stop (omega (arith, other)), c .if2 .taken))
 
@@ -92,7 +96,8 @@ loop-again c =
     (at-loop .loop .inv) (skip .skip-higher .ensures)
     in
     let other = c .before .before .before .if1 .left in
-    trimming-same (a .work .now) (a .a) (a .b) (a .c) (a .e) (at-loop .loop .i) (skip .skip-higher .result) (start .pre .0 .within)
+    trimming-same (a .work .now) (a .a) (a .b) (a .c) (a .e) (at-loop .loop .i)
+    (skip .skip-higher .result) (start .pre .0 .within)
     (start .pre .1 .within) m (skip .before .loop-test .taken) (omega (arith, other))
     (omega (arith, c .if2 .left))
 
