@@ -11,7 +11,7 @@ use Rattle.sets.specs.declared.Verdict.the-variants.{Good, Bad}
 use Rattle.sets.specs.declared.Side.the-variants.{Left, Right}
 use Rattle.sets.specs.declared.Refusal.{Refusal}
 use Rattle.sets.specs.declared.Refusal.the-variants.{BadSet, BadSettings}
-use Rattle.sets.specs.declared.OrderAnswer.the-variants.{Ordered, Refused}
+use Rattle.item_order.specs.declared.OrderAnswer.the-variants.{Ordered, Refused}
 use Rattle.item_order.specs.Order.{orderAnswer, orderRanks, ranksOf}
 
 module _ (T : ℕ) (leftEnds leftItems rightEnds rightItems : List ℕ) (falling : Bool) (ranks : List ℕ) where

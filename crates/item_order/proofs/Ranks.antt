@@ -14,7 +14,7 @@ use Rattle.lists.proofs.Ranges.{length-table, getD-table}
 use Rattle.lists.proofs.CountingSort.{keyBefore, rank-below, rank-less, rank-apart}
 use Rattle.sets.specs.Ordered.{isPermutation}
 use Rattle.sets.specs.Collections.{setsOf}
-use Rattle.sets.specs.declared.OrderAnswer.the-variants.{Ordered}
+use Rattle.item_order.specs.declared.OrderAnswer.the-variants.{Ordered}
 use Rattle.sets.proofs.Permutation.{permutation-make}
 use Rattle.item_order.specs.Order.{frequency, comesBefore, rankOf, ranksOf, orderAnswer, orderRanks}
 use Rattle.item_order.specs.Steps.{keyOf}

@@ -10,11 +10,11 @@ use lib.Dec.{ltb}
 use lib.ListN.{length}
 use Rattle.sets.proofs.Good.{good-places}
 use Rattle.sets.proofs.Ordered.{items-below}
-use Rattle.sets.specs.declared.Rule.{Rule}
-use Rattle.sets.specs.declared.Counts.{Counts}
+use Rattle.join_spec.specs.declared.Rule.{Rule}
+use Rattle.join_spec.specs.declared.Counts.{Counts}
 use Rattle.sets.specs.declared.Refusal.the-variants.{Spent, ShortPairs}
-use Rattle.sets.specs.declared.JoinAnswer.{JoinAnswer}
-use Rattle.sets.specs.declared.JoinAnswer.the-variants.{Joined, Refused}
+use Rattle.join_spec.specs.declared.JoinAnswer.{JoinAnswer}
+use Rattle.join_spec.specs.declared.JoinAnswer.the-variants.{Joined, Refused}
 use Rattle.join_spec.specs.PairList.{pairCount}
 use Rattle.join_spec.specs.Query.{Query, query}
 use Rattle.join_spec.specs.Walk.{Outcome}

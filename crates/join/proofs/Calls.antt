@@ -4,10 +4,10 @@ use Prim.Native.Nat.{ℕ, _+_, _*_, _≤_, _<_}
 use mathlib.Core.Path.{_≡_, sym, ap, _∙_}
 use mathlib.Core.List.{List}
 use lib.ListN.{length, take, drop}
-use Rattle.sets.specs.declared.Counts.{Counts}
+use Rattle.join_spec.specs.declared.Counts.{Counts}
 use Rattle.sets.specs.declared.Refusal.the-variants.{Spent}
-use Rattle.sets.specs.declared.JoinAnswer.{JoinAnswer}
-use Rattle.sets.specs.declared.JoinAnswer.the-variants.{Joined, Refused}
+use Rattle.join_spec.specs.declared.JoinAnswer.{JoinAnswer}
+use Rattle.join_spec.specs.declared.JoinAnswer.the-variants.{Joined, Refused}
 use Rattle.join_spec.specs.PairList.{pairList}
 use Rattle.join_spec.specs.Answer.{pairsAfter}
 use Rattle.join_spec.specs.Counting.{checksOf, countsOf}

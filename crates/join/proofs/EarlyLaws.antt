@@ -11,17 +11,17 @@ use lib.ListN.{length, replicate}
 use Rattle.sets.specs.Limits.{maxItems, maxLimit, maxSets, maxEntries}
 use Rattle.sets.specs.Collections.{firstBad, entries}
 use Rattle.sets.specs.Ordered.{isPermutation}
-use Rattle.sets.specs.Refusals.{unlessBad, isLate}
+use Rattle.sets.specs.Refusals.{noBadSet, unless, clears}
 use Rattle.sets.proofs.Good.{good-places, good-entries}
-use Rattle.sets.specs.declared.Rule.{Rule}
+use Rattle.join_spec.specs.declared.Rule.{Rule}
 use Rattle.sets.specs.declared.Side.{Side}
 use Rattle.sets.specs.declared.Side.the-variants.{Left, Right}
 use Rattle.sets.specs.declared.Verdict.{Verdict}
 use Rattle.sets.specs.declared.Verdict.the-variants.{Good, Bad}
 use Rattle.sets.specs.declared.Refusal.{Refusal}
 use Rattle.sets.specs.declared.Refusal.the-variants.{BadSettings, BadSet, ShortWork}
-use Rattle.sets.specs.declared.JoinAnswer.{JoinAnswer}
-use Rattle.sets.specs.declared.JoinAnswer.the-variants as join
+use Rattle.join_spec.specs.declared.JoinAnswer.{JoinAnswer}
+use Rattle.join_spec.specs.declared.JoinAnswer.the-variants as join
 use Rattle.join_spec.specs.Query.{query}
 use Rattle.join_spec.specs.Answer.{badSettings, workNeeded, walkAnswer, joinAnswer}
 use Rattle.join_spec.proofs.Inputs.{good-settings}
@@ -102,7 +102,7 @@ module _ (T : ℕ) (leftEnds leftItems rightEnds rightItems : List ℕ) (limit :
   passed-cond true why e h k = let z : _≡_ {A = ℕ} 0 1 = cc in absurd (omega arith)
   passed-cond false why e h k = k refl h
 
-  passed-bad : (side : Side) (v : Verdict) (e : Early) → unlessBad Refused side v e ≡ Ready
+  passed-bad : (side : Side) (v : Verdict) (e : Early) → unless Refused (noBadSet side v) e ≡ Ready
       → {A : Type 0} → (v ≡ Good → e ≡ Ready → A) → A
   passed-bad side Good e h k = k refl h
   passed-bad side (Bad place) e h k = let z : _≡_ {A = ℕ} 0 1 = cc in absurd (omega arith)
@@ -127,23 +127,23 @@ module _ (T : ℕ) (leftEnds leftItems rightEnds rightItems : List ℕ) (limit :
   early-accepted w size is ready = passed-all w size (sym is ∙ ready)
 
   -- no early refusal is one of the walk's
-  not-late-cond : (b : Bool) (why kept : Refusal) (e : Early) → isLate why ≡ false → (e ≡ Refused kept → isLate kept ≡ false)
-      → cond b (Refused why) e ≡ Refused kept → isLate kept ≡ false
-  not-late-cond true why kept e early rest h = ap isLate (sym (same h)) ∙ early
+  not-late-cond : (b : Bool) (why kept : Refusal) (e : Early) → clears why ≡ false → (e ≡ Refused kept → clears kept ≡ false)
+      → cond b (Refused why) e ≡ Refused kept → clears kept ≡ false
+  not-late-cond true why kept e early rest h = ap clears (sym (same h)) ∙ early
     where
       same : Refused why ≡ Refused kept → why ≡ kept
       same p = cc
   not-late-cond false why kept e early rest h = rest h
 
-  not-late-bad : (side : Side) (v : Verdict) (kept : Refusal) (e : Early) → (e ≡ Refused kept → isLate kept ≡ false)
-      → unlessBad Refused side v e ≡ Refused kept → isLate kept ≡ false
+  not-late-bad : (side : Side) (v : Verdict) (kept : Refusal) (e : Early) → (e ≡ Refused kept → clears kept ≡ false)
+      → unless Refused (noBadSet side v) e ≡ Refused kept → clears kept ≡ false
   not-late-bad side Good kept e rest h = rest h
-  not-late-bad side (Bad place) kept e rest h = ap isLate (sym (same h))
+  not-late-bad side (Bad place) kept e rest h = ap clears (sym (same h))
     where
       same : Refused (BadSet side place) ≡ Refused kept → BadSet side place ≡ kept
       same p = cc
 
-  early-not-late : (why : Refusal) → answer ≡ Refused why → isLate why ≡ false
+  early-not-late : (why : Refusal) → answer ≡ Refused why → clears why ≡ false
   unfolding earlyAnswer
   early-not-late why h =
       not-late-cond (badSettings T limit ranks) BadSettings why _ refl
@@ -154,7 +154,7 @@ module _ (T : ℕ) (leftEnds leftItems rightEnds rightItems : List ℕ) (limit :
 
   -- so it leaves the pair list as it was
   pub early-pairs : {e : Early} {why : Refusal} → e ≡ answer → e ≡ Refused why → (pairs : List ℕ)
-      → pairs ≡ cond (isLate why) (replicate (length pairs) 0) pairs
+      → pairs ≡ cond (clears why) (replicate (length pairs) 0) pairs
   early-pairs {why = why} is told pairs =
       sym (ap (λ (late : Bool). cond late (replicate (length pairs) 0) pairs) (early-not-late why (sym is ∙ told)))
 
@@ -165,7 +165,7 @@ module _ (T : ℕ) (leftEnds leftItems rightEnds rightItems : List ℕ) (limit :
   after-cond false why e a = refl
 
   after-bad : (side : Side) (v : Verdict) (e : Early) (a : JoinAnswer)
-      → unlessBad join.Refused side v (afterEarly e a) ≡ afterEarly (unlessBad Refused side v e) a
+      → unlessBad join.Refused side v (afterEarly e a) ≡ afterEarly (unless Refused (noBadSet side v) e) a
   after-bad side Good e a = refl
   after-bad side (Bad place) e a = refl
 

@@ -7,12 +7,12 @@ use mathlib.Core.Bool.{cond}
 use lib.Dec.{ltb}
 use lib.ListN.{length}
 use Rattle.sets.specs.Collections.{firstBad}
-use Rattle.sets.specs.Refusals.{unlessBad}
+use Rattle.sets.specs.Refusals.{noBadSet, unless}
 use Rattle.sets.specs.declared.Side.the-variants.{Left, Right}
 use Rattle.sets.specs.declared.Verdict.the-variants.{Good}
 use Rattle.sets.specs.declared.Refusal.the-variants.{BadSettings, ShortWork}
-use Rattle.sets.specs.declared.JoinAnswer.{JoinAnswer}
-use Rattle.sets.specs.declared.JoinAnswer.the-variants as join
+use Rattle.join_spec.specs.declared.JoinAnswer.{JoinAnswer}
+use Rattle.join_spec.specs.declared.JoinAnswer.the-variants as join
 use Rattle.join_spec.specs.Answer.{badSettings, workNeeded}
 use Rattle.join_spec.proofs.Inputs.{GoodSettings}
 use Rattle.join.specs.declared.Early.{Early}
@@ -22,8 +22,8 @@ use Rattle.join.specs.declared.Early.the-variants.{Refused, Ready}
 unfoldable pub earlyAnswer : ℕ → List ℕ → List ℕ → List ℕ → List ℕ → ℕ → List ℕ → ℕ → Early
 earlyAnswer T leftEnds leftItems rightEnds rightItems limit ranks words =
     cond (badSettings T limit ranks) (Refused BadSettings)
-    (unlessBad Refused Left (firstBad T leftEnds leftItems)
-    (unlessBad Refused Right (firstBad T rightEnds rightItems)
+    (unless Refused (noBadSet Left (firstBad T leftEnds leftItems))
+    (unless Refused (noBadSet Right (firstBad T rightEnds rightItems))
     (cond (ltb words (workNeeded T leftEnds rightEnds)) (Refused ShortWork) Ready)))
 
 -- the answer of a join after its early tests

@@ -10,7 +10,7 @@ use lib.ListN.{getD, drop-of-length-le}
 use borrow.Author.Tests.{eq-eqb, ne-eqb}
 use Rattle.lists.specs.Lists.{one, subset, slice, rising}
 use Rattle.lists.proofs.Slices.{slice-past}
-use Rattle.sets.specs.Marks.{signature, drops}
+use Rattle.sets.specs.Signatures.{signature, drops}
 use Rattle.join_spec.specs.Query.{Query}
 use Rattle.join_spec.specs.Walk.{Outcome, dropped, falseDrop, confirmed}
 use Rattle.signatures.specs.Signing.{double}

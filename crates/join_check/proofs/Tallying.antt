@@ -11,7 +11,7 @@ use Rattle.lists.proofs.Throughout.{all-after}
 use Rattle.lists.proofs.Rising.{rising-drop}
 use Rattle.lists.proofs.Slices.{all-slice}
 use Rattle.sets.specs.Collections.{contained}
-use Rattle.sets.specs.Marks.{signature, drops}
+use Rattle.sets.specs.Signatures.{signature, drops}
 use Rattle.join_spec.specs.Query.{Query}
 use Rattle.join_spec.specs.Walk.{Outcome, dropped, falseDrop, confirmed}
 use Rattle.join_spec.specs.Counting.{isConfirmed, isDropped, isFalse}

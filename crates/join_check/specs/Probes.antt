@@ -5,7 +5,7 @@ use mathlib.Core.List.{List, []}
 use mathlib.Core.Bool.{cond}
 use lib.ListN.{getD, drop}
 use Rattle.lists.specs.Lists.{one, subset, slice}
-use Rattle.sets.specs.Marks.{signature, drops}
+use Rattle.sets.specs.Signatures.{signature, drops}
 use Rattle.join_spec.specs.Query.{Query}
 use Rattle.join_spec.specs.Walk.{Outcome, dropped, falseDrop, confirmed}
 use Rattle.join_index.specs.Grouping.{leftAt, rightAt}

@@ -15,7 +15,7 @@ use Rattle.lists.proofs.Ranges.{memb-upto}
 use Rattle.lists.proofs.Slices.{frame-at, frame-less, frame-slice}
 use Rattle.sets.specs.Collections.{setsOf, goodItems, entries}
 use Rattle.sets.specs.Ordered.{ordered}
-use Rattle.sets.specs.declared.Rule.{Rule}
+use Rattle.join_spec.specs.declared.Rule.{Rule}
 use Rattle.sets.proofs.Good.{good-places, good-entries, all-good}
 use Rattle.sets.proofs.Between.{length-sets}
 use Rattle.sets.proofs.Permutation.{permutation-length}

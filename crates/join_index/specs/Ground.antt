@@ -8,7 +8,7 @@ use lib.ListN.{length, getD}
 use Rattle.lists.specs.Lists.{count, keep, memb, subset, upto, slice}
 use Rattle.sets.specs.Limits.{maxSets, maxItems}
 use Rattle.sets.specs.Collections.{contained}
-use Rattle.sets.specs.Marks.{signature}
+use Rattle.sets.specs.Signatures.{signature}
 use Rattle.join_spec.specs.Query.{Query}
 use Rattle.join_spec.specs.Node.{seen}
 use Rattle.join_index.specs.Grouping.{leftAt, rightAt, orderOf}

@@ -7,12 +7,12 @@
 // - the two lists.
 use libc::STDIN_FILENO;
 use libc::STDOUT_FILENO;
-use sets::Counts;
-use sets::JoinAnswer;
+use join_spec::Counts;
+use join_spec::JoinAnswer;
 use sets::Refusal;
-use sets::Rule;
+use join_spec::Rule;
 use sets::Side;
-use sets::Weights;
+use join_spec::Weights;
 ghost use Prim.Native.Nat.{_≤_};
 ghost use lib.ListN.{length};
 

@@ -12,7 +12,7 @@ use Rattle.lists.specs.Lists.{subset}
 use Rattle.lists.proofs.Bools.{by-test, true-false, refuted}
 use Rattle.lists.proofs.Throughout.{subset-nil}
 use Rattle.lists.proofs.Slices.{slice-past}
-use Rattle.sets.specs.Marks.{signature}
+use Rattle.sets.specs.Signatures.{signature}
 use Rattle.sets.proofs.Signatures.{contained-not-dropped}
 use Rattle.join_spec.specs.Query.{Query}
 use Rattle.signatures.specs.Signing.{double}

@@ -8,7 +8,7 @@ use lib.Dec.{ltb}
 use lib.ListN.{length, getD}
 use Rattle.lists.specs.Lists.{all, keep, subset, slice}
 use Rattle.sets.specs.Collections.{contained}
-use Rattle.sets.specs.Marks.{signature}
+use Rattle.sets.specs.Signatures.{signature}
 use Rattle.join_spec.specs.Query.{Query}
 use Rattle.join_spec.specs.PairList.{rowFrom}
 use Rattle.join_index.specs.Grouping.{rightAt}

@@ -7,7 +7,7 @@ use lib.ListN.{length, getD, take}
 use Rattle.lists.specs.Lists.{memb, subset, slice}
 use Rattle.lists.specs.Writing.{Put}
 use Rattle.sets.specs.Limits.{maxSets}
-use Rattle.sets.specs.Marks.{signature}
+use Rattle.sets.specs.Signatures.{signature}
 use Rattle.join_spec.specs.Query.{Query}
 use Rattle.join_spec.specs.PairList.{ontoPair, pairCount}
 use Rattle.join_index.specs.Grouping.{rightAt}

@@ -7,16 +7,16 @@ use native.Mathlib.Omega.{arith}
 use lib.Dec.{ltb}
 use borrow.Author.Tests.{ltb-true, ltb-false, lt-ltb, le-ltb}
 use Rattle.sets.specs.Collections.{firstBad}
-use Rattle.sets.specs.Refusals.{unlessBad}
+use Rattle.sets.specs.Refusals.{noBadSet, unless}
 use Rattle.sets.specs.declared.Side.{Side}
 use Rattle.sets.specs.declared.Side.the-variants.{Left, Right}
-use Rattle.sets.specs.declared.Counts.{Counts}
+use Rattle.join_spec.specs.declared.Counts.{Counts}
 use Rattle.sets.specs.declared.Refusal.{Refusal}
 use Rattle.sets.specs.declared.Refusal.the-variants.{BadSettings, ShortWork, Spent, ShortPairs}
 use Rattle.sets.specs.declared.Verdict.{Verdict}
 use Rattle.sets.specs.declared.Verdict.the-variants.{Good, Bad}
-use Rattle.sets.specs.declared.JoinAnswer.{JoinAnswer}
-use Rattle.sets.specs.declared.JoinAnswer.the-variants.{Joined, Refused}
+use Rattle.join_spec.specs.declared.JoinAnswer.{JoinAnswer}
+use Rattle.join_spec.specs.declared.JoinAnswer.the-variants.{Joined, Refused}
 use Rattle.join_spec.specs.PairList.{pairCount}
 use Rattle.join_spec.specs.Query.{Query}
 use Rattle.join_spec.specs.Counting.{countsOf, checksOf}
@@ -30,7 +30,7 @@ passed : (b : Bool) (why : Refusal) (answer : JoinAnswer) (counts : Counts) → 
 passed true why answer counts e = let z : _≡_ {A = ℕ} 0 1 = cc in absurd (omega arith)
 passed false why answer counts e = (refl, e)
 
-unbad : (side : Side) (v : Verdict) (answer : JoinAnswer) (counts : Counts) → unlessBad Refused side v answer ≡ Joined counts
+unbad : (side : Side) (v : Verdict) (answer : JoinAnswer) (counts : Counts) → unless Refused (noBadSet side v) answer ≡ Joined counts
     → (v ≡ Good) × (answer ≡ Joined counts)
 unbad side Good answer counts e = (refl, e)
 unbad side (Bad place) answer counts e = let z : _≡_ {A = ℕ} 0 1 = cc in absurd (omega arith)
@@ -44,7 +44,7 @@ not-yet true why answer other e = absurd (other (same-refusal why Spent e))
     same-refusal a b e = cc
 not-yet false why answer other e = e
 
-not-bad-yet : (side : Side) (v : Verdict) (answer : JoinAnswer) → unlessBad Refused side v answer ≡ Refused Spent
+not-bad-yet : (side : Side) (v : Verdict) (answer : JoinAnswer) → unless Refused (noBadSet side v) answer ≡ Refused Spent
     → answer ≡ Refused Spent
 not-bad-yet side Good answer e = e
 not-bad-yet side (Bad place) answer e = let z : _≡_ {A = ℕ} 0 1 = cc in absurd (omega arith)

@@ -7,8 +7,8 @@ use mathlib.Core.List.{List}
 use native.Mathlib.Omega.{arith}
 use lib.ListN.{length, take, drop, length-append, length-drop}
 use lib.Seq.{take-at, drop-at}
-use Rattle.sets.specs.declared.Counts.{Counts}
-use Rattle.sets.specs.declared.JoinAnswer.the-variants.{Joined}
+use Rattle.join_spec.specs.declared.Counts.{Counts}
+use Rattle.join_spec.specs.declared.JoinAnswer.the-variants.{Joined}
 use Rattle.sets.proofs.Between.{length-sets}
 use Rattle.sets.proofs.Ordered.{items-below}
 use Rattle.join_spec.specs.PairList.{pairList, pairCount}

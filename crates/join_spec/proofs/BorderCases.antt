@@ -11,15 +11,14 @@ use lib.ListN.{length}
 use Rattle.lists.specs.Lists.{all, any, count, sum, keep, memb, range, upto, rising, risingAfter, distinct, prefix}
 use Rattle.sets.specs.Collections.{setsFrom, firstBadFrom, badSet, lastEnd}
 use Rattle.sets.specs.Ordered.{ordered, isPermutation}
-use Rattle.sets.specs.Marks.{position, signatureFrom}
-use Rattle.sets.specs.Refusals.{joinNumber, joinDetail, joinCounts}
-use Rattle.sets.specs.declared.Rule.{Rule}
-use Rattle.sets.specs.declared.Rule.the-variants.{Merge, Check, Weighed}
+use Rattle.sets.specs.Signatures.{position, signatureFrom}
+use Rattle.join_spec.specs.declared.Rule.{Rule}
+use Rattle.join_spec.specs.declared.Rule.the-variants.{Merge, Check, Weighed}
 use Rattle.join_spec.specs.Node.{seen, goesOn, goesOnAt}
 use Rattle.join_spec.specs.Walk.{ending, endingFrom, isCandidate, endingIn, outcome}
 use Rattle.join_spec.specs.Counting.{total}
-use Rattle.join_spec.specs.Answer.{joinAnswer, walkAnswer, badSettings}
-use Rattle.join_spec.proofs.Examples.{same, listed, greatest, accepted, noCounts}
+use Rattle.join_spec.specs.Answer.{joinAnswer, joinWords, walkAnswer, badSettings}
+use Rattle.join_spec.proofs.Examples.{same, greatest, accepted, noCounts}
 
 -- one case: sets by place, settings, lengths of work list and pair list; then number with detail, and the six counts
 record Case : Type 0 where
@@ -52,7 +51,7 @@ right e =
     let answer =
     joinAnswer (e .items) leftEnds (itemsOf (e .lefts)) rightEnds (itemsOf (e .rights)) (e .limit) (e .ranks) (e .budget)
     (e .rule) (e .words) (e .room) in
-    same (joinNumber answer ∷ joinDetail answer) (e .refusal) && same (listed (joinCounts answer)) (e .counts)
+    same (joinWords answer) (e .refusal ++ e .counts)
 
 -- sets of a case
 one : ℕ → List ℕ
@@ -158,18 +157,18 @@ borderCases =
     -- a budget of 0 where no check is due
     ∷ shelf (upto 4) 255 Merge 0 448 8 accepted (4 ∷ 4 ∷ 0 ∷ 0 ∷ 0 ∷ 0 ∷ [])
     -- 8 before 9, and 7 before both
-    ∷ shelf (upto 4) 1 Check 6 448 7 (8 ∷ 0 ∷ []) noCounts
-    ∷ shelf (upto 4) 1 Check 6 447 7 (7 ∷ 0 ∷ []) noCounts
+    ∷ shelf (upto 4) 1 Check 6 448 7 (8 ∷ 0 ∷ 0 ∷ []) noCounts
+    ∷ shelf (upto 4) 1 Check 6 447 7 (7 ∷ 0 ∷ 0 ∷ []) noCounts
     -- 6: a limit of 0 or 256, ranks that repeat, are too large, too few or too many, T over 4,096
-    ∷ refuses 2 [] [] 0 (0 ∷ 1 ∷ []) (6 ∷ 0 ∷ [])
-    ∷ refuses 2 [] [] 256 (0 ∷ 1 ∷ []) (6 ∷ 0 ∷ [])
-    ∷ refuses 2 [] [] 1 (0 ∷ 0 ∷ []) (6 ∷ 0 ∷ [])
-    ∷ refuses 2 [] [] 1 (0 ∷ 2 ∷ []) (6 ∷ 0 ∷ [])
-    ∷ refuses 2 [] [] 1 (0 ∷ []) (6 ∷ 0 ∷ [])
-    ∷ refuses 2 [] [] 1 (0 ∷ 1 ∷ 2 ∷ []) (6 ∷ 0 ∷ [])
-    ∷ refuses 4097 [] [] 1 [] (6 ∷ 0 ∷ [])
+    ∷ refuses 2 [] [] 0 (0 ∷ 1 ∷ []) (6 ∷ 0 ∷ 0 ∷ [])
+    ∷ refuses 2 [] [] 256 (0 ∷ 1 ∷ []) (6 ∷ 0 ∷ 0 ∷ [])
+    ∷ refuses 2 [] [] 1 (0 ∷ 0 ∷ []) (6 ∷ 0 ∷ 0 ∷ [])
+    ∷ refuses 2 [] [] 1 (0 ∷ 2 ∷ []) (6 ∷ 0 ∷ 0 ∷ [])
+    ∷ refuses 2 [] [] 1 (0 ∷ []) (6 ∷ 0 ∷ 0 ∷ [])
+    ∷ refuses 2 [] [] 1 (0 ∷ 1 ∷ 2 ∷ []) (6 ∷ 0 ∷ 0 ∷ [])
+    ∷ refuses 4097 [] [] 1 [] (6 ∷ 0 ∷ 0 ∷ [])
     -- 6 before 5; 5 of a left set before 5 of a right set; 5 before 7; side and place
-    ∷ refuses 2 (two 1 0 ∷ []) [] 0 (0 ∷ 1 ∷ []) (6 ∷ 0 ∷ [])
+    ∷ refuses 2 (two 1 0 ∷ []) [] 0 (0 ∷ 1 ∷ []) (6 ∷ 0 ∷ 0 ∷ [])
     ∷ refuses 2 (one 0 ∷ two 1 0 ∷ []) (one 2 ∷ []) 1 (0 ∷ 1 ∷ []) (5 ∷ 0 ∷ 1 ∷ [])
     ∷ refuses 2 (one 0 ∷ []) (one 2 ∷ []) 1 (0 ∷ 1 ∷ []) (5 ∷ 1 ∷ 0 ∷ [])
     ∷ []
@@ -179,5 +178,5 @@ border-cases-right : T (all right borderCases)
 unfolding all any count sum keep memb range rising risingAfter distinct prefix setsFrom firstBadFrom badSet lastEnd ordered
     isPermutation position signatureFrom seen goesOn goesOnAt ending endingFrom isCandidate endingIn outcome total
     joinAnswer walkAnswer badSettings lt add mul ofInt right borderCases endsFrom itemsOf one two whole weighed meets shelf
-    shelfWeighed refuses same listed greatest accepted noCounts
+    shelfWeighed refuses same greatest accepted noCounts
 border-cases-right = tt

@@ -11,16 +11,14 @@ use lib.ListN.{length, replicate}
 use Rattle.lists.specs.Lists.{all, any, count, sum, keep, memb, range, upto, rising, risingAfter, distinct, prefix}
 use Rattle.sets.specs.Collections.{setsOf, setsFrom, firstBadFrom, badSet, lastEnd}
 use Rattle.sets.specs.Ordered.{ordered, isPermutation}
-use Rattle.sets.specs.Marks.{position, signatureFrom}
-use Rattle.sets.specs.Refusals.{joinNumber, joinDetail, joinCounts}
-use Rattle.sets.specs.declared.Rule.{Rule}
-use Rattle.sets.specs.declared.Rule.the-variants.{Merge, Check, Weighed}
-use Rattle.sets.specs.declared.Counts.{Counts}
+use Rattle.sets.specs.Signatures.{position, signatureFrom}
+use Rattle.join_spec.specs.declared.Rule.{Rule}
+use Rattle.join_spec.specs.declared.Rule.the-variants.{Merge, Check, Weighed}
 use Rattle.join_spec.specs.PairList.{pairList, pairsFrom, rowFrom}
 use Rattle.join_spec.specs.Node.{seen, goesOn, goesOnAt}
 use Rattle.join_spec.specs.Walk.{ending, endingFrom, isCandidate, endingIn, outcome}
 use Rattle.join_spec.specs.Counting.{total}
-use Rattle.join_spec.specs.Answer.{joinAnswer, walkAnswer, badSettings, workNeeded, pairsAfter}
+use Rattle.join_spec.specs.Answer.{joinAnswer, joinWords, walkAnswer, badSettings, workNeeded, pairsAfter}
 
 -- one example: its input, the pair list before, and what is right: number with detail, six counts, pair list after
 record Example : Type 0 where
@@ -43,10 +41,6 @@ same [] (y ∷ ys) = false
 same (x ∷ xs) [] = false
 same (x ∷ xs) (y ∷ ys) = eqb x y && same xs ys
 
--- the counts in the order of the answer
-unfoldable pub listed : Counts → List ℕ
-listed c = c .pairs ∷ c .«by_path» ∷ c .confirmed ∷ c .checks ∷ c .dropped ∷ c .«false_drops» ∷ []
-
 -- whether the definitions give what the example says, with ranks equal to items and just the work list needed
 right : Example → Bool
 right e =
@@ -54,8 +48,7 @@ right e =
     joinAnswer (e .items) (e .leftEnds) (e .leftItems) (e .rightEnds) (e .rightItems) (e .limit) (upto (e .items)) (e .budget)
     (e .rule) (workNeeded (e .items) (e .leftEnds) (e .rightEnds)) (length (e .before)) in
     let pairs = pairList (setsOf (e .leftEnds) (e .leftItems)) (setsOf (e .rightEnds) (e .rightItems)) in
-    same (joinNumber answer ∷ joinDetail answer) (e .refusal)
-    && (same (listed (joinCounts answer)) (e .counts) && same (pairsAfter answer pairs (e .before)) (e .after))
+    same (joinWords answer) (e .refusal ++ e .counts) && same (pairsAfter answer pairs (e .before)) (e .after)
 
 unfoldable pub greatest : ℕ
 greatest = 2 ^ 32 - 1
@@ -86,7 +79,7 @@ shelfPairs : List ℕ
 shelfPairs = 0 ∷ 0 ∷ 1 ∷ 0 ∷ 1 ∷ 1 ∷ 2 ∷ 2 ∷ []
 
 unfoldable pub accepted : List ℕ
-accepted = 0 ∷ 0 ∷ []
+accepted = 0 ∷ 0 ∷ 0 ∷ []
 
 shelfAccepted : ℕ → Rule → List ℕ → Example
 shelfAccepted limit rule counts = shelf limit rule greatest ten accepted counts (shelfPairs ++ 7 ∷ 7 ∷ [])
@@ -135,10 +128,10 @@ examples =
     -- P7 an empty left set, two right sets
     ∷ other 4 (0 ∷ []) [] (1 ∷ 2 ∷ []) (0 ∷ 1 ∷ []) (2 ∷ 2 ∷ 0 ∷ 0 ∷ 0 ∷ 0 ∷ []) (0 ∷ 0 ∷ 0 ∷ 1 ∷ 7 ∷ 7 ∷ [])
     -- P8 P3 with budget 6: refusal 8; with 7: accepted
-    ∷ shelf 1 Check 6 ten (8 ∷ 0 ∷ []) noCounts (replicate 10 0)
+    ∷ shelf 1 Check 6 ten (8 ∷ 0 ∷ 0 ∷ []) noCounts (replicate 10 0)
     ∷ shelf 1 Check 7 ten accepted (4 ∷ 0 ∷ 4 ∷ 7 ∷ 3 ∷ 0 ∷ []) (shelfPairs ++ 7 ∷ 7 ∷ [])
     -- P9 P3 with 7 places: refusal 9; with 8: accepted
-    ∷ shelf 1 Check greatest (replicate 7 7) (9 ∷ 0 ∷ []) noCounts (replicate 7 0)
+    ∷ shelf 1 Check greatest (replicate 7 7) (9 ∷ 0 ∷ 0 ∷ []) noCounts (replicate 7 0)
     ∷ shelf 1 Check greatest (replicate 8 7) accepted (4 ∷ 0 ∷ 4 ∷ 7 ∷ 3 ∷ 0 ∷ []) shelfPairs
     ∷ []
 
@@ -146,6 +139,6 @@ examples =
 examples-right : T (all right examples)
 unfolding all any count sum keep memb range rising risingAfter distinct prefix setsFrom firstBadFrom badSet lastEnd ordered
     isPermutation position signatureFrom pairsFrom rowFrom seen goesOn goesOnAt ending endingFrom isCandidate endingIn
-    outcome total joinAnswer walkAnswer badSettings lt add mul ofInt right examples shelf shelfAccepted other same listed
+    outcome total joinAnswer walkAnswer badSettings lt add mul ofInt right examples shelf shelfAccepted other same
     greatest ten shelfPairs accepted noCounts weighed
 examples-right = tt

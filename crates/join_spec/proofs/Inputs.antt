@@ -10,8 +10,8 @@ use Rattle.lists.proofs.Bools.{or-left-false, or-right-false}
 use Rattle.sets.specs.Limits.{maxItems, maxLimit}
 use Rattle.sets.specs.Collections.{setsOf}
 use Rattle.sets.specs.Ordered.{isPermutation}
-use Rattle.sets.specs.declared.Rule.{Rule}
-use Rattle.sets.specs.declared.JoinAnswer.{JoinAnswer}
+use Rattle.join_spec.specs.declared.Rule.{Rule}
+use Rattle.join_spec.specs.declared.JoinAnswer.{JoinAnswer}
 use Rattle.join_spec.specs.Query.{Query, query}
 use Rattle.join_spec.specs.Answer.{badSettings, joinAnswer}
 

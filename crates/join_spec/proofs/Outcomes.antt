@@ -15,7 +15,7 @@ use Rattle.lists.proofs.Throughout.{subset-elim, all-take}
 use Rattle.lists.proofs.Rising.{rising-least}
 use Rattle.sets.specs.Collections.{contained}
 use Rattle.sets.specs.Ordered.{isPermutation}
-use Rattle.sets.specs.Marks.{signature, drops}
+use Rattle.sets.specs.Signatures.{signature, drops}
 use Rattle.sets.proofs.Ordered.{below, ordered-rising, subset-ordered}
 use Rattle.sets.proofs.Signatures.{contained-not-dropped}
 use Rattle.join_spec.specs.Query.{Query, inOrder}

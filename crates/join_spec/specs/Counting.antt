@@ -2,7 +2,7 @@
 use Prim.Native.Nat.{ℕ}
 use mathlib.Core.Bool.{Bool, true, false, _||_}
 use Rattle.lists.specs.Lists.{sum, count}
-use Rattle.sets.specs.declared.Counts.{Counts}
+use Rattle.join_spec.specs.declared.Counts.{Counts}
 use Rattle.join_spec.specs.PairList.{pairCount}
 use Rattle.join_spec.specs.Query.{Query}
 use Rattle.join_spec.specs.Walk.{Outcome, notMet, byPath, dropped, falseDrop, confirmed, outcome}

@@ -8,8 +8,8 @@ use lib.IntN.{pos}
 use lib.Ieee.{Float, binary64, add, mul, lt, ofInt}
 use lib.ListN.{length, take, getD}
 use Rattle.lists.specs.Lists.{count, memb, subset, prefix}
-use Rattle.sets.specs.declared.Rule.{Rule}
-use Rattle.sets.specs.declared.Rule.the-variants.{Merge, Check, Weighed}
+use Rattle.join_spec.specs.declared.Rule.{Rule}
+use Rattle.join_spec.specs.declared.Rule.the-variants.{Merge, Check, Weighed}
 
 -- whether a right set is seen at first rank r: it isn't empty and its least rank is at most r
 unfoldable pub seen : ℕ → List ℕ → Bool

@@ -3,7 +3,7 @@ use Prim.Native.Nat.{ℕ}
 use mathlib.Core.List.{List}
 use Rattle.sets.specs.Collections.{setsOf}
 use Rattle.sets.specs.Ordered.{ordered}
-use Rattle.sets.specs.declared.Rule.{Rule}
+use Rattle.join_spec.specs.declared.Rule.{Rule}
 
 pub record Query : Type 0 where
   pub T : ℕ

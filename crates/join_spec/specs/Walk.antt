@@ -7,7 +7,7 @@ use lib.Dec.{eqb}
 use lib.ListN.{length, take}
 use Rattle.lists.specs.Lists.{subset}
 use Rattle.sets.specs.Collections.{contained}
-use Rattle.sets.specs.Marks.{signature, drops}
+use Rattle.sets.specs.Signatures.{signature, drops}
 use Rattle.join_spec.specs.Query.{Query, inOrder}
 use Rattle.join_spec.specs.Node.{seen, goesOnAt}
 

@@ -10,7 +10,7 @@ use lib.ListN.{length}
 use Rattle.lists.specs.Lists.{count, sum, slice}
 use Rattle.lists.proofs.Counting.{count-none, count-same, count-true}
 use Rattle.lists.proofs.Summing.{sum-same}
-use Rattle.sets.specs.Marks.{drops, signature}
+use Rattle.sets.specs.Signatures.{drops, signature}
 use Rattle.sets.specs.Collections.{contained}
 use Rattle.join_spec.specs.Query.{Query}
 use Rattle.join_spec.specs.Walk.{Outcome, byPath, dropped, falseDrop, confirmed}

@@ -14,7 +14,7 @@ use Rattle.lists.proofs.Counting.{count-bound}
 use Rattle.lists.proofs.Filtering.{all-keep, count-keep}
 use Rattle.lists.proofs.Ranges.{all-upto, length-range}
 use Rattle.lists.proofs.Slices.{length-slice}
-use Rattle.sets.specs.declared.Rule.the-variants.{Merge, Check}
+use Rattle.join_spec.specs.declared.Rule.the-variants.{Merge, Check}
 use Rattle.join_spec.specs.Query.{Query, inOrder}
 use Rattle.join_spec.specs.Node.{seen, firstOf, lastOf, candidates, beginning, goesOn, goesOnAt}
 use Rattle.join_spec.specs.Walk.{isCandidate}

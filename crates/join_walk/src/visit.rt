@@ -10,7 +10,7 @@ use crate::narrow::narrow;
 use join_check::Tally;
 use join_check::keys::run_end;
 use join_index::Layout;
-use sets::Rule;
+use join_spec::Rule;
 ghost use mathlib.Core.Path.{_≡_};
 ghost use mathlib.Core.List.{List};
 ghost use Prim.Native.Nat.{ℕ};

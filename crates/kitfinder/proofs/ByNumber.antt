@@ -7,12 +7,12 @@ use mathlib.Core.Bool.{Bool, cond, true}
 use borrow.Author.Tests.{eq-eqb, ne-eqb, lt-ltb, le-ltb}
 use lib.Dec.{eqb}
 use lib.ListN.{length}
-use Rattle.sets.specs.declared.Rule.{Rule}
-use Rattle.sets.specs.declared.Rule.the-variants.{Merge, Check, Weighed}
-use Rattle.sets.specs.declared.Weights.{Weights}
+use Rattle.join_spec.specs.declared.Rule.{Rule}
+use Rattle.join_spec.specs.declared.Rule.the-variants.{Merge, Check, Weighed}
+use Rattle.join_spec.specs.declared.Weights.{Weights}
 use Rattle.sets.specs.declared.Refusal.the-variants.{BadSettings}
-use Rattle.sets.specs.declared.JoinAnswer.{JoinAnswer}
-use Rattle.sets.specs.declared.JoinAnswer.the-variants.{Refused}
+use Rattle.join_spec.specs.declared.JoinAnswer.{JoinAnswer}
+use Rattle.join_spec.specs.declared.JoinAnswer.the-variants.{Refused}
 use Rattle.join_spec.specs.Answer.{joinAnswer, pairsAfter, workKept}
 use Rattle.kitfinder.specs.Numbered.{ruleOf, numberedAnswer}
 

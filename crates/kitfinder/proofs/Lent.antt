@@ -2,7 +2,7 @@
 use Prim.Native.Nat.{ℕ}
 use mathlib.Core.Path.{_≡_, ap, _∙_}
 use mathlib.Core.List.{List}
-use Rattle.sets.specs.declared.LoadAnswer.{LoadAnswer}
+use Rattle.tag_file.specs.declared.LoadAnswer.{LoadAnswer}
 use Rattle.tag_file.specs.Loading.{lentAfter}
 
 pub list-after : {answer right : LoadAnswer} (part before : List ℕ) {after : List ℕ} → answer ≡ right

@@ -1,4 +1,3 @@
--- Contents: the words of a refusal, a join whose rule is a number, and a lent list after an equal answer of the loader.
-pub mod Heads
+-- Contents: a join whose rule is a number, and a lent list after an equal answer of the loader.
 pub mod ByNumber
 pub mod Lent

@@ -1,4 +1,3 @@
--- Contents: the rule as a number, the loader's lists, and the answer words of the exported functions.
+-- Contents: the rule as a number, and the loader's lists.
 pub mod Numbered
 pub mod LoadedLists
-pub mod Words

@@ -5,12 +5,12 @@ use mathlib.Core.List.{List}
 use mathlib.Core.Bool.{cond}
 use lib.Dec.{eqb, ltb}
 use lib.Ieee.{Float}
-use Rattle.sets.specs.declared.Rule.{Rule}
-use Rattle.sets.specs.declared.Rule.the-variants.{Merge, Check, Weighed}
-use Rattle.sets.specs.declared.Weights.{Weights}
+use Rattle.join_spec.specs.declared.Rule.{Rule}
+use Rattle.join_spec.specs.declared.Rule.the-variants.{Merge, Check, Weighed}
+use Rattle.join_spec.specs.declared.Weights.{Weights}
 use Rattle.sets.specs.declared.Refusal.the-variants.{BadSettings}
-use Rattle.sets.specs.declared.JoinAnswer.{JoinAnswer}
-use Rattle.sets.specs.declared.JoinAnswer.the-variants.{Refused}
+use Rattle.join_spec.specs.declared.JoinAnswer.{JoinAnswer}
+use Rattle.join_spec.specs.declared.JoinAnswer.the-variants.{Refused}
 use Rattle.join_spec.specs.Answer.{joinAnswer}
 
 abbrev pub weightsOf : Float → Float → Float → Float → Weights

@@ -1,195 +1,22 @@
 // The static library for C and Rust: thin exported functions, each over one proved operation. Names, parameters and answer words
 // are those of include/kitfinder.h; what the words hold is defined in specs/.
-use sets::JoinAnswer;
-use sets::LoadAnswer;
-use sets::OrderAnswer;
+use join_spec::JoinAnswer;
+use join_spec::Rule;
+use join_spec::Weights;
 use sets::Refusal;
-use sets::Rule;
-use sets::Side;
-use sets::Weights;
-use sets::WriteAnswer;
-use tag_file::ReadAnswer;
 ghost use mathlib.Core.Path.{_≡_};
 ghost use mathlib.Core.Bool.{true, not};
 ghost use lib.Dec.{eqb};
-ghost use lib.ListN.{length, getD};
-ghost use Rattle.sets.specs.Refusals.{number, detail, sideNumber};
-ghost use Rattle.tag_file.specs.Reading.{readAt};
+ghost use lib.ListN.{length};
+ghost use Rattle.tag_file.specs.Reading.{readAt, readWords};
 ghost use Rattle.sets.specs.Collections.{setsOf};
 ghost use Rattle.join_spec.specs.PairList.{pairList};
-ghost use Rattle.join_spec.specs.Answer.{pairsAfter, workKept};
-ghost use Rattle.item_order.specs.Order.{orderAnswer, orderRanks};
-ghost use Rattle.tag_file.specs.Loading.{listsOf, loadAnswer};
-ghost use Rattle.tag_writer.specs.Writer.{fileBytes, writeAnswer, fileAfter};
+ghost use Rattle.join_spec.specs.Answer.{pairsAfter, workKept, joinWords};
+ghost use Rattle.item_order.specs.Order.{orderAnswer, orderRanks, orderWords};
+ghost use Rattle.tag_file.specs.Loading.{listsOf, loadAnswer, loadWords};
+ghost use Rattle.tag_writer.specs.Writer.{fileBytes, writeAnswer, fileAfter, writeWords};
 ghost use Rattle.kitfinder.specs.Numbered.{ruleOf, weightsOf, numberedAnswer};
 ghost use Rattle.kitfinder.specs.LoadedLists.{loadedList};
-ghost use Rattle.kitfinder.specs.Words.{joinWords, orderWords, loadWords, writeWords, readWords};
-
-// The three words that every answer begins with: the number of a refusal, and what is returned with it.
-pub struct Head {
-    pub number: u64,
-    pub first: u64,
-    pub second: u64,
-}
-
-fn side_word(side: Side) -> u64
-    ensures { λ r. ⌜ r ≡ sideNumber side ⌝ }
-{
-    match side {
-        Side::Left => 0,
-        Side::Right => 1,
-    }
-}
-
-fn head_of(why: Refusal) -> Head
-    ensures { λ r. ⌜ (r .number ≡ number why) × (r .first ≡ getD (detail why) 0 0) × (r .second ≡ getD (detail why) 1 0) ⌝ }
-{
-    match why {
-        Refusal::Malformed(place) => Head {
-            number: 1,
-            first: place as u64,
-            second: 0,
-        },
-        Refusal::NumberUsed(place) => Head {
-            number: 2,
-            first: place as u64,
-            second: 0,
-        },
-        Refusal::TooMany(place) => Head {
-            number: 3,
-            first: place as u64,
-            second: 0,
-        },
-        Refusal::ShortOutput => Head {
-            number: 4,
-            first: 0,
-            second: 0,
-        },
-        Refusal::BadSet(side, place) => Head {
-            number: 5,
-            first: side_word(side),
-            second: place as u64,
-        },
-        Refusal::BadSettings => Head {
-            number: 6,
-            first: 0,
-            second: 0,
-        },
-        Refusal::ShortWork => Head {
-            number: 7,
-            first: 0,
-            second: 0,
-        },
-        Refusal::Spent => Head {
-            number: 8,
-            first: 0,
-            second: 0,
-        },
-        Refusal::ShortPairs => Head {
-            number: 9,
-            first: 0,
-            second: 0,
-        },
-    }
-}
-
-fn join_words(answer: JoinAnswer) -> [u64; 9]
-    ensures { λ r. ⌜ r ≡ joinWords answer ⌝ }
-{
-    match answer {
-        JoinAnswer::Joined(counts) => [
-            0,
-            0,
-            0,
-            counts.pairs as u64,
-            counts.by_path as u64,
-            counts.confirmed as u64,
-            counts.checks as u64,
-            counts.dropped as u64,
-            counts.false_drops as u64,
-        ],
-        JoinAnswer::Refused(why) => {
-            let head = head_of(why);
-            [head.number, head.first, head.second, 0, 0, 0, 0, 0, 0]
-        }
-    }
-}
-
-fn order_words(answer: OrderAnswer) -> [u64; 3]
-    ensures { λ r. ⌜ r ≡ orderWords answer ⌝ }
-{
-    match answer {
-        OrderAnswer::Ordered => [0, 0, 0],
-        OrderAnswer::Refused(why) => {
-            let head = head_of(why);
-            [head.number, head.first, head.second]
-        }
-    }
-}
-
-fn load_words(answer: LoadAnswer) -> [u64; 8]
-    ensures { λ r. ⌜ r ≡ loadWords answer ⌝ }
-{
-    match answer {
-        LoadAnswer::Loaded(loaded) => [
-            0,
-            0,
-            0,
-            loaded.left_sets as u64,
-            loaded.right_sets as u64,
-            loaded.left_entries as u64,
-            loaded.right_entries as u64,
-            loaded.tags as u64,
-        ],
-        LoadAnswer::Refused(why) => {
-            let head = head_of(why);
-            [head.number, head.first, head.second, 0, 0, 0, 0, 0]
-        }
-    }
-}
-
-fn write_words(answer: WriteAnswer) -> [u64; 4]
-    ensures { λ r. ⌜ r ≡ writeWords answer ⌝ }
-{
-    match answer {
-        WriteAnswer::Written(length) => [0, 0, 0, length as u64],
-        WriteAnswer::Refused(why) => {
-            let head = head_of(why);
-            [head.number, head.first, head.second, 0]
-        }
-    }
-}
-
-fn read_words(answer: ReadAnswer) -> [u64; 9]
-    ensures { λ r. ⌜ r ≡ readWords answer ⌝ }
-{
-    match answer {
-        ReadAnswer::Record {
-            side,
-            number,
-            count,
-            tags,
-            next,
-        } => {
-            [
-                0,
-                0,
-                0,
-                0,
-                side_word(side),
-                number as u64,
-                count as u64,
-                tags as u64,
-                next as u64,
-            ]
-        }
-        ReadAnswer::NoMore => [0, 0, 0, 1, 0, 0, 0, 0, 0],
-        ReadAnswer::Refused(why) => {
-            let head = head_of(why);
-            [head.number, head.first, head.second, 0, 0, 0, 0, 0, 0]
-        }
-    }
-}
 
 // The rule of a number: 0 Merge, 1 Check, else Weighed.
 fn rule_of(number: u32, weights: Weights) -> Rule
@@ -285,7 +112,7 @@ pub extern "C" fn kitfinder_join(
         → now (work .exit) ≡ now (work .entry)) ⌝ }
 {
     let weights = Weights { a, b, g, h };
-    *answer = join_words(join_numbered(
+    *answer = join_spec::join_words(join_numbered(
         t,
         left_ends,
         left_items,
@@ -306,7 +133,7 @@ pub extern "C" fn kitfinder_join(
 pub extern "C" fn kitfinder_read_record(file: &[u8], at: usize, answer: &mut [u64; 9])
     ensures answer { λ _. ⌜ now (answer .exit) ≡ readWords (readAt (now (file .entry)) at) ⌝ }
 {
-    *answer = read_words(tag_file::read_record(file, at));
+    *answer = tag_file::read_words(tag_file::read_record(file, at));
 }
 
 // Ranks the items by frequency.
@@ -327,7 +154,7 @@ pub extern "C" fn kitfinder_order(
     ensures ranks { λ _. ⌜ now (ranks .exit) ≡ orderRanks t (now («left_ends» .entry)) (now («left_items» .entry))
         (now («right_ends» .entry)) (now («right_items» .entry)) (not (eqb falling 0)) (now (ranks .entry)) ⌝ }
 {
-    *answer = order_words(item_order::order(
+    *answer = item_order::order_words(item_order::order(
         t,
         left_ends,
         left_items,
@@ -376,7 +203,7 @@ pub extern "C" fn kitfinder_load(
         (listsOf (now (tags .entry)) (now («left_numbers» .entry)) (now («left_ends» .entry)) (now («left_items» .entry))
         (now («right_numbers» .entry)) (now («right_ends» .entry)) (now («right_items» .entry))) ⌝ }
 {
-    *answer = load_words(tag_loader::load(
+    *answer = tag_file::load_words(tag_loader::load(
         file,
         tags,
         left_numbers,
@@ -411,7 +238,7 @@ pub extern "C" fn kitfinder_write(
         (fileBytes (now (tags .entry)) (now («left_numbers» .entry)) (now («left_ends» .entry)) (now («left_items» .entry))
         (now («right_numbers» .entry)) (now («right_ends» .entry)) (now («right_items» .entry))) (now (file .entry)) ⌝ }
 {
-    *answer = write_words(tag_writer::write(
+    *answer = tag_writer::write_words(tag_writer::write(
         t,
         tags,
         left_numbers,

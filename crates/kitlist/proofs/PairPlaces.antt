@@ -10,9 +10,9 @@ use borrow.Author.Tests.{ltb-true, lt-ltb}
 use Rattle.lists.proofs.Bools.{and-left, and-right, and-both}
 use Rattle.sets.specs.Collections.{contained}
 use Rattle.sets.proofs.Between.{length-sets}
-use Rattle.sets.specs.declared.Counts.{Counts}
-use Rattle.sets.specs.declared.JoinAnswer.{JoinAnswer}
-use Rattle.sets.specs.declared.JoinAnswer.the-variants.{Joined}
+use Rattle.join_spec.specs.declared.Counts.{Counts}
+use Rattle.join_spec.specs.declared.JoinAnswer.{JoinAnswer}
+use Rattle.join_spec.specs.declared.JoinAnswer.the-variants.{Joined}
 use Rattle.join_spec.specs.PairList.{ontoPair, rowFrom, pairsFrom, pairCount}
 use Rattle.join_spec.specs.Answer.{pairsAfter}
 use Rattle.join_spec.proofs.Inputs.{Collections, Settings, leftsOf, rightsOf, answerOf}

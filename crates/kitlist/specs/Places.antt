@@ -5,7 +5,7 @@ use mathlib.Core.List.{List, [], _∷_}
 use mathlib.Core.Bool.{Bool, true, false, _&&_}
 use lib.Dec.{ltb}
 use lib.ListN.{length}
-use Rattle.sets.specs.declared.Loaded.{Loaded}
+use Rattle.tag_file.specs.declared.Loaded.{Loaded}
 
 -- whether each pair is of a place below m and one below n; a half pair is none
 unfoldable pub pairsWithin : ℕ → ℕ → List ℕ → Bool

@@ -15,3 +15,5 @@ pub mod Ordered
 pub mod Rises
 -- marks: what is dropped is not contained
 pub mod Signatures
+-- the words of a refusal
+pub mod Words

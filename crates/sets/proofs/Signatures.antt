@@ -13,7 +13,7 @@ use Rattle.lists.specs.Lists.{memb}
 use Rattle.lists.proofs.Membership.{memb-head, memb-tail, memb-cons, memb-nil}
 use Rattle.lists.proofs.Throughout.{subset-elim}
 use Rattle.sets.specs.Collections.{contained}
-use Rattle.sets.specs.Marks.{position, signatureFrom, signature, drops}
+use Rattle.sets.specs.Signatures.{position, signatureFrom, signature, drops}
 
 -- the digits of a covered word
 covered-digits : (a b : ℕ) → bitAnd a b ≡ a → (bitAnd (a / 2) (b / 2) ≡ a / 2) × (min (a % 2) (b % 2) ≡ a % 2)

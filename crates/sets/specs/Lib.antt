@@ -2,5 +2,6 @@
 pub mod Limits
 pub mod Collections
 pub mod Ordered
-pub mod Marks
+pub mod Signatures
 pub mod Refusals
+pub mod Lent

@@ -1,8 +1,9 @@
--- The refusal table of document 01, "When no list is made": the number and the detail of each refusal, and of each answer its
--- number and counts. 0 is the number of an accepted input; every count of a refusal is 0.
+-- The refusal table of document 01, "When no list is made", a row a refusal; the words that every answer begins with; and how
+-- tests follow each other: the first that refuses decides.
 use Prim.Native.Nat.{ℕ}
 use mathlib.Core.List.{List, [], _∷_}
-use mathlib.Core.Bool.{Bool, true, false}
+use mathlib.Core.Bool.{Bool, true, false, cond}
+use lib.ListN.{replicate}
 use Rattle.sets.specs.declared.Side.{Side}
 use Rattle.sets.specs.declared.Side.the-variants.{Left, Right}
 use Rattle.sets.specs.declared.Refusal.{Refusal}
@@ -10,98 +11,61 @@ use Rattle.sets.specs.declared.Refusal.the-variants.{Malformed, NumberUs
 use Rattle.sets.specs.declared.Refusal.the-variants.{ShortWork, Spent, ShortPairs}
 use Rattle.sets.specs.declared.Verdict.{Verdict}
 use Rattle.sets.specs.declared.Verdict.the-variants.{Good, Bad}
-use Rattle.sets.specs.declared.Counts.{Counts}
-use Rattle.sets.specs.declared.Loaded.{Loaded}
-use Rattle.sets.specs.declared.JoinAnswer.{JoinAnswer}
-use Rattle.sets.specs.declared.JoinAnswer.the-variants as join
-use Rattle.sets.specs.declared.OrderAnswer.{OrderAnswer}
-use Rattle.sets.specs.declared.OrderAnswer.the-variants as order
-use Rattle.sets.specs.declared.LoadAnswer.{LoadAnswer}
-use Rattle.sets.specs.declared.LoadAnswer.the-variants as load
-use Rattle.sets.specs.declared.WriteAnswer.{WriteAnswer}
-use Rattle.sets.specs.declared.WriteAnswer.the-variants as write
+use Rattle.sets.specs.declared.Tested.{Tested}
+use Rattle.sets.specs.declared.Tested.the-variants.{Passed, Failed}
+
+-- a row: the number, the two numbers that return with it, and whether the outputs become zeros or stay as they were
+pub record Row : Type 0 where
+  pub number : ℕ
+  pub first : ℕ
+  pub second : ℕ
+  pub clears : Bool
+
+abbrev pub clearing : ℕ → ℕ → Row
+clearing number place = record { number = number; first = place; second = 0; clears = true }
+
+abbrev pub keeping : ℕ → ℕ → ℕ → Row
+keeping number first second = record { number = number; first = first; second = second; clears = false }
 
 -- the number of a side
 abbrev pub sideNumber : Side → ℕ
 sideNumber Left = 0
 sideNumber Right = 1
 
--- the number of a refusal
-abbrev pub number : Refusal → ℕ
-number (Malformed place) = 1
-number (NumberUsed place) = 2
-number (TooMany place) = 3
-number ShortOutput = 4
-number (BadSet side place) = 5
-number BadSettings = 6
-number ShortWork = 7
-number Spent = 8
-number ShortPairs = 9
+-- the table; a place is the byte place of a record, or the place of a set
+abbrev pub rowOf : Refusal → Row
+rowOf (Malformed place) = clearing 1 place
+rowOf (NumberUsed place) = clearing 2 place
+rowOf (TooMany place) = clearing 3 place
+rowOf ShortOutput = clearing 4 0
+rowOf (BadSet side place) = keeping 5 (sideNumber side) place
+rowOf BadSettings = keeping 6 0 0
+rowOf ShortWork = keeping 7 0 0
+rowOf Spent = clearing 8 0
+rowOf ShortPairs = clearing 9 0
 
--- what returns with it: the byte place of a record, side and place of a bad set, else 0
-abbrev pub detail : Refusal → List ℕ
-detail (Malformed place) = place ∷ []
-detail (NumberUsed place) = place ∷ []
-detail (TooMany place) = place ∷ []
-detail ShortOutput = 0 ∷ []
-detail (BadSet side place) = sideNumber side ∷ place ∷ []
-detail BadSettings = 0 ∷ []
-detail ShortWork = 0 ∷ []
-detail Spent = 0 ∷ []
-detail ShortPairs = 0 ∷ []
+-- whether the outputs become zeros
+abbrev pub clears : Refusal → Bool
+clears why = rowOf why .clears
 
--- whether a refusal comes after the walk (8 and 9), when work and pair lists were in use
-abbrev pub isLate : Refusal → Bool
-isLate (Malformed place) = false
-isLate (NumberUsed place) = false
-isLate (TooMany place) = false
-isLate ShortOutput = false
-isLate (BadSet side place) = false
-isLate BadSettings = false
-isLate ShortWork = false
-isLate Spent = true
-isLate ShortPairs = true
+-- the words of an answer that refuses where an accepted input has so many values: number, what returns with it, and zeros
+abbrev pub refusedWords : Refusal → ℕ → List ℕ
+refusedWords why values = rowOf why .number ∷ rowOf why .first ∷ rowOf why .second ∷ replicate values 0
 
--- the refusal of a side's first bad set, or else the answer that follows
-abbrev pub unlessBad : {A : Type 0} → (Refusal → A) → Side → Verdict → A → A
-unlessBad refused side Good answer = answer
-unlessBad refused side (Bad place) answer = refused (BadSet side place)
+-- the words of an answer that accepts: three zeros, then the values
+abbrev pub acceptedWords : List ℕ → List ℕ
+acceptedWords values = 0 ∷ 0 ∷ 0 ∷ values
 
-abbrev pub noCounts : Counts
-noCounts = record { «by_path» = 0; checks = 0; confirmed = 0; dropped = 0; «false_drops» = 0; pairs = 0 }
+-- a test that fails with this refusal where something is wrong
+abbrev pub refuseIf : Bool → Refusal → Tested
+refuseIf wrong why = cond wrong (Failed why) Passed
 
-abbrev pub joinNumber : JoinAnswer → ℕ
-joinNumber (join.Joined counts) = 0
-joinNumber (join.Refused why) = number why
+-- the test of a side's sets, by its first bad one
+abbrev pub noBadSet : Side → Verdict → Tested
+noBadSet side Good = Passed
+noBadSet side (Bad place) = Failed (BadSet side place)
 
-abbrev pub joinDetail : JoinAnswer → List ℕ
-joinDetail (join.Joined counts) = 0 ∷ []
-joinDetail (join.Refused why) = detail why
-
-abbrev pub joinCounts : JoinAnswer → Counts
-joinCounts (join.Joined counts) = counts
-joinCounts (join.Refused why) = noCounts
-
-abbrev pub orderNumber : OrderAnswer → ℕ
-orderNumber order.Ordered = 0
-orderNumber (order.Refused why) = number why
-
-abbrev pub nothingLoaded : Loaded
-nothingLoaded =
-    record { «left_sets» = 0; «right_sets» = 0; «left_entries» = 0; «right_entries» = 0; tags = 0 }
-
-abbrev pub loadNumber : LoadAnswer → ℕ
-loadNumber (load.Loaded loaded) = 0
-loadNumber (load.Refused why) = number why
-
-abbrev pub loadCounts : LoadAnswer → Loaded
-loadCounts (load.Loaded loaded) = loaded
-loadCounts (load.Refused why) = nothingLoaded
-
-abbrev pub writeNumber : WriteAnswer → ℕ
-writeNumber (write.Written length) = 0
-writeNumber (write.Refused why) = number why
-
-abbrev pub writtenLength : WriteAnswer → ℕ
-writtenLength (write.Written length) = length
-writtenLength (write.Refused why) = 0
+-- the refusal of a failed test, or else what follows
+abbrev pub unless : {A : Type 0} → (Refusal → A) → Tested → A → A
+unless refused Passed next = next
+unless refused (Failed why) next = refused why

@@ -1,5 +1,5 @@
-// Collections of sets, the settings of a join, and the answers of the public operations: the types that the crates
-// above share, and the tests of what is lent to them: the first bad set, and a rank table. What each means is defined in specs/.
+// Collections of sets and what is said of them: sides, refusals with their words, and the tests of what is lent: the first bad
+// set, and a rank table. What each means is defined in specs/. Each operation's answer is declared by the crate that owns it.
 
 // The greatest count of items, T.
 pub const MAX_ITEMS: u32 = 4096;
@@ -32,68 +32,23 @@ pub enum Refusal {
     ShortPairs,
 }
 
-// The four weights of the weighed merge rule.
-pub struct Weights {
-    pub a: f64,
-    pub b: f64,
-    pub g: f64,
-    pub h: f64,
-}
-
-// The merge rule: what decides at a node whether the walk goes on.
-pub enum Rule {
-    Merge,
-    Check,
-    Weighed(Weights),
-}
-
-// The six counts of a join.
-pub struct Counts {
-    pub pairs: u32,
-    pub by_path: u32,
-    pub confirmed: u32,
-    pub checks: u32,
-    pub dropped: u32,
-    pub false_drops: u32,
-}
-
-// What a join answers.
-pub enum JoinAnswer {
-    Joined(Counts),
-    Refused(Refusal),
-}
-
-// What the order of items answers.
-pub enum OrderAnswer {
-    Ordered,
-    Refused(Refusal),
-}
-
-// How much a loader filled: sets and item entries a side, and tags.
-pub struct Loaded {
-    pub left_sets: usize,
-    pub right_sets: usize,
-    pub left_entries: usize,
-    pub right_entries: usize,
-    pub tags: usize,
-}
-
-// What the loader answers.
-pub enum LoadAnswer {
-    Loaded(Loaded),
-    Refused(Refusal),
-}
-
-// What the writer answers: the length of what it wrote.
-pub enum WriteAnswer {
-    Written(usize),
-    Refused(Refusal),
-}
-
 // Whether a collection has a bad set, and the place of the first.
 pub enum Verdict {
     Good,
     Bad(usize),
+}
+
+// What a test of an input finds: nothing wrong, or why it is refused.
+pub enum Tested {
+    Passed,
+    Failed(Refusal),
+}
+
+// The three words that every answer begins with: the number of a refusal, and what returns with it.
+pub struct Head {
+    pub number: u64,
+    pub first: u64,
+    pub second: u64,
 }
 
 ghost use mathlib.Core.Path.{_≡_};
@@ -105,6 +60,70 @@ ghost use Rattle.lists.specs.Lists.{all, rising, distinct};
 ghost use Rattle.sets.specs.Limits.{halfWords};
 ghost use Rattle.sets.specs.Ordered.{isPermutation};
 ghost use Rattle.sets.specs.Collections.{between, goodItems, goodEnd, firstBad, entries};
+ghost use Rattle.sets.specs.Refusals.{sideNumber, rowOf};
+
+// The number of a side.
+pub fn side_word(side: Side) -> u64
+    ensures { λ r. ⌜ r ≡ sideNumber side ⌝ }
+{
+    match side {
+        Side::Left => 0,
+        Side::Right => 1,
+    }
+}
+
+// The number of a refusal, and what returns with it: the refusal table.
+pub fn head_of(why: Refusal) -> Head
+    ensures { λ r. ⌜ (r .number ≡ rowOf why .number) × (r .first ≡ rowOf why .first) × (r .second ≡ rowOf why .second) ⌝ }
+{
+    match why {
+        Refusal::Malformed(place) => Head {
+            number: 1,
+            first: place as u64,
+            second: 0,
+        },
+        Refusal::NumberUsed(place) => Head {
+            number: 2,
+            first: place as u64,
+            second: 0,
+        },
+        Refusal::TooMany(place) => Head {
+            number: 3,
+            first: place as u64,
+            second: 0,
+        },
+        Refusal::ShortOutput => Head {
+            number: 4,
+            first: 0,
+            second: 0,
+        },
+        Refusal::BadSet(side, place) => Head {
+            number: 5,
+            first: side_word(side),
+            second: place as u64,
+        },
+        Refusal::BadSettings => Head {
+            number: 6,
+            first: 0,
+            second: 0,
+        },
+        Refusal::ShortWork => Head {
+            number: 7,
+            first: 0,
+            second: 0,
+        },
+        Refusal::Spent => Head {
+            number: 8,
+            first: 0,
+            second: 0,
+        },
+        Refusal::ShortPairs => Head {
+            number: 9,
+            first: 0,
+            second: 0,
+        },
+    }
+}
 
 // Whether the items of a part are below t and strictly rise: `least` is the least that the next may be.
 fn rises_below(t: u32, start: usize, end: usize, items: &[u16]) -> bool

@@ -14,7 +14,7 @@ use lib.Pow.{shl-exact}
 use lib.Seq.{getD-set-same, getD-set-other, take-set-le}
 use Rattle.lists.proofs.Bools.{by-test}
 use Rattle.sets.specs.Collections.{between}
-use Rattle.sets.specs.Marks.{position, signatureFrom}
+use Rattle.sets.specs.Signatures.{position, signatureFrom}
 use Rattle.sets.proofs.Between.{between-cons, between-nil}
 use Rattle.sets.proofs.Signatures.{position-bound}
 use Rattle.signatures.specs.Signing.{Positions, ItemsRoom, Stored}

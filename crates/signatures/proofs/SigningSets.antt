@@ -13,7 +13,7 @@ use lib.Seq.{drop-cons, drop-drop, getD-drop}
 use Rattle.lists.proofs.Bools.{by-test}
 use Rattle.lists.proofs.Slices.{frame-less, frame-at}
 use Rattle.sets.specs.Collections.{between, setsFrom, setsOf, firstBadFrom}
-use Rattle.sets.specs.Marks.{signature}
+use Rattle.sets.specs.Signatures.{signature}
 use Rattle.sets.specs.declared.Verdict.the-variants.{Good}
 use Rattle.sets.proofs.Between.{length-sets}
 use Rattle.sets.proofs.Good.{set-item, good-step, good-next}

@@ -5,7 +5,7 @@ use mathlib.Core.List.{List, []}
 use lib.ListN.{length, take, getD}
 use Rattle.sets.specs.Limits.{maxItems}
 use Rattle.sets.specs.Collections.{firstBad}
-use Rattle.sets.specs.Marks.{position, signature}
+use Rattle.sets.specs.Signatures.{position, signature}
 use Rattle.sets.specs.declared.Verdict.the-variants.{Good}
 
 -- the table has the bit of each item that it has a place for

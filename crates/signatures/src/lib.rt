@@ -5,7 +5,7 @@ ghost use mathlib.Core.Path.{_≡_};
 ghost use Prim.Native.Nat.{_+_, _≤_};
 ghost use lib.ListN.{length};
 ghost use Rattle.sets.specs.Collections.{between, setsOf};
-ghost use Rattle.sets.specs.Marks.{signature};
+ghost use Rattle.sets.specs.Signatures.{signature};
 ghost use Rattle.signatures.specs.Signing.{Positions, ItemsRoom, Stored, SigningRoom, Signed, BothRoom, BothSigned};
 
 // The bits of the items: (3^k mod 257) mod 64.

@@ -8,13 +8,14 @@ use lib.Dec.{eqb, leb, ltb}
 use lib.ListN.{length, drop, replicate}
 use Rattle.lists.specs.Lists.{any}
 use Rattle.sets.specs.Limits.{maxItems, maxSets, maxEntries}
+use Rattle.sets.specs.Refusals.{acceptedWords, refusedWords}
 use Rattle.sets.specs.declared.Side.{Side}
 use Rattle.sets.specs.declared.Side.the-variants.{Left, Right}
 use Rattle.sets.specs.declared.Refusal.{Refusal}
 use Rattle.sets.specs.declared.Refusal.the-variants.{NumberUsed, TooMany, ShortOutput}
-use Rattle.sets.specs.declared.Loaded.{Loaded}
-use Rattle.sets.specs.declared.LoadAnswer.{LoadAnswer}
-use Rattle.sets.specs.declared.LoadAnswer.the-variants as load
+use Rattle.tag_file.specs.declared.Loaded.{Loaded}
+use Rattle.tag_file.specs.declared.LoadAnswer.{LoadAnswer}
+use Rattle.tag_file.specs.declared.LoadAnswer.the-variants as load
 use Rattle.tag_file.specs.Format.{tagBytes}
 use Rattle.tag_file.specs.Reading.{readAt}
 use Rattle.tag_file.specs.Records.{TagRecord, totalLength, records, sameSide, ofSide, tagTable, entriesOf, setsOfSide}
@@ -152,3 +153,10 @@ listsOf tags leftNumbers leftEnds leftItems rightNumbers rightEnds rightItems =
       rightEnds = rightEnds;
       rightItems = rightItems;
     }
+
+-- the words of an answer: left sets, right sets, left entries, right entries, tags
+abbrev pub loadWords : LoadAnswer → List ℕ
+loadWords (load.Loaded loaded) =
+    acceptedWords
+    (loaded .«left_sets» ∷ loaded .«right_sets» ∷ loaded .«left_entries» ∷ loaded .«right_entries» ∷ loaded .tags ∷ [])
+loadWords (load.Refused why) = refusedWords why 5

@@ -2,10 +2,28 @@
 // its own.
 use sets::Refusal;
 use sets::Side;
+use sets::head_of;
+use sets::side_word;
+// How much a loader filled: sets and item entries a side, and tags.
+pub struct Loaded {
+    pub left_sets: usize,
+    pub right_sets: usize,
+    pub left_entries: usize,
+    pub right_entries: usize,
+    pub tags: usize,
+}
+
+// What the loader answers.
+pub enum LoadAnswer {
+    Loaded(Loaded),
+    Refused(Refusal),
+}
+
 ghost use mathlib.Core.Path.{_≡_};
 ghost use Prim.Native.Nat.{_+_, _≤_, _<_};
 ghost use lib.ListN.{length};
-ghost use Rattle.tag_file.specs.Reading.{readAt, recordAt};
+ghost use Rattle.tag_file.specs.Reading.{readAt, recordAt, readWords};
+ghost use Rattle.tag_file.specs.Loading.{loadWords};
 ghost use Rattle.tag_file.specs.Inner.{ByteAt};
 
 // What the record reader answers: a whole record with the place of its first tag and the next place, that there is no
@@ -20,6 +38,60 @@ pub enum ReadAnswer {
     },
     NoMore,
     Refused(Refusal),
+}
+
+// The words of the reader's answer at the C boundary.
+pub fn read_words(answer: ReadAnswer) -> [u64; 9]
+    ensures { λ r. ⌜ r ≡ readWords answer ⌝ }
+{
+    match answer {
+        ReadAnswer::Record {
+            side,
+            number,
+            count,
+            tags,
+            next,
+        } => {
+            [
+                0,
+                0,
+                0,
+                0,
+                side_word(side),
+                number as u64,
+                count as u64,
+                tags as u64,
+                next as u64,
+            ]
+        }
+        ReadAnswer::NoMore => [0, 0, 0, 1, 0, 0, 0, 0, 0],
+        ReadAnswer::Refused(why) => {
+            let head = head_of(why);
+            [head.number, head.first, head.second, 0, 0, 0, 0, 0, 0]
+        }
+    }
+}
+
+// The words of the loader's answer at the C boundary.
+pub fn load_words(answer: LoadAnswer) -> [u64; 8]
+    ensures { λ r. ⌜ r ≡ loadWords answer ⌝ }
+{
+    match answer {
+        LoadAnswer::Loaded(loaded) => [
+            0,
+            0,
+            0,
+            loaded.left_sets as u64,
+            loaded.right_sets as u64,
+            loaded.left_entries as u64,
+            loaded.right_entries as u64,
+            loaded.tags as u64,
+        ],
+        LoadAnswer::Refused(why) => {
+            let head = head_of(why);
+            [head.number, head.first, head.second, 0, 0, 0, 0, 0]
+        }
+    }
 }
 
 // The byte at a place.

@@ -8,9 +8,9 @@ use native.Mathlib.Omega.{arith}
 use lib.ListN.{length, replicate}
 use Rattle.sets.specs.declared.Refusal.{Refusal}
 use Rattle.sets.specs.declared.Refusal.the-variants.{ShortOutput}
-use Rattle.sets.specs.declared.Loaded.{Loaded}
-use Rattle.sets.specs.declared.LoadAnswer.{LoadAnswer}
-use Rattle.sets.specs.declared.LoadAnswer.the-variants as load
+use Rattle.tag_file.specs.declared.Loaded.{Loaded}
+use Rattle.tag_file.specs.declared.LoadAnswer.{LoadAnswer}
+use Rattle.tag_file.specs.declared.LoadAnswer.the-variants as load
 use Rattle.tag_file.specs.Records.{records}
 use Rattle.tag_file.specs.Loading.{Lists, fileFault, countsOf, unless, filled, roomFor, listsOf, loadAnswer, lentAfter}
 use Rattle.tag_scan.specs.Scan.{Scanned, Limited}

@@ -6,7 +6,7 @@ use mathlib.Core.Bool.{Bool, true, _&&_}
 use lib.Dec.{leb}
 use lib.ListN.{length, replicate}
 use Rattle.sets.specs.declared.Side.the-variants.{Left, Right}
-use Rattle.sets.specs.declared.Loaded.{Loaded}
+use Rattle.tag_file.specs.declared.Loaded.{Loaded}
 use Rattle.tag_file.specs.Records.{TagRecord, records, tagTable}
 use Rattle.tag_file.specs.Format.{tagBytes}
 use Rattle.tag_file.specs.Loading.{countsOf, numbersOf, endsOf, joinedItems, roomFor, filled, listsOf}

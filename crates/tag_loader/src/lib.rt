@@ -3,8 +3,8 @@
 use lists::zero_u8;
 use lists::zero_u16;
 use lists::zero_u32;
-use sets::LoadAnswer;
-use sets::Loaded;
+use tag_file::LoadAnswer;
+use tag_file::Loaded;
 use sets::Refusal;
 use sets::Side;
 use tag_fill::fill_side;

@@ -13,11 +13,11 @@ use lib.ListN.{length, take, drop, getD}
 use lib.Seq.{take-at}
 use Rattle.sets.specs.declared.Side.the-variants.{Left, Right}
 use Rattle.sets.specs.declared.Refusal.the-variants.{ShortOutput}
-use Rattle.sets.specs.declared.Loaded.{Loaded}
-use Rattle.sets.specs.declared.LoadAnswer.{LoadAnswer}
-use Rattle.sets.specs.declared.LoadAnswer.the-variants as load
-use Rattle.sets.specs.declared.WriteAnswer.{WriteAnswer}
-use Rattle.sets.specs.declared.WriteAnswer.the-variants as write
+use Rattle.tag_file.specs.declared.Loaded.{Loaded}
+use Rattle.tag_file.specs.declared.LoadAnswer.{LoadAnswer}
+use Rattle.tag_file.specs.declared.LoadAnswer.the-variants as load
+use Rattle.tag_writer.specs.declared.WriteAnswer.{WriteAnswer}
+use Rattle.tag_writer.specs.declared.WriteAnswer.the-variants as write
 use Rattle.tag_file.specs.Format.{tagBytes}
 use Rattle.tag_file.specs.Records.{TagRecord, records, tagTable, totalLength}
 use Rattle.tag_file.specs.Reading.{readAt}

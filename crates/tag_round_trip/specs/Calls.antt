@@ -3,8 +3,8 @@ use mathlib.Core.Path.{_≡_}
 use Prim.Native.Nat.{ℕ}
 use mathlib.Core.List.{List}
 use lib.ListN.{length}
-use Rattle.sets.specs.declared.LoadAnswer.{LoadAnswer}
-use Rattle.sets.specs.declared.WriteAnswer.{WriteAnswer}
+use Rattle.tag_file.specs.declared.LoadAnswer.{LoadAnswer}
+use Rattle.tag_writer.specs.declared.WriteAnswer.{WriteAnswer}
 use Rattle.tag_file.specs.Loading.{Lists, loadAnswer}
 use Rattle.tag_writer.specs.Writer.{fileAfter}
 use Rattle.tag_round_trip.specs.Rewritten.{bytesOfLists}

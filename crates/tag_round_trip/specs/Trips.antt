@@ -5,10 +5,10 @@ use Prim.Native.Nat.{ℕ, _*_}
 use mathlib.Core.List.{List}
 use mathlib.Core.Bool.{true}
 use lib.ListN.{length, take}
-use Rattle.sets.specs.declared.Loaded.{Loaded}
-use Rattle.sets.specs.declared.LoadAnswer.the-variants as load
-use Rattle.sets.specs.declared.WriteAnswer.{WriteAnswer}
-use Rattle.sets.specs.declared.WriteAnswer.the-variants as write
+use Rattle.tag_file.specs.declared.Loaded.{Loaded}
+use Rattle.tag_file.specs.declared.LoadAnswer.the-variants as load
+use Rattle.tag_writer.specs.declared.WriteAnswer.{WriteAnswer}
+use Rattle.tag_writer.specs.declared.WriteAnswer.the-variants as write
 use Rattle.tag_file.specs.Format.{tagLength}
 use Rattle.tag_file.specs.Records.{records}
 use Rattle.tag_file.specs.Loading.{Lists, filled, roomFor, loadAnswer, lentAfter}

@@ -14,7 +14,7 @@ use Rattle.lists.proofs.Summing.{sum-append}
 use Rattle.sets.specs.Limits.{maxItems, maxSets, maxEntries}
 use Rattle.sets.specs.declared.Side.{Side}
 use Rattle.sets.specs.declared.Side.the-variants.{Left, Right}
-use Rattle.sets.specs.declared.Loaded.{Loaded}
+use Rattle.tag_file.specs.declared.Loaded.{Loaded}
 use Rattle.tag_file.specs.Records.{TagRecord, sameSide, ofSide, insertAll, collapse, allTags, tagTable, entriesOf}
 use Rattle.tag_file.specs.Loading.{tooMany, countsOf}
 use Rattle.tag_file.proofs.Tables.{insertAll-append}

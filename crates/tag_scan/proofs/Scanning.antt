@@ -11,8 +11,8 @@ use Rattle.bit_sets.specs.BitSets.{member, Inserted}
 use Rattle.sets.specs.declared.Side.{Side}
 use Rattle.sets.specs.declared.Refusal.{Refusal}
 use Rattle.sets.specs.declared.Refusal.the-variants.{NumberUsed, TooMany}
-use Rattle.sets.specs.declared.Loaded.{Loaded}
-use Rattle.sets.specs.declared.LoadAnswer.the-variants as load
+use Rattle.tag_file.specs.declared.Loaded.{Loaded}
+use Rattle.tag_file.specs.declared.LoadAnswer.the-variants as load
 use Rattle.tag_file.specs.Reading.{readAt, tagsAt}
 use Rattle.tag_file.specs.Records.{TagRecord, totalLength, recordsAt, records, insertAll, allTags, tagTable}
 use Rattle.tag_file.specs.Loading.{numberUsed, tooMany, faultOf, earlier, firstFault, refusalOf, fileFault, countsOf, unless}

@@ -10,9 +10,9 @@ use Rattle.bit_sets.specs.BitSets.{member, Inserted}
 use Rattle.sets.specs.Limits.{maxItems, maxSets, maxEntries}
 use Rattle.sets.specs.declared.Side.{Side}
 use Rattle.sets.specs.declared.Side.the-variants.{Left, Right}
-use Rattle.sets.specs.declared.Loaded.{Loaded}
-use Rattle.sets.specs.declared.LoadAnswer.{LoadAnswer}
-use Rattle.sets.specs.declared.LoadAnswer.the-variants as load
+use Rattle.tag_file.specs.declared.Loaded.{Loaded}
+use Rattle.tag_file.specs.declared.LoadAnswer.{LoadAnswer}
+use Rattle.tag_file.specs.declared.LoadAnswer.the-variants as load
 use Rattle.tag_file.specs.Records.{records, tagTable}
 use Rattle.tag_file.specs.Loading.{fileFault, countsOf, unless}
 use Rattle.tag_index.specs.Index.{tableOf, Sorted}

@@ -1,8 +1,8 @@
 // The loader's first pass over a tag file: the first record at fault, or the counts of the file and the index of its tags.
 use bit_sets::contains;
 use bit_sets::insert;
-use sets::LoadAnswer;
-use sets::Loaded;
+use tag_file::LoadAnswer;
+use tag_file::Loaded;
 use sets::Refusal;
 use sets::Side;
 use tag_file::ReadAnswer;
@@ -12,7 +12,7 @@ use tag_index::add_tags;
 ghost use mathlib.Core.Path.{_≡_};
 ghost use Prim.Native.Nat.{_≤_};
 ghost use lib.ListN.{length};
-ghost use Rattle.sets.specs.declared.LoadAnswer.the-variants.{Loaded as Accepted};
+ghost use Rattle.tag_file.specs.declared.LoadAnswer.the-variants.{Loaded as Accepted};
 ghost use Rattle.tag_file.specs.Loading.{refusalOf, unless};
 ghost use Rattle.tag_scan.specs.Scan.{keyOf, Claimed, grownBy, passes, isOver, Limited, Lengths, Scanned};
 

@@ -15,8 +15,8 @@ use Rattle.sets.specs.declared.Side.the-variants.{Left, Right}
 use Rattle.sets.specs.declared.Verdict.{Verdict}
 use Rattle.sets.specs.declared.Verdict.the-variants.{Good, Bad}
 use Rattle.sets.specs.declared.Refusal.the-variants.{ShortOutput, BadSet, BadSettings}
-use Rattle.sets.specs.declared.WriteAnswer.{WriteAnswer}
-use Rattle.sets.specs.declared.WriteAnswer.the-variants.{Written, Refused}
+use Rattle.tag_writer.specs.declared.WriteAnswer.{WriteAnswer}
+use Rattle.tag_writer.specs.declared.WriteAnswer.the-variants.{Written, Refused}
 use Rattle.sets.proofs.Good.{good-places, good-entries}
 use Rattle.tag_file.specs.Format.{tagLength, headLength}
 use lib.Seq.{sets}

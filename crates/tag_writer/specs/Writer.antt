@@ -4,17 +4,18 @@ use Prim.Native.Nat.{ℕ, _*_, min}
 use mathlib.Core.List.{List, [], _∷_, _++_, map}
 use mathlib.Core.Bool.{Bool, cond, _&&_}
 use lib.Dec.{eqb, leb}
-use lib.ListN.{length, drop, replicate}
+use lib.ListN.{length}
 use Rattle.sets.specs.Limits.{maxItems}
 use Rattle.sets.specs.Collections.{setsOf, firstBad}
-use Rattle.sets.specs.Refusals.{number}
+use Rattle.sets.specs.Refusals.{acceptedWords, refusedWords}
+use Rattle.sets.specs.Lent.{filledOver, afterRefusal}
 use Rattle.sets.specs.declared.Side.{Side}
 use Rattle.sets.specs.declared.Side.the-variants.{Left, Right}
 use Rattle.sets.specs.declared.Verdict.{Verdict}
 use Rattle.sets.specs.declared.Verdict.the-variants.{Good, Bad}
 use Rattle.sets.specs.declared.Refusal.the-variants.{ShortOutput, BadSet, BadSettings}
-use Rattle.sets.specs.declared.WriteAnswer.{WriteAnswer}
-use Rattle.sets.specs.declared.WriteAnswer.the-variants.{Written, Refused}
+use Rattle.tag_writer.specs.declared.WriteAnswer.{WriteAnswer}
+use Rattle.tag_writer.specs.declared.WriteAnswer.the-variants.{Written, Refused}
 use Rattle.tag_file.specs.Format.{tagLength, tagAt, recordBytes}
 
 -- the tag of an item: the 12 bytes at 12 times the item in the tag table
@@ -79,5 +80,10 @@ writeAnswer T tags leftNumbers leftEnds leftItems rightNumbers rightEnds rightIt
 
 -- the output after an answer: the bytes with the rest as before; zeros after 4; unchanged after 5 and 6
 abbrev pub fileAfter : WriteAnswer → List ℕ → List ℕ → List ℕ
-fileAfter (Written n) bytes file = bytes ++ drop (length bytes) file
-fileAfter (Refused why) bytes file = cond (eqb (number why) 4) (replicate (length file) 0) file
+fileAfter (Written n) bytes file = filledOver bytes file
+fileAfter (Refused why) bytes file = afterRefusal why file
+
+-- the words of an answer: the length
+abbrev pub writeWords : WriteAnswer → List ℕ
+writeWords (Written n) = acceptedWords (n ∷ [])
+writeWords (Refused why) = refusedWords why 1

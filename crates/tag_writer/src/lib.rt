@@ -8,13 +8,32 @@ ghost use Rattle.tag_file.specs.Format.{tagLength, headLength, tagBytes, mark, 
 ghost use lib.Seq.{sets};
 ghost use Rattle.sets.specs.Limits.{maxSets, maxEntries, maxSetLength};
 ghost use Rattle.sets.specs.Collections.{between, entries};
-ghost use Rattle.tag_writer.specs.Writer.{tagsOf, sideBytes, fileBytes, sideVerdict, writtenWithin, writeAnswer, fileAfter};
+ghost use Rattle.tag_writer.specs.Writer.{tagsOf, sideBytes, fileBytes, sideVerdict, writtenWithin, writeAnswer, fileAfter, writeWords};
 ghost use Rattle.tag_writer.specs.Room.{ItemsFit, GoodSide};
 use sets::MAX_ITEMS;
 use sets::Refusal;
 use sets::Side;
 use sets::Verdict;
-use sets::WriteAnswer;
+use sets::head_of;
+
+// What the writer answers: the length of what it wrote.
+pub enum WriteAnswer {
+    Written(usize),
+    Refused(Refusal),
+}
+
+// The words of the writer's answer at the C boundary.
+pub fn write_words(answer: WriteAnswer) -> [u64; 4]
+    ensures { λ r. ⌜ r ≡ writeWords answer ⌝ }
+{
+    match answer {
+        WriteAnswer::Written(length) => [0, 0, 0, length as u64],
+        WriteAnswer::Refused(why) => {
+            let head = head_of(why);
+            [head.number, head.first, head.second, 0]
+        }
+    }
+}
 
 // The bytes of a tag.
 const TAG_LENGTH: usize = 12;

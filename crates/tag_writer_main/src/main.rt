@@ -2,7 +2,7 @@
 // holds EE before the call. `stdout` has what document 01 says.
 use sets::Refusal;
 use sets::Side;
-use sets::WriteAnswer;
+use tag_writer::WriteAnswer;
 
 const STDOUT: i32 = 1;
 

@@ -5,7 +5,7 @@ use Prim.Native.Nat.{ℕ}
 use native.Mathlib.Omega.{arith}
 use lib.ListN.{length}
 use lib.Seq.{length-take-le}
-use Rattle.sets.specs.declared.Rule.the-variants.{Merge}
+use Rattle.join_spec.specs.declared.Rule.the-variants.{Merge}
 use Rattle.join_spec.proofs.Inputs.{Collections, Settings}
 use Rattle.kitlist.proofs.PairPlaces.{places-enough, places-within}
 use borrow.Author.Needs.{needs}

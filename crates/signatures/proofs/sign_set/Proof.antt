@@ -4,7 +4,7 @@ use Prim.Native.Nat.{_-_, _≤_}
 use mathlib.Core.Path.{_≡_, refl, sym, _∙_}
 use native.Mathlib.Omega.{arith}
 use Rattle.sets.specs.Collections.{between}
-use Rattle.sets.specs.Marks.{signatureFrom, signature}
+use Rattle.sets.specs.Signatures.{signatureFrom, signature}
 use Rattle.signatures.proofs.Signing.{bit-below, sign-step, sign-end}
 use Rattle.signatures.proofs.sign_set.Statement.{statement}
 use Rattle.signatures.proofs.sign_set.Tie as tie

@@ -5,8 +5,8 @@ use Prim.Native.Nat.{ℕ, _-_}
 use lib.ListN.{length, length-replicate}
 use Rattle.lists.specs.Lists.{keep, sum}
 use Rattle.sets.specs.declared.Refusal.the-variants.{NumberUsed, TooMany}
-use Rattle.sets.specs.declared.Loaded.{Loaded}
-use Rattle.sets.specs.declared.LoadAnswer.{LoadAnswer}
+use Rattle.tag_file.specs.declared.Loaded.{Loaded}
+use Rattle.tag_file.specs.declared.LoadAnswer.{LoadAnswer}
 use Rattle.tag_file.specs.Records.{insertAll, allTags}
 use Rattle.tag_file.proofs.Ended.{no-records}
 use Rattle.tag_scan.specs.Scan.{Scanned, isOver}

@@ -4,7 +4,7 @@ use Prim.Native.Nat.{_-_}
 use mathlib.Core.Path.{sym, ap, _∙_}
 use native.Mathlib.Omega.{arith}
 use borrow.Author.Needs.{needs}
-use Rattle.sets.specs.declared.Rule.{Rule}
+use Rattle.join_spec.specs.declared.Rule.{Rule}
 use Rattle.join_spec.specs.Node.{goesOn, lastOf}
 use Rattle.join_walk.proofs.NodeFacts.{node-path, first-read, last-read, candidates-few, inverted-there, counted-few}
 use Rattle.join_walk.proofs.NodeFacts.{counted-goes}

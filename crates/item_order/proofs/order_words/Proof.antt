@@ -1,10 +1,10 @@
 -- `order_words` meets its contract: a case for each variant.
 use mathlib.Core.Path.{sym, ap, _∙_}
-use Rattle.kitfinder.specs.Words.{orderWords}
-use Rattle.kitfinder.proofs.Heads.{refused-words}
+use Rattle.item_order.specs.Order.{orderWords}
+use Rattle.sets.proofs.Words.{refused-words}
 use borrow.Author.Needs.{needs}
-use Rattle.kitfinder.proofs.order_words.Statement.{statement}
-use Rattle.kitfinder.proofs.order_words.Tie as tie
+use Rattle.item_order.proofs.order_words.Statement.{statement}
+use Rattle.item_order.proofs.order_words.Tie as tie
 
 enum-told : tie.Need-enum-told
 enum-told c = search needs

@@ -1,10 +1,10 @@
 -- `read_words` meets its contract: a case for each variant.
 use mathlib.Core.Path.{sym, ap, _∙_}
-use Rattle.kitfinder.specs.Words.{readWords}
-use Rattle.kitfinder.proofs.Heads.{refused-words, side-words}
+use Rattle.tag_file.specs.Reading.{readWords}
+use Rattle.sets.proofs.Words.{refused-words, side-words}
 use borrow.Author.Needs.{needs}
-use Rattle.kitfinder.proofs.read_words.Statement.{statement}
-use Rattle.kitfinder.proofs.read_words.Tie as tie
+use Rattle.tag_file.proofs.read_words.Statement.{statement}
+use Rattle.tag_file.proofs.read_words.Tie as tie
 
 enum-known-answer : tie.Need-enum-known-answer
 enum-known-answer c = search needs
