@@ -1,6 +1,6 @@
--- The children of a node: the left sets that go on after its path are the groups by their next rank, from some key on. The
--- first of them begins a whole group, which is a child; what follows are the groups of greater keys. A child's slot lies beyond
--- its parent's candidates, since its rank is greater than the parent's last.
+-- The children of a path: the left sets that go on after it are the groups by their next rank, from some key on. The first of them
+-- begins a whole group, which is a child; what follows are the groups of greater keys. With the candidates after the path a child
+-- is a node, and its slot lies beyond these candidates, since its rank is greater than the path's last.
 use Prim.Native.Nat.{ℕ, suc, _+_, _-_, _≤_, _<_}
 use mathlib.Core.Path.{_≡_, refl, sym, ap, subst, _∙_}
 use mathlib.Core.List.{List, [], _∷_, _++_}
@@ -30,7 +30,8 @@ use Rattle.join_check.specs.Asking.{RunThere}
 use Rattle.join_check.specs.Runs.{run, leftIn, RunEnd}
 use Rattle.join_check.specs.declared.Tally.{Tally}
 use Rattle.join_walk.specs.Narrowing.{candidateList, slotOf}
-use Rattle.join_walk.specs.Visiting.{Underway, Node, Children, NodeVisited, Framed, beginners}
+use Rattle.join_walk.specs.Visiting.{Underway, Node, Child, Children, After, ChildrenAt, beginners}
+use Rattle.join_walk.specs.Visiting.{Visited, Framed, RunVisited, NodeVisited}
 use Rattle.join_walk.specs.declared.visit.Settings.{Settings}
 use Rattle.join_walk.specs.declared.visit.Walked.{Walked}
 use Rattle.join_walk.proofs.Groups.{First}
@@ -39,6 +40,7 @@ use Rattle.join_walk.proofs.Narrowing.{candidate-path, listing-kept}
 use Rattle.join_walk.proofs.RunLaws.{Cut, begins-first}
 use Rattle.join_walk.proofs.GroupSteps.{group-first, group-cut}
 use Rattle.join_walk.proofs.VisitLaws.{underway-next}
+use Rattle.join_walk.proofs.PartLoop.{PartDone}
 use Rattle.join_walk.proofs.FrameLaws.{index-framed, slot-framed, run-framed, framed-lower}
 
 -- a path is a prefix of a longer one, whose last rank is the one put behind it
@@ -63,8 +65,8 @@ underway-less {st} {q} {t} {n} m less before =
       bounded = omega (arith, before .bounded, mul-le-mul-right (length (q .rights)) less);
     }
 
-module _ {lay : Layout} {st : Settings} {q : Query} {path w : List ℕ} {d i hi from to : ℕ} {t : Tally} {x n : ℕ}
-    (kids : Children lay st q path w d i hi from to t x n) (more : i < hi) where
+module _ {lay : Layout} {st : Settings} {q : Query} {path w : List ℕ} {d i hi : ℕ} {t : Tally}
+    (kids : Children lay st q path w d i hi t) (more : i < hi) where
   abbrev rest : List ℕ
   rest = beginners q path (suc d)
 
@@ -74,8 +76,8 @@ module _ {lay : Layout} {st : Settings} {q : Query} {path w : List ℕ} {d i hi 
   pub kids-run : RunThere lay q w i hi
   kids-run = record { index = kids .index; some = more; within = kids .few }
 
-  first : First (keyAt q d) x n rest (leftIn lay w i)
-  first = group-first d x n rest kids-run (kids .lefts)
+  first : First (keyAt q d) (kids .x) (kids .n) rest (leftIn lay w i)
+  first = group-first d (kids .x) (kids .n) rest kids-run (kids .lefts)
 
   -- the child's own rank, and its path
   abbrev pub childRank : ℕ
@@ -91,127 +93,168 @@ module _ {lay : Layout} {st : Settings} {q : Query} {path w : List ℕ} {d i hi 
   rank-low = omega (arith, first .high, kids .keys, key-is)
 
   module _ {j : ℕ} (end : RunEnd lay w d i hi j) where
-    parted : Cut lay w i j hi (keep (λ k. eqb (keyAt q d k) key) rest) (groupsFrom (keyAt q d) (suc key) (x + n - suc key) rest)
-    parted = group-cut d x n rest kids-run (kids .lefts) end
+    parted : Cut lay w i j hi (keep (λ k. eqb (keyAt q d k) key) rest)
+        (groupsFrom (keyAt q d) (suc key) (kids .x + kids .n - suc key) rest)
+    parted = group-cut d (kids .x) (kids .n) rest kids-run (kids .lefts) end
 
-    child-lefts : run lay w i j ≡ beginners q childPath (suc d)
-    child-lefts =
-        parted .front
-        ∙ subst (λ (y : ℕ). keep (λ k. eqb (keyAt q d k) key) rest ≡ keep (λ k. eqb (keyAt q d k) y) rest) key-is refl
-        ∙ subst (λ (e : ℕ). keep (λ k. eqb (keyAt q e k) (suc childRank)) rest ≡ beginners q childPath (suc d)) (kids .depth)
-        (keep-further q path childRank (orderFrom q (q .limit - suc d) (suc d)))
-
-    first-begins : prefix childPath (leftAt q (leftIn lay w i)) ≡ true
-    first-begins =
-        begins-first childPath (suc d)
-        (record { index = kids .index; some = end .more; within = omega (arith, end .within, kids .few) }) child-lefts
-
-    child-depth : length childPath ≡ suc d
-    child-depth = omega (arith, length-append path (childRank ∷ []), kids .depth)
-
-    -- the child's rank is greater than the parent's last
-    rank-greater : lastOf path < childRank
-    rank-greater =
-        let own = leftAt q (leftIn lay w i) in
-        let long : suc d ≤ length own = omega (arith, prefix-length childPath own first-begins, child-depth) in
-        let step : suc (d - 1) ≡ d = omega (arith, kids .deep) in
-        let whole : childPath ≡ take (suc d) own =
-        prefix-take childPath own first-begins ∙ ap (λ (m : ℕ). take m own) child-depth in
-        let at-last : lastOf path ≡ getD own (d - 1) 0 =
-        ap (λ (m : ℕ). getD path (m - 1) 0) (kids .depth)
-        ∙ sym (List·getD-append path (childRank ∷ []) 0 (d - 1) (omega (arith, kids .depth, kids .deep)))
-        ∙ ap (λ (l : List ℕ). getD l (d - 1) 0) whole ∙ getD-take (suc d) own (d - 1) 0 (omega arith) in
-        let at-rank : childRank ≡ getD own d 0 =
-        sym (getD-at path childRank [] 0 d (kids .depth)) ∙ ap (λ (l : List ℕ). getD l d 0) whole
-        ∙ getD-take (suc d) own d 0 (omega arith) in
-        let rises : getD own (d - 1) 0 < getD own (suc (d - 1)) 0 =
-        rising-below own (left-rising q (leftIn lay w i)) (d - 1) (suc (d - 1)) (omega arith) (omega (arith, step, long)) in
-        omega (arith, at-last, at-rank, rises, ap (λ (m : ℕ). getD own m 0) step)
-
-    slot-beyond : slotOf lay w (suc (lastOf path)) ≤ slotOf lay w childRank
-    slot-beyond =
-        let below : childRank ≤ q .T = omega (arith, rank-low) in
-        omega (arith, offsets-rise lay q w (kids .index .ground) (suc (lastOf path)) childRank rank-greater below)
-
-    same-candidates : (s : ℕ) → isCandidate (suc d - 1) childPath (rightAt q s) ≡ isCandidate d path (rightAt q s)
-    same-candidates s =
-        let less : suc d - 1 ≡ d = omega arith in
-        ap (λ (m : ℕ). isCandidate m childPath (rightAt q s)) less ∙ go path refl
-      where
-        go : (l : List ℕ) → path ≡ l → isCandidate d childPath (rightAt q s) ≡ isCandidate d path (rightAt q s)
-        go [] e = absurd (omega (arith, kids .depth, kids .deep, ap length e))
-        go (p ∷ ps) e =
-            candidate-path d p ps childPath (rightAt q s)
-            (subst (λ (l : List ℕ). prefix l childPath ≡ true) e (prefix-longer path childRank))
-            (omega (arith, kids .depth, ap length e))
-            ∙ ap (λ (l : List ℕ). isCandidate d l (rightAt q s)) (sym e)
-
-    child-sorted : slice from to w ≡ candidateList q childPath (suc d - 1)
-    child-sorted =
-        kids .holds
-        ∙ keep-same (λ s. isCandidate d path (rightAt q s)) (λ s. isCandidate (suc d - 1) childPath (rightAt q s))
-        (upto (length (q .rights)))
-        (λ s. sym (same-candidates s))
-
-    -- the child as a node
-    child-node : Node lay st q childPath w (suc d) i j from to t
-    child-node =
+    -- the first child
+    pub first-child : Child lay st q childPath w (suc d) i j t
+    first-child =
         record {
-          at = record {
-            candidates = record {
-              index = kids .index;
-              depth = child-depth;
-              deep = omega arith;
-              last = rw (last-longer path childRank) rank-low;
-              rise = kids .rise;
-              below = rw (last-longer path childRank) (omega (arith, kids .below, slot-beyond));
-              listing =
-                  subst (λ (l : List ℕ). Listing (length (q .rights)) (λ s. isCandidate (suc d - 1) childPath (rightAt q s)) l)
-                  (sym child-sorted)
-                  (listing-kept (length (q .rights)) (λ s. isCandidate (suc d - 1) childPath (rightAt q s)));
-              sorted = λ deeper. child-sorted;
-            };
-            within = kids .within;
-            some = end .more;
-            few = omega (arith, end .within, kids .few);
-            lefts = child-lefts;
-          };
+          index = kids .index;
           underway = underway-less (j - i) (omega (arith, end .within)) (kids .underway);
+          depth = omega (arith, length-append path (childRank ∷ []), kids .depth);
+          within = kids .within;
+          last = rw (last-longer path childRank) rank-low;
+          some = end .more;
+          few = omega (arith, end .within, kids .few);
+          lefts =
+              parted .front
+              ∙ subst (λ (y : ℕ). keep (λ k. eqb (keyAt q d k) key) rest ≡ keep (λ k. eqb (keyAt q d k) y) rest) key-is refl
+              ∙ subst (λ (e : ℕ). keep (λ k. eqb (keyAt q e k) (suc childRank)) rest ≡ beginners q childPath (suc d))
+              (kids .depth) (keep-further q path childRank (orderFrom q (q .limit - suc d) (suc d)));
         }
 
-    -- the child at its depth as the code writes it
-    pub next-node : Node lay st q childPath w (d + 1) i j from to t
-    next-node = subst (λ (e : ℕ). Node lay st q childPath w e i j from to t) (sym (add-one d)) child-node
+    -- what is left of the children after it
+    pub kids-next : {w′ : List ℕ} {slot : ℕ} {one : Walked} → lay .slots ≤ slot
+        → RunVisited lay q (st .budget) slot (suc d) w w′ i j t one → one .spent ≡ false
+        → Children lay st q path w′ d j hi (one .tally)
+    kids-next low visit calm =
+        record {
+          index = index-framed (kids .index) (visit .framed) low;
+          underway = underway-next (kids .underway) (visit .visited .added calm)
+              (omega (arith, ap length (parted .front), parted .size, end .more, end .within)) (visit .visited .within calm);
+          depth = kids .depth;
+          within = kids .within;
+          upto = end .within;
+          few = kids .few;
+          x = suc key;
+          n = kids .x + kids .n - suc key;
+          keys = omega (arith, kids .keys, first .high);
+          further = omega arith;
+          lefts = run-framed (kids .index) (visit .framed) low j hi (kids .few) ∙ parted .back;
+        }
 
-    module _ {w′ : List ℕ} {one : Walked} (visit : NodeVisited lay st q childPath w w′ (suc d) i j t one) where
-      framed : Framed (slotOf lay w (suc (lastOf path))) w w′
-      framed =
-          framed-lower slot-beyond
-          (subst (λ (r : ℕ). Framed (slotOf lay w r) w w′) (last-longer path childRank) (visit .framed))
+-- the first child of a node, with the candidates after the node
+module _ {lay : Layout} {st : Settings} {q : Query} {path w : List ℕ} {d i hi from to : ℕ} {t : Tally}
+    (at : ChildrenAt lay st q path w d i hi from to t) (more : i < hi) {j : ℕ} (end : RunEnd lay w d i hi j) where
+  kids : Children lay st q path w d i hi t
+  kids = at .kids
 
-      low : lay .slots ≤ slotOf lay w (suc (lastOf path))
-      low = omega arith
+  after : After lay q path w d from to
+  after = at .after
 
-      -- what is left of the children after it
-      pub kids-next : one .spent ≡ false → Children lay st q path w′ d j hi from to (one .tally) (suc key) (x + n - suc key)
-      kids-next calm =
-          record {
-            index = index-framed (kids .index) framed low;
-            underway = underway-next (kids .underway) (visit .visited .added calm)
-                (omega (arith, ap length (parted .front), parted .size, end .more, end .within)) (visit .visited .within calm);
-            depth = kids .depth;
-            deep = kids .deep;
-            within = kids .within;
-            last = kids .last;
-            upto = end .within;
-            few = kids .few;
-            keys = omega (arith, kids .keys, first .high);
-            further = omega arith;
-            lefts = run-framed (kids .index) framed low j hi (kids .few) ∙ parted .back;
-            rise = kids .rise;
-            below = omega (arith, kids .below, slot-framed (kids .index) framed low (suc (lastOf path)) (kids .last));
-            holds = frame-slice from to (slotOf lay w (suc (lastOf path))) w w′ (kids .below) (framed .frame) ∙ kids .holds;
-          }
+  abbrev rank : ℕ
+  rank = childRank (at .kids) more
 
-      pub kids-framed : Framed (slotOf lay w (suc (lastOf path))) w w′
-      kids-framed = framed
+  abbrev longer : List ℕ
+  longer = childPath (at .kids) more
+
+  child : Child lay st q longer w (suc d) i j t
+  child = first-child (at .kids) more end
+
+  -- the child's rank is greater than the parent's last
+  rank-greater : lastOf path < rank
+  rank-greater =
+      let own = leftAt q (leftIn lay w i) in
+      let begins : prefix longer own ≡ true =
+      begins-first longer (suc d) (record { index = child .index; some = child .some; within = child .few }) (child .lefts) in
+      let long : suc d ≤ length own = omega (arith, prefix-length longer own begins, child .depth) in
+      let step : suc (d - 1) ≡ d = omega (arith, after .deep) in
+      let whole : longer ≡ take (suc d) own = prefix-take longer own begins ∙ ap (λ (m : ℕ). take m own) (child .depth) in
+      let at-last : lastOf path ≡ getD own (d - 1) 0 =
+      ap (λ (m : ℕ). getD path (m - 1) 0) (kids .depth)
+      ∙ sym (List·getD-append path (rank ∷ []) 0 (d - 1) (omega (arith, kids .depth, after .deep)))
+      ∙ ap (λ (l : List ℕ). getD l (d - 1) 0) whole ∙ getD-take (suc d) own (d - 1) 0 (omega arith) in
+      let at-rank : rank ≡ getD own d 0 =
+      sym (getD-at path rank [] 0 d (kids .depth)) ∙ ap (λ (l : List ℕ). getD l d 0) whole
+      ∙ getD-take (suc d) own d 0 (omega arith) in
+      let rises : getD own (d - 1) 0 < getD own (suc (d - 1)) 0 =
+      rising-below own (left-rising q (leftIn lay w i)) (d - 1) (suc (d - 1)) (omega arith) (omega (arith, step, long)) in
+      omega (arith, at-last, at-rank, rises, ap (λ (m : ℕ). getD own m 0) step)
+
+  slot-beyond : slotOf lay w (suc (lastOf path)) ≤ slotOf lay w (lastOf longer)
+  slot-beyond =
+      let below : lastOf longer ≤ q .T = omega (arith, child .last) in
+      omega (
+        arith,
+        offsets-rise lay q w (child .index .ground) (suc (lastOf path)) (lastOf longer)
+            (omega (arith, rank-greater, last-longer path rank)) below,
+      )
+
+  same-candidates : (s : ℕ) → isCandidate (suc d - 1) longer (rightAt q s) ≡ isCandidate d path (rightAt q s)
+  same-candidates s =
+      let less : suc d - 1 ≡ d = omega arith in
+      ap (λ (m : ℕ). isCandidate m longer (rightAt q s)) less ∙ go path refl
+    where
+      go : (l : List ℕ) → path ≡ l → isCandidate d longer (rightAt q s) ≡ isCandidate d path (rightAt q s)
+      go [] e = absurd (omega (arith, kids .depth, after .deep, ap length e))
+      go (p ∷ ps) e =
+          candidate-path d p ps longer (rightAt q s)
+          (subst (λ (l : List ℕ). prefix l longer ≡ true) e (prefix-longer path rank))
+          (omega (arith, kids .depth, ap length e))
+          ∙ ap (λ (l : List ℕ). isCandidate d l (rightAt q s)) (sym e)
+
+  child-sorted : slice from to w ≡ candidateList q longer (suc d - 1)
+  child-sorted =
+      after .holds
+      ∙ keep-same (λ s. isCandidate d path (rightAt q s)) (λ s. isCandidate (suc d - 1) longer (rightAt q s))
+      (upto (length (q .rights)))
+      (λ s. sym (same-candidates s))
+
+  child-node : Node lay st q longer w (suc d) i j from to t
+  child-node =
+      record {
+        at = record {
+          candidates = record {
+            index = child .index;
+            depth = child .depth;
+            deep = omega arith;
+            last = child .last;
+            rise = after .rise;
+            below = omega (arith, after .below, slot-beyond);
+            listing =
+                subst (λ (l : List ℕ). Listing (length (q .rights)) (λ s. isCandidate (suc d - 1) longer (rightAt q s)) l)
+                (sym child-sorted)
+                (listing-kept (length (q .rights)) (λ s. isCandidate (suc d - 1) longer (rightAt q s)));
+            sorted = λ deeper. child-sorted;
+          };
+          within = child .within;
+          some = child .some;
+          few = child .few;
+          lefts = child .lefts;
+        };
+        underway = child .underway;
+      }
+
+  -- the child at its depth as the code writes it
+  pub next-node : Node lay st q longer w (d + 1) i j from to t
+  next-node = subst (λ (e : ℕ). Node lay st q longer w e i j from to t) (sym (add-one d)) child-node
+
+  -- and its visit as that of a part of the children
+  pub child-done : {w′ : List ℕ} {one : Walked} → NodeVisited lay st q longer w w′ (d + 1) i j t one
+      → PartDone lay (st .budget) (suc d) hi (λ path w. slotOf lay w (suc (lastOf path)))
+      (λ q path w i r. ChildrenAt lay st q path w d i hi from to r) q path w i t w′ j one
+  child-done {w′} {one} done =
+      let low : lay .slots ≤ slotOf lay w (suc (lastOf path)) = omega arith in
+      let framed : Framed (slotOf lay w (suc (lastOf path))) w w′ = framed-lower slot-beyond (done .framed) in
+      let visited : Visited q (st .budget) (suc d) (run lay w i j) t one =
+      subst (λ (e : ℕ). Visited q (st .budget) e (run lay w i j) t one) (add-one d) (done .visited) in
+      let same = slot-framed (kids .index) framed low (suc (lastOf path)) (after .last) in
+      record {
+        facts = record { index = kids .index; few = kids .few; slots = low };
+        visit = record { framed = framed; visited = visited };
+        steady = same;
+        next = λ calm.
+            record {
+              kids = kids-next (at .kids) more end low (record { framed = framed; visited = visited }) calm;
+              after = record {
+                deep = after .deep;
+                last = after .last;
+                rise = after .rise;
+                below = omega (arith, after .below, same);
+                holds =
+                    frame-slice from to (slotOf lay w (suc (lastOf path))) w w′ (after .below) (framed .frame) ∙ after .holds;
+              };
+            };
+      }

@@ -10,14 +10,13 @@ pub mod RunLaws
 pub mod NodeFacts
 pub mod BlockLaws
 pub mod BlockVisits
-pub mod LimitLaws
-pub mod LimitLoop
 pub mod FrameLaws
+pub mod PartLoop
+pub mod LimitLaws
 pub mod GroupSteps
 pub mod NodeStops
 pub mod NodeSteps
 pub mod ChildSteps
-pub mod ChildLoop
 pub mod PartitionSteps
 pub mod Totals
 pub mod WalkSteps

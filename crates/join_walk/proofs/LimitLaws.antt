@@ -35,6 +35,8 @@ use Rattle.join_walk.specs.declared.visit.Walked.{Walked}
 use Rattle.join_walk.proofs.Narrowing.{listing-kept}
 use Rattle.join_walk.proofs.RunLaws.{run-length, run-split}
 use Rattle.join_walk.proofs.VisitLaws.{underway-next}
+use Rattle.join_walk.proofs.FrameLaws.{framed-none}
+use Rattle.join_walk.proofs.PartLoop.{PartDone}
 use Rattle.join_walk.proofs.BlockLaws.{runs-there, rows-limit, rows-merge, key-longer}
 use Rattle.join_walk.proofs.BlockVisits.{block-visited, merged-added}
 
@@ -93,7 +95,7 @@ module _ {lay : Layout} {st : Settings} {q : Query} {path w : List ℕ} {d lo hi
       one-row : (lo + 1 - lo) * length (q .rights) ≤ (hi - lo) * length (q .rights)
       one-row = mul-le-mul-right (length (q .rights)) (omega arith)
 
-  pub limit-next : {r : Tally} → lo < hi → Added q d (run lay w lo (lo + 1)) t r → checksIn r ≤ st .budget
+  limit-next : {r : Tally} → lo < hi → Added q d (run lay w lo (lo + 1)) t r → checksIn r ≤ st .budget
       → AtLimit lay st q path w d (lo + 1) hi from to r
   limit-next some add low =
       let parts = run-split lay q w lo (lo + 1) hi (at .index) (omega arith) (omega arith) (at .few) in
@@ -112,6 +114,18 @@ module _ {lay : Layout} {st : Settings} {q : Query} {path w : List ℕ} {d lo hi
         rise = at .rise;
         within = at .within;
         holds = at .holds;
+      }
+
+  -- the first, visited, as a part of them
+  pub limit-done : lo < hi → {one : Walked} → Visited q (st .budget) d (run lay w lo (lo + 1)) t one
+      → PartDone lay (st .budget) d hi (λ path w. lay .slots) (λ q path w i r. AtLimit lay st q path w d i hi from to r) q path w lo t
+      w (lo + 1) one
+  limit-done some visit =
+      record {
+        facts = record { index = at .index; few = at .few; slots = omega arith };
+        visit = record { framed = framed-none (lay .slots) w; visited = visit };
+        steady = refl;
+        next = λ calm. limit-next some (visit .added calm) (visit .within calm);
       }
 
 -- one left set at the limit

@@ -28,7 +28,7 @@ use Rattle.join_check.specs.Checks.{checksIn}
 use Rattle.join_check.specs.declared.Tally.{Tally}
 use Rattle.join_walk.specs.Rows.{goes, row}
 use Rattle.join_walk.specs.Narrowing.{Candidates, Narrowed, slotOf}
-use Rattle.join_walk.specs.Visiting.{OnPath, Node, FirstChildren, NodeVisited, ChildrenVisited, Visited, Added, Merged}
+use Rattle.join_walk.specs.Visiting.{OnPath, Node, ChildrenAt, NodeVisited, ChildrenVisited, Visited, Added, Merged}
 use Rattle.join_walk.specs.Visiting.{Framed, beginners}
 use Rattle.join_walk.specs.Blocks.{AtLimit, MergedEnd}
 use Rattle.join_walk.specs.declared.narrow.Part.{Part}
@@ -197,24 +197,30 @@ module _ {lay : Layout} {st : Settings} {q : Query} {path w : List ℕ} {d lo hi
               }
 
           -- the others are the node's children
-          pub node-children : mid < hi → FirstChildren lay st q path w′ d mid hi (part .«from») (part .to) m
+          pub node-children : mid < hi → ChildrenAt lay st q path w′ d mid hi (part .«from») (part .to) m
           unfolding rest
           node-children some =
               record {
-                index = index-after;
-                underway = underway-next (node .underway) merged-lefts (omega (arith, front-length, end .low)) merged-budget;
-                depth = cands .depth;
-                deep = cands .deep;
-                within = omega (arith, node .underway .limit);
-                last = cands .last;
-                upto = omega arith;
-                few = node .at .few;
-                keys = omega arith;
-                further = omega arith;
-                lefts = run-framed index framed low mid hi (node .at .few) ∙ child-lefts;
-                rise = narrowed .rise;
-                below = omega (arith, narrowed .below, slot-framed index framed low (suc (lastOf path)) (cands .last));
-                holds = narrowed .holds;
+                kids = record {
+                  index = index-after;
+                  underway = underway-next (node .underway) merged-lefts (omega (arith, front-length, end .low)) merged-budget;
+                  depth = cands .depth;
+                  within = omega (arith, node .underway .limit);
+                  upto = omega arith;
+                  few = node .at .few;
+                  x = 1;
+                  n = q .T;
+                  keys = omega arith;
+                  further = omega arith;
+                  lefts = run-framed index framed low mid hi (node .at .few) ∙ child-lefts;
+                };
+                after = record {
+                  deep = cands .deep;
+                  last = cands .last;
+                  rise = narrowed .rise;
+                  below = omega (arith, narrowed .below, slot-framed index framed low (suc (lastOf path)) (cands .last));
+                  holds = narrowed .holds;
+                };
               }
 
           child-begin : Begin q path (run lay w mid hi)

@@ -24,9 +24,9 @@ use Rattle.join_check.specs.Runs.{run}
 use Rattle.join_check.specs.Checks.{checksIn}
 use Rattle.join_check.specs.declared.Tally.{Tally}
 use Rattle.join_walk.specs.Rows.{row}
-use Rattle.join_walk.specs.Visiting.{Merged, beginners}
+use Rattle.join_walk.specs.Visiting.{Merged, PartVisited, beginners}
 use Rattle.join_walk.specs.Blocks.{MergedEnd}
-use Rattle.join_walk.specs.Partitions.{AllPartitions, PartVisited, Ready, WalkDone}
+use Rattle.join_walk.specs.Partitions.{Partitions, Ready, WalkDone}
 use Rattle.join_walk.specs.declared.visit.Settings.{Settings}
 use Rattle.join_walk.specs.declared.visit.Walked.{Walked}
 use Rattle.join_walk.proofs.RunLaws.{Cut}
@@ -117,7 +117,7 @@ module _ {lay : Layout} {st : Settings} {q : Query} {w : List ℕ} {lefts rights
       no-checks : checksIn m ≡ 0
       no-checks = omega (arith, merged .confirmed, merged .dropped, merged .falseDrops, zero-checks)
 
-      pub walk-partitions : AllPartitions lay st q w mid lefts m
+      pub walk-partitions : Partitions lay st q w mid lefts m
       walk-partitions =
           record {
             index = index;
@@ -141,9 +141,12 @@ module _ {lay : Layout} {st : Settings} {q : Query} {w : List ℕ} {lefts rights
                         (omega (arith, few, index .ground .leftFew, ready .leftCount)) (index .ground .rightFew),
                   );
             };
-            some = ready .some;
+            depth = refl;
+            within = ready .some;
             upto = end .high;
             few = few;
+            x = 1;
+            n = q .T;
             keys = omega arith;
             further = omega arith;
             lefts = parted .back;

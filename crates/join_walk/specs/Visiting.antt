@@ -58,24 +58,44 @@ pub record Node (lay : Layout) (st : Settings) (q : Query) (path w : List ℕ) (
   pub at : NodeAt lay q path w d lo hi from to
   pub underway : Underway st q t (hi - lo)
 
--- the children of a node, from next rank x on: the left sets at lo up to hi that go on after the path, and the candidates after
--- it
-pub record Children (lay : Layout) (st : Settings) (q : Query) (path w : List ℕ) (d lo hi from to : ℕ) (t : Tally)
-    (x n : ℕ) : Type 0 where
+-- the left sets at the places lo up to hi begin with a path of d ranks: those of a child, or of a partition
+pub record Child (lay : Layout) (st : Settings) (q : Query) (path w : List ℕ) (d lo hi : ℕ) (t : Tally) : Type 0 where
   pub index : Index lay q w
   pub underway : Underway st q t (hi - lo)
   pub depth : length path ≡ d
-  pub deep : 0 < d
-  pub within : d < q .limit
+  pub within : d ≤ q .limit
   pub last : lastOf path < q .T
+  pub some : lo < hi
+  pub few : hi ≤ length (q .lefts)
+  pub lefts : run lay w lo hi ≡ beginners q path d
+
+-- the left sets at the places lo up to hi go on after a path of d ranks and stand by their next rank, from key x on; the
+-- partitions are the children of the path without ranks
+pub record Children (lay : Layout) (st : Settings) (q : Query) (path w : List ℕ) (d lo hi : ℕ) (t : Tally) : Type 0 where
+  pub index : Index lay q w
+  pub underway : Underway st q t (hi - lo)
+  pub depth : length path ≡ d
+  pub within : d < q .limit
   pub upto : lo ≤ hi
   pub few : hi ≤ length (q .lefts)
+  pub x : ℕ
+  pub n : ℕ
   pub keys : x + n ≡ suc (q .T)
   pub further : 0 < x
   pub lefts : run lay w lo hi ≡ groupsFrom (keyAt q d) x n (beginners q path (suc d))
+
+-- the words from..to are the candidates after a path of d ranks, below the slots of all ranks beyond its last
+pub record After (lay : Layout) (q : Query) (path w : List ℕ) (d from to : ℕ) : Type 0 where
+  pub deep : 0 < d
+  pub last : lastOf path < q .T
   pub rise : from ≤ to
   pub below : to ≤ slotOf lay w (suc (lastOf path))
   pub holds : slice from to w ≡ candidateList q path d
+
+-- the children of a node that are to be visited
+pub record ChildrenAt (lay : Layout) (st : Settings) (q : Query) (path w : List ℕ) (d lo hi from to : ℕ) (t : Tally) : Type 0 where
+  pub kids : Children lay st q path w d lo hi t
+  pub after : After lay q path w d from to
 
 -- r is t with the rows of the left sets, their walk being at depth d
 pub record Added (q : Query) (d : ℕ) (lefts : List ℕ) (t r : Tally) : Type 0 where
@@ -102,18 +122,21 @@ pub record Framed (slot : ℕ) (w w′ : List ℕ) : Type 0 where
   pub size : length w′ ≡ length w
   pub frame : take slot w′ ≡ take slot w
 
--- the children of a node from its first on
-abbrev pub FirstChildren : Layout → Settings → Query → List ℕ → List ℕ → ℕ → ℕ → ℕ → ℕ → ℕ → Tally → Type 0
-FirstChildren lay st q path w d lo hi from to t = Children lay st q path w d lo hi from to t 1 (q .T)
-
--- a node was visited: only slots of its last rank and beyond changed, and its left sets' rows were added
-pub record NodeVisited (lay : Layout) (st : Settings) (q : Query) (path w w′ : List ℕ) (d lo hi : ℕ) (t : Tally)
+-- the left sets at the places lo up to hi were visited at depth d: only words from a slot on changed, and their rows were added
+pub record RunVisited (lay : Layout) (q : Query) (budget slot d : ℕ) (w w′ : List ℕ) (lo hi : ℕ) (t : Tally)
     (r : Walked) : Type 0 where
-  pub framed : Framed (slotOf lay w (lastOf path)) w w′
-  pub visited : Visited q (st .budget) d (run lay w lo hi) t r
+  pub framed : Framed slot w w′
+  pub visited : Visited q budget d (run lay w lo hi) t r
 
--- the children of a node were visited: only slots beyond its last rank changed, and their rows were added
-pub record ChildrenVisited (lay : Layout) (st : Settings) (q : Query) (path w w′ : List ℕ) (d lo hi : ℕ) (t : Tally)
-    (r : Walked) : Type 0 where
-  pub framed : Framed (slotOf lay w (suc (lastOf path))) w w′
-  pub visited : Visited q (st .budget) (suc d) (run lay w lo hi) t r
+-- a node was visited: only slots of its last rank and beyond changed
+abbrev pub NodeVisited : Layout → Settings → Query → List ℕ → List ℕ → List ℕ → ℕ → ℕ → ℕ → Tally → Walked → Type 0
+NodeVisited lay st q path w w′ d lo hi t r = RunVisited lay q (st .budget) (slotOf lay w (lastOf path)) d w w′ lo hi t r
+
+-- the children of a node were visited: only slots beyond its last rank changed
+abbrev pub ChildrenVisited : Layout → Settings → Query → List ℕ → List ℕ → List ℕ → ℕ → ℕ → ℕ → Tally → Walked → Type 0
+ChildrenVisited lay st q path w w′ d lo hi t r =
+    RunVisited lay q (st .budget) (slotOf lay w (suc (lastOf path))) (suc d) w w′ lo hi t r
+
+-- partitions were visited: only slots changed
+abbrev pub PartVisited : Layout → Settings → Query → List ℕ → List ℕ → ℕ → ℕ → Tally → Walked → Type 0
+PartVisited lay st q w w′ lo hi t r = RunVisited lay q (st .budget) (lay .slots) 1 w w′ lo hi t r

@@ -17,7 +17,7 @@ ghost use Prim.Native.Nat.{ℕ};
 ghost use Rattle.join_spec.specs.Query.{Query};
 ghost use Rattle.join_check.specs.Runs.{run};
 ghost use Rattle.join_walk.specs.Narrowing.{SomePath};
-ghost use Rattle.join_walk.specs.Visiting.{Node, NodeVisited, FirstChildren, ChildrenVisited};
+ghost use Rattle.join_walk.specs.Visiting.{Node, NodeVisited, ChildrenAt, ChildrenVisited};
 
 // The settings that bear on the walk.
 pub struct Settings {
@@ -85,8 +85,8 @@ pub fn visit_children(
     to: usize,
     t: Tally,
 ) -> Walked
-    requires { ⌜ SomePath (λ q path. FirstChildren lay st q path (now work) d lo hi from to t) ⌝ }
-    ensures { λ r. ⌜ ((q : Query) (path : List ℕ) → FirstChildren lay st q path (now (work .entry)) d lo hi from to t
+    requires { ⌜ SomePath (λ q path. ChildrenAt lay st q path (now work) d lo hi from to t) ⌝ }
+    ensures { λ r. ⌜ ((q : Query) (path : List ℕ) → ChildrenAt lay st q path (now (work .entry)) d lo hi from to t
         → ChildrenVisited lay st q path (now (work .entry)) (now (work .exit)) d lo hi t r) ⌝ }
 {
     let mut r = t;

@@ -13,7 +13,8 @@ ghost use Prim.Native.Nat.{ℕ};
 ghost use lib.ListN.{length};
 ghost use Rattle.join_spec.specs.Query.{Query};
 ghost use Rattle.join_check.specs.Asking.{Some};
-ghost use Rattle.join_walk.specs.Partitions.{SomeRank, Partition, AllPartitions, PartVisited, Ready, WalkDone};
+ghost use Rattle.join_walk.specs.Partitions.{SomeRank, Partition, Partitions, Ready, WalkDone};
+ghost use Rattle.join_walk.specs.Visiting.{PartVisited};
 
 // Visits the partition of the left sets at the places lo up to hi of the order. The right sets with a least rank up to theirs
 // have been added to the seen ones by now: they stand first by least rank.
@@ -47,8 +48,8 @@ fn visit_partitions(
     hi: usize,
     t: Tally,
 ) -> Walked
-    requires { ⌜ Some (λ q. AllPartitions lay st q (now work) lo hi t) ⌝ }
-    ensures { λ r. ⌜ ((q : Query) → AllPartitions lay st q (now (work .entry)) lo hi t
+    requires { ⌜ Some (λ q. Partitions lay st q (now work) lo hi t) ⌝ }
+    ensures { λ r. ⌜ ((q : Query) → Partitions lay st q (now (work .entry)) lo hi t
         → PartVisited lay st q (now (work .entry)) (now (work .exit)) lo hi t r) ⌝ }
 {
     let mut r = t;

@@ -1,22 +1,24 @@
--- `finish` meets its contract. The invariant: the left sets before i were added to the counters, and those from i on are at the
--- limit. The measure is how many are left.
+-- `finish` meets its contract, by the law of part after part: each part is one left set. The measure is how many are left.
 use native.Mathlib.Omega.{arith}
 use Prim.Native.Nat.{_-_}
-use Rattle.join_walk.proofs.LimitLaws.{limit-first}
-use Rattle.join_walk.proofs.LimitLoop.{Finishing, finishing-start, finishing-step, finishing-spent, finishing-end}
+use mathlib.Core.Path.{refl}
+use Rattle.join_walk.specs.Blocks.{AtLimit}
+use Rattle.join_walk.proofs.LimitLaws.{limit-first, limit-done}
+use Rattle.join_walk.proofs.PartLoop.{Continuing, continuing-start, continuing-step, continuing-spent, continuing-end}
 use Rattle.join_walk.proofs.blocks.finish.Statement.{statement}
 use Rattle.join_walk.proofs.blocks.finish.Tie as tie
 
 abbrev Inv-loop : tie.InvT-loop
 Inv-loop work lay st d lo hi from to r₀ i₀ r i =
-    Finishing lay st work d lo hi from to r₀ i r
+    Continuing lay (st .budget) d hi (λ path w. lay .slots) (λ q path w i r. AtLimit lay st q path w d i hi from to r) work lo r₀
+    work i r
 
 abbrev μ-loop : tie.MeasureT-loop
 μ-loop work lay st d lo hi from to r₀ i₀ r i =
     hi - i
 
 loop-holds : tie.Need-loop-holds Inv-loop μ-loop
-loop-holds c = finishing-start (c .before .pre)
+loop-holds c = continuing-start _ _ _ _ _ _ (c .before .pre)
 
 finish-one-requires : tie.Need-finish-one-requires Inv-loop μ-loop
 finish-one-requires c κs =
@@ -27,8 +29,10 @@ returns : tie.Need-returns Inv-loop μ-loop
 returns c =
     let one = c .before in
     let test = one .before in
-    let at-loop = test .before in
-    finishing-spent (at-loop .loop .inv) (test .loop-test .taken) (one .finish-one .ensures) (c .if1 .taken)
+    let more = test .loop-test .taken in
+    λ q path first.
+    continuing-spent (test .before .loop .inv) (omega arith) (omega (arith, more))
+    (λ q path at. limit-done at more (one .finish-one .ensures q path (limit-first at more))) (c .if1 .taken) q path first .visited
 
 add-i : tie.Need-add-i Inv-loop μ-loop
 add-i c =
@@ -46,11 +50,14 @@ loop-again c =
     let calm = c .before in
     let one = calm .before in
     let test = one .before in
-    let at-loop = test .before in
-    finishing-step (at-loop .loop .inv) (test .loop-test .taken) (one .finish-one .ensures) (calm .if1 .left)
+    let more = test .loop-test .taken in
+    continuing-step (test .before .loop .inv) (omega arith) (omega (arith, more))
+    (λ q path at. limit-done at more (one .finish-one .ensures q path (limit-first at more))) refl (calm .if1 .left)
 
 returns-2 : tie.Need-returns-2 Inv-loop μ-loop
-returns-2 c = finishing-end (c .before .loop .inv) (c .loop-test .left)
+returns-2 c =
+    let inv = c .before .loop .inv in
+    λ q path first. continuing-end inv (c .loop-test .left) (inv .some .holds .underway .budget) q path first .visited
 
 pub finish-spec : {M : Type 1} → statement M
 finish-spec =

@@ -1,19 +1,21 @@
 -- Node visit and child loop meet their contracts together. The measures: twice the limit less the depth for the child loop, and
--- one more for the node visit, so that each call of the other falls. The loop's invariant: the children before place i were
--- visited and their rows added, and those from i on are the groups of the node's further left sets from some key on. What each
--- step shows stands in NodeStops, NodeSteps, ChildSteps and ChildLoop.
-use Prim.Native.Nat.{ℕ, _-_, _*_, _+_, _<_}
+-- one more for the node visit, so that each call of the other falls. The loop is one of part after part. What each step shows
+-- stands in NodeStops, NodeSteps and ChildSteps.
+use Prim.Native.Nat.{ℕ, suc, _-_, _*_, _+_, _<_}
 use mathlib.Core.Path.{_∙_}
 use native.Mathlib.Omega.{arith}
 use borrow.Author.Needs.{needs}
 use borrow.Fn.Kinds.{In}
 use borrow.Fn.PlainCycle.{Measures, is, falls, and}
+use Rattle.join_spec.specs.Node.{lastOf}
+use Rattle.join_walk.specs.Narrowing.{slotOf}
+use Rattle.join_walk.specs.Visiting.{ChildrenAt}
 use Rattle.join_walk.proofs.NodeFacts.{node-path, last-read}
 use Rattle.join_walk.proofs.NodeStops.{goes-on, goes-not, stop-there, stop-small, stop-visited}
 use Rattle.join_walk.proofs.NodeSteps.{narrowed-read, node-limit, limit-visited, node-run}
 use Rattle.join_walk.proofs.NodeSteps.{merged-room, all-merged, node-children, children-visited}
-use Rattle.join_walk.proofs.ChildLoop.{Looping, looping-start, looping-step, looping-spent, looping-end}
-use Rattle.join_walk.proofs.ChildSteps.{kids-run, childPath, next-node}
+use Rattle.join_walk.proofs.PartLoop.{Continuing, continuing-start, continuing-step, continuing-spent, continuing-end}
+use Rattle.join_walk.proofs.ChildSteps.{kids-run, childPath, next-node, child-done}
 use Rattle.join_check.proofs.keys.run_end.Reads as run-end
 use Rattle.join_walk.proofs.blocks.add_paths.Reads as add-paths
 use Rattle.join_walk.proofs.blocks.check_block.Reads as check-block
@@ -76,14 +78,16 @@ node-callees t = (
 )
 
 abbrev Inv-loop : children-lts.InvT-loop
-Inv-loop work₀ lay st d lo hi from to r₀ i₀ work r i = Looping lay st work₀ d lo hi from to r₀ work i r
+Inv-loop work₀ lay st d lo hi from to r₀ i₀ work r i =
+    Continuing lay (st .budget) (suc d) hi (λ path w. slotOf lay w (suc (lastOf path)))
+    (λ q path w i r. ChildrenAt lay st q path w d i hi from to r) work₀ lo r₀ work i r
 
 abbrev μ-loop : children-lts.MeasureT-loop
 μ-loop work₀ lay st d lo hi from to r₀ i₀ work r i = hi - i
 
 -- the child loop
 loop-holds : (t : ℕ) → children-lts.Need-loop-holds (children-callees t) (children-at t) visit-children.Post Inv-loop μ-loop
-loop-holds t c = looping-start (c .before .pre .1)
+loop-holds t c = continuing-start _ _ _ _ _ _ (c .before .pre .1)
 
 run-end-requires : (t : ℕ)
     → children-lts.Need-run-end-requires (children-callees t) (children-at t) visit-children.Post Inv-loop μ-loop
@@ -111,7 +115,7 @@ visit-node-requires t c κs =
       record {
         query = some .query;
         path = childPath kids (test .loop-test .taken);
-        holds = next-node kids (test .loop-test .taken) (end .run-end .ensures);
+        holds = next-node (some .holds) (test .loop-test .taken) (end .run-end .ensures);
       },
     )
 
@@ -128,8 +132,10 @@ children-returns t c =
     let end = visit .before .before in
     let test = end .before .before in
     let at-loop = test .before in
-    looping-spent (at-loop .loop .inv) (test .loop-test .taken) (end .run-end .ensures) (visit .visit-node .kept .0)
-    (visit .visit-node .ensures) (c .if1 .taken)
+    continuing-spent (at-loop .loop .inv) (omega (arith, end .run-end .ensures .more)) (end .run-end .ensures .within)
+    (λ q path at.
+    child-done at (test .loop-test .taken) (end .run-end .ensures)
+    (visit .visit-node .ensures q _ (next-node at (test .loop-test .taken) (end .run-end .ensures)))) (c .if1 .taken)
 
 loop-less : (t : ℕ) → children-lts.Need-loop-less (children-callees t) (children-at t) visit-children.Post Inv-loop μ-loop
 loop-less t c =
@@ -144,8 +150,11 @@ loop-again t c =
     let end = visit .before .before in
     let test = end .before .before in
     let at-loop = test .before in
-    looping-step (at-loop .loop .inv) (test .loop-test .taken) (end .run-end .ensures) (visit .visit-node .kept .0)
-    (visit .visit-node .ensures) (calm .if1 .left)
+    continuing-step (at-loop .loop .inv) (omega (arith, end .run-end .ensures .more)) (end .run-end .ensures .within)
+    (λ q path at.
+    child-done at (test .loop-test .taken) (end .run-end .ensures)
+    (visit .visit-node .ensures q _ (next-node at (test .loop-test .taken) (end .run-end .ensures))))
+    (visit .visit-node .kept .0) (calm .if1 .left)
 
 children-same-length-2 : (t : ℕ)
     → children-lts.Need-same-length-2 (children-callees t) (children-at t) visit-children.Post Inv-loop μ-loop
@@ -153,7 +162,9 @@ children-same-length-2 t c = c .before .loop .inv .size
 
 children-returns-2 : (t : ℕ)
     → children-lts.Need-returns-2 (children-callees t) (children-at t) visit-children.Post Inv-loop μ-loop
-children-returns-2 t c = looping-end (c .before .loop .inv) (c .loop-test .left)
+children-returns-2 t c =
+    let inv = c .before .loop .inv in
+    continuing-end inv (c .loop-test .left) (inv .some .holds .kids .underway .budget)
 
 -- the node visit
 decide-requires : (t : ℕ) → node-lts.Need-decide-requires (node-callees t) (node-at t) visit-node.Post

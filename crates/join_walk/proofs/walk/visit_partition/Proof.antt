@@ -31,7 +31,7 @@ add-word-at-2 c =
     let start = read .before .before .before in
     let part = start .pre .holds in
     let key = partition-key part (read .word-at .ensures) (keyed .key-at .ensures) in
-    omega (arith, key, part .below, part .index .ground .leastOffsetsWithin, part .index .room, start .good .0)
+    omega (arith, key, part .last, part .index .ground .leastOffsetsWithin, part .index .room, start .good .0)
 
 word-at-requires-2 : tie.Need-word-at-requires-2
 word-at-requires-2 c κs =
@@ -39,7 +39,7 @@ word-at-requires-2 c κs =
     let read = keyed .before .before in
     let part = read .before .before .before .pre .holds in
     let key = partition-key part (read .word-at .ensures) (keyed .key-at .ensures) in
-    omega (arith, key, part .below, part .index .ground .leastOffsetsWithin, part .index .room)
+    omega (arith, key, part .last, part .index .ground .leastOffsetsWithin, part .index .room)
 
 add-visit-node : tie.Need-add-visit-node
 add-visit-node c =
@@ -50,7 +50,7 @@ add-visit-node c =
     let part = start .pre .holds in
     let key = partition-key part (read .word-at .ensures) (keyed .key-at .ensures) in
     let seen = seen-word part key (counted .word-at2 .ensures) in
-    omega (arith, seen, part .index .ground .seenWithin (start .pre .rank) (part .below), part .index .room, start .good .0)
+    omega (arith, seen, part .index .ground .seenWithin (start .pre .rank) (part .last), part .index .room, start .good .0)
 
 visit-node-requires : tie.Need-visit-node-requires
 visit-node-requires c κs =
@@ -74,7 +74,7 @@ returns c =
     λ q r part.
     let key = partition-key part (read .word-at .ensures) (keyed .key-at .ensures) in
     let node = partition-node part (seen-word part key (counted .word-at2 .ensures)) in
-    partition-visited (visited .visit-node .ensures q (r ∷ []) node)
+    partition-visited (read .before .before .before .args .st) r (visited .visit-node .ensures q (r ∷ []) node)
 
 pub visit-partition-spec : {M : Type 1} → statement M
 visit-partition-spec =
