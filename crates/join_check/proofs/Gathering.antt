@@ -16,7 +16,7 @@ use Rattle.join_spec.specs.Walk.{Outcome}
 use Rattle.join_spec.specs.Counting.{isConfirmed, isDropped, isFalse}
 use Rattle.join_index.specs.declared.Layout.{Layout}
 use Rattle.join_check.specs.declared.Tally.{Tally}
-use Rattle.join_check.specs.Words.{Word}
+use Rattle.word_lists.specs.Words.{Word}
 use Rattle.join_check.specs.Asking.{RunThere}
 use Rattle.join_check.specs.Runs.{leftIn, run}
 use Rattle.join_check.specs.Checks.{rowCount, runCount, checksIn, Tallied, holdFirst}

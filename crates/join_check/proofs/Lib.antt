@@ -1,11 +1,6 @@
 -- Laws on what the index holds, by topic; each function that needs a proof file has its folder beside them.
 pub mod Reading
 pub mod Orders
-pub mod Lasts
-pub mod Trimming
-pub mod Sharing
-pub mod Flagging
-pub mod Keeping
 pub mod Places
 pub mod Probing
 pub mod Tallying

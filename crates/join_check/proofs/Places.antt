@@ -1,5 +1,5 @@
--- Parts of the work list that are places of right sets: each is there, and counting goes place by place. A right set is seen by
--- its first rank.
+-- Parts of the work list that are places of right sets: each is there and has a flag, and counting goes place by place. A right
+-- set is seen by its first rank.
 use Prim.Native.Nat.{ℕ, _+_, _-_, _≤_, _<_}
 use mathlib.Core.Path.{_≡_, refl, sym, ap, _∙_}
 use mathlib.Core.List.{List, [], _∷_}
@@ -7,14 +7,16 @@ use mathlib.Core.Bool.{Bool, false}
 use native.Mathlib.Omega.{arith}
 use lib.Dec.{leb, ltb}
 use lib.ListN.{length, getD}
-use borrow.Author.Tests.{ltb-true}
+use borrow.Author.Tests.{lt-ltb, ltb-true}
 use Rattle.lists.specs.Lists.{one, count, slice}
+use Rattle.lists.proofs.Throughout.{all-weaken}
 use Rattle.lists.proofs.Slices.{all-slice, slice-past, slice-next}
 use Rattle.join_spec.specs.Query.{Query}
 use Rattle.join_spec.specs.Node.{seen}
 use Rattle.join_index.specs.Grouping.{rightAt}
 use Rattle.join_index.specs.declared.Layout.{Layout}
-use Rattle.join_check.specs.Words.{Word}
+use Rattle.word_lists.specs.Words.{Word}
+use Rattle.word_lists.specs.Flags.{flagRoom, Below}
 use Rattle.join_check.specs.Asking.{RightThere, PlacesThere}
 use Rattle.join_check.proofs.Reading.{right-stored}
 
@@ -25,6 +27,20 @@ place-right {lay} {q} {w} {from} {to} there i s low high word =
     record {
       index = there .index;
       below = ltb-true s (length (q .rights)) (ap (λ (k : ℕ). ltb k (length (q .rights))) (word .is) ∙ test);
+    }
+
+-- the places of right sets are so few that each has a flag
+pub places-below : {lay : Layout} {q : Query} {w : List ℕ} {from to : ℕ} → PlacesThere lay q w from to → from ≤ to
+    → Below flagRoom from to w
+places-below {lay} {q} {w} {from} {to} there order =
+    record {
+      order = order;
+      within = there .within;
+      below =
+          all-weaken (λ (s : ℕ). ltb s (length (q .rights))) (λ (s : ℕ). ltb s flagRoom) (slice from to w)
+          (λ s low.
+          lt-ltb s flagRoom (omega (arith, ltb-true s (length (q .rights)) low, there .index .ground .rightFew)))
+          (there .below);
     }
 
 -- counting goes place by place

@@ -19,8 +19,8 @@ use Rattle.join_index.specs.declared.Layout.{Layout}
 use Rattle.join_index.proofs.Ordering.{right-rising}
 use Rattle.join_check.specs.declared.Tally.{Tally}
 use Rattle.join_check.specs.declared.checks.Probe.{Probe}
-use Rattle.join_check.specs.Words.{Word}
-use Rattle.join_check.specs.Merges.{Rising}
+use Rattle.word_lists.specs.Words.{Word}
+use Rattle.word_lists.specs.Merges.{Rising}
 use Rattle.join_check.specs.Asking.{LeftThere, RightThere}
 use Rattle.join_check.specs.Checks.{Tallied}
 use Rattle.join_check.specs.Probes.{ProbeOf, probeOutcome}

@@ -1,12 +1,12 @@
 // Checks of left sets against right sets: signatures first, then the ranks that are not on the merged path.
 use crate::Tally;
-use crate::merge::subset_ranks;
-use crate::words::double_at;
-use crate::words::word_at;
 use join_index::Layout;
+use signatures::double_at;
+use word_lists::merge::subset_words;
+use word_lists::words::word_at;
 ghost use mathlib.Core.Path.{_≡_};
 ghost use Prim.Native.Nat.{_+_, _-_, _*_, _<_};
-ghost use Rattle.join_check.specs.Merges.{Rising};
+ghost use Rattle.word_lists.specs.Merges.{Rising};
 ghost use Rattle.join_check.specs.Asking.{Some, LeftThere, RightThere};
 ghost use Rattle.join_check.specs.Checks.{checksIn, RowThere, RowChecked};
 ghost use Rattle.join_check.specs.Probes.{Probed, OneChecked};
@@ -66,7 +66,7 @@ fn check_one(work: &[u32], lay: Layout, p: Probe, s: usize, t: Tally) -> Tally
     }
     let from = ranks + word_at(work, starts + s);
     let to = ranks + word_at(work, starts + s + 1);
-    if subset_ranks(work, p.from, p.to, from, to) {
+    if subset_words(work, p.from, p.to, from, to) {
         return Tally {
             by_path: t.by_path,
             confirmed: t.confirmed + 1,

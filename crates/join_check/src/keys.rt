@@ -1,6 +1,6 @@
 // The keys of the left sets, and the runs with the same key in their order.
-use crate::words::word_at;
 use join_index::Layout;
+use word_lists::words::word_at;
 ghost use mathlib.Core.Path.{_≡_};
 ghost use Rattle.join_spec.specs.Query.{Query};
 ghost use Rattle.join_index.specs.Grouping.{keyAt};

@@ -1,5 +1,5 @@
-// The checks of a join, and what else is read off the index: what two rising parts of the work list share, the runs of left sets
-// with a common prefix, the right sets seen, and the checks of left sets below a node. The work list is read by its layout.
+// The checks of a join, and what else is read off the index: the runs of left sets with a common prefix, the right sets seen, and
+// the checks of left sets below a node. The work list is read by its layout.
 
 // The counters of a walk: pairs by path, and the checks by how they ended.
 pub struct Tally {
@@ -10,9 +10,6 @@ pub struct Tally {
 }
 
 pub mod checks;
-pub mod flags;
 pub mod keys;
-pub mod merge;
 pub mod seen;
 pub mod subtree;
-pub mod words;

@@ -1,7 +1,7 @@
 // The right sets that are seen at a first rank: those that are not empty and whose least rank is at most it.
-use crate::words::number;
-use crate::words::word_at;
 use join_index::Layout;
+use word_lists::words::number;
+use word_lists::words::word_at;
 ghost use mathlib.Core.Path.{_≡_};
 ghost use Rattle.lists.specs.Lists.{count, slice};
 ghost use Rattle.join_spec.specs.Query.{Query};

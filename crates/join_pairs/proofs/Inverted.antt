@@ -17,10 +17,10 @@ use Rattle.join_spec.specs.Query.{Query}
 use Rattle.join_index.specs.Grouping.{rightAt}
 use Rattle.join_index.specs.Ground.{invertedList}
 use Rattle.join_index.specs.declared.Layout.{Layout}
-use Rattle.join_check.specs.Merges.{Rising}
-use Rattle.join_check.specs.Flags.{Places}
+use Rattle.word_lists.specs.Merges.{Rising}
+use Rattle.word_lists.specs.Flags.{flagRoom, Below}
 use Rattle.join_check.specs.Asking.{PlacesThere}
-use Rattle.join_check.proofs.Flagging.{places-small}
+use Rattle.join_check.proofs.Places.{places-below}
 use Rattle.join_pairs.specs.declared.candidates.Span.{Span}
 use Rattle.join_pairs.specs.Containing.{RankThere, RanksThere}
 use Rattle.join_pairs.specs.Narrowing.{Listed}
@@ -67,9 +67,9 @@ module _ (lay : Layout) (q : Query) (w : List ℕ) (r : ℕ) (s : Span) (listed 
             (all-upto (length (q .rights)));
       }
 
-  pub list-small : Places (s .from) (s .to) w
+  pub list-small : Below flagRoom (s .from) (s .to) w
   list-small =
-      places-small list-places (omega (arith, inverted-stored lay q w r there .rise, listed .from, listed .to))
+      places-below list-places (omega (arith, inverted-stored lay q w r there .rise, listed .from, listed .to))
 
   pub list-rising : Rising (s .from) (s .to) w
   list-rising =

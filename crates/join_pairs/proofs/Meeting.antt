@@ -14,8 +14,8 @@ use Rattle.lists.proofs.Slices.{frame-less}
 use Rattle.join_spec.specs.Query.{Query}
 use Rattle.join_index.specs.Grouping.{rightAt}
 use Rattle.join_index.specs.declared.Layout.{Layout}
-use Rattle.join_check.specs.Words.{Word}
-use Rattle.join_check.specs.Merges.{Apart, Intersected}
+use Rattle.word_lists.specs.Words.{Word}
+use Rattle.word_lists.specs.Merges.{Apart, Intersected}
 use Rattle.join_pairs.specs.declared.candidates.Span.{Span}
 use Rattle.join_pairs.specs.Narrowing.{Listed, SpanThere, Met}
 use Rattle.join_pairs.proofs.Inverted.{inverted-stored, list-part}

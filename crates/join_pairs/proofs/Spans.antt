@@ -18,7 +18,7 @@ use Rattle.join_spec.specs.Query.{Query}
 use Rattle.join_index.specs.Grouping.{rightAt}
 use Rattle.join_index.specs.declared.Layout.{Layout}
 use Rattle.join_index.proofs.GroundLaws.{offsets-rise}
-use Rattle.join_check.specs.Words.{Word}
+use Rattle.word_lists.specs.Words.{Word}
 use Rattle.join_check.specs.Asking.{PlacesThere}
 use Rattle.join_check.proofs.Reading.{index-frame}
 use Rattle.join_pairs.specs.declared.candidates.Span.{Span}

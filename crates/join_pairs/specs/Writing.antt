@@ -14,7 +14,7 @@ use Rattle.join_index.specs.Grouping.{rightAt}
 use Rattle.join_index.specs.declared.Layout.{Layout}
 use Rattle.join_check.specs.declared.checks.Probe.{Probe}
 use Rattle.join_check.specs.Asking.{Index, LeftThere, PlacesThere}
-use Rattle.join_check.specs.Merges.{Rising}
+use Rattle.word_lists.specs.Merges.{Rising}
 use Rattle.join_pairs.specs.Containing.{containedAt, rowOf, rowAt}
 
 -- room for a pair, if it is one, of places that fit 16 bits

@@ -1,9 +1,9 @@
 // The right sets that may contain a left set: those holding one of its ranks, narrowed by what they share with those holding
 // its other ranks while that costs less than to look at each.
 use crate::left::holders;
-use join_check::merge::intersect;
-use join_check::words::word_at;
 use join_index::Layout;
+use word_lists::merge::intersect;
+use word_lists::words::word_at;
 ghost use Rattle.join_check.specs.Asking.{Some};
 ghost use Rattle.join_pairs.specs.Containing.{RankThere};
 ghost use Rattle.join_pairs.specs.Narrowing.{Listed, SpanThere, Met, NarrowThere, Narrowed};

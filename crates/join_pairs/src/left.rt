@@ -1,16 +1,16 @@
 // One left set as it is looked for among the right sets: the rank that fewest of them hold, and whether one of them contains it.
 use join_check::checks::Probe;
-use join_check::merge::subset_ranks;
-use join_check::words::double_at;
-use join_check::words::word_at;
 use join_index::Layout;
+use signatures::double_at;
+use word_lists::merge::subset_words;
+use word_lists::words::word_at;
 ghost use mathlib.Core.Path.{_≡_};
 ghost use mathlib.Core.Bool.{true};
 ghost use Prim.Native.Nat.{ℕ};
 ghost use Rattle.lists.specs.Lists.{memb, slice};
 ghost use Rattle.join_spec.specs.Query.{Query};
 ghost use Rattle.join_check.specs.Asking.{Some, RightThere};
-ghost use Rattle.join_check.specs.Merges.{Rising};
+ghost use Rattle.word_lists.specs.Merges.{Rising};
 ghost use Rattle.join_pairs.specs.Containing.{containedAt, RankThere, RanksThere, CheckThere};
 
 // How many right sets hold a rank.
@@ -61,5 +61,5 @@ pub fn is_contained(work: &[u32], lay: Layout, p: Probe, s: usize) -> bool
     }
     let from = ranks + word_at(work, starts + s);
     let to = ranks + word_at(work, starts + s + 1);
-    subset_ranks(work, p.from, p.to, from, to)
+    subset_words(work, p.from, p.to, from, to)
 }

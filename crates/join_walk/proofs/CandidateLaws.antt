@@ -17,10 +17,10 @@ use Rattle.join_index.specs.Grouping.{rightAt}
 use Rattle.counting_sort.specs.Holding.{Holds}
 use Rattle.join_index.specs.Ground.{invertedList, offsetOf}
 use Rattle.join_index.specs.declared.Layout.{Layout}
-use Rattle.join_check.specs.Words.{Word}
-use Rattle.join_check.specs.Merges.{Rising, Apart, Intersected}
-use Rattle.join_check.specs.Flags.{Places}
-use Rattle.join_check.proofs.Flagging.{places-small}
+use Rattle.word_lists.specs.Words.{Word}
+use Rattle.word_lists.specs.Merges.{Rising, Apart, Intersected}
+use Rattle.word_lists.specs.Flags.{flagRoom, Below}
+use Rattle.join_check.proofs.Places.{places-below}
 use Rattle.join_walk.specs.Narrowing.{Candidates, Narrowed, candidateList}
 use Rattle.join_walk.proofs.Narrowing.{narrow-first, narrow-further}
 
@@ -83,9 +83,9 @@ module _ {lay : Layout} {q : Query} {path w : List ℕ} {d lo hi : ℕ} (cands :
 
     -- right places that are kept are places that a set can have
     kept-small : (test : ℕ → Bool) (from to : ℕ) → from ≤ to → to ≤ length w
-        → slice from to w ≡ keep test (upto (length (q .rights))) → Places from to w
+        → slice from to w ≡ keep test (upto (length (q .rights))) → Below flagRoom from to w
     kept-small test from to order within is =
-        places-small
+        places-below
         (record {
           index = cands .index;
           within = within;
@@ -95,12 +95,12 @@ module _ {lay : Layout} {q : Query} {path w : List ℕ} {d lo hi : ℕ} (cands :
         })
         order
 
-    pub before-small : 1 < d → Places lo hi w
+    pub before-small : 1 < d → Below flagRoom lo hi w
     before-small deeper =
         kept-small (λ s. isCandidate (d - 1) path (rightAt q s)) lo hi (cands .rise) (before-rising deeper .within)
         (cands .sorted deeper)
 
-    pub inverted-small : Places (lay .index + first) (lay .index + last) w
+    pub inverted-small : Below flagRoom (lay .index + first) (lay .index + last) w
     inverted-small =
         kept-small (λ s. memb (lastOf path) (rightAt q s)) (lay .index + first) (lay .index + last) (inverted-holds .rise)
         (inverted-rising .within) (inverted-holds .is)

@@ -15,7 +15,7 @@ use Rattle.join_spec.specs.Query.{Query}
 use Rattle.counting_sort.specs.Groups.{groupsFrom}
 use Rattle.join_index.specs.Grouping.{leftAt, keyAt, orderFrom}
 use Rattle.join_index.specs.declared.Layout.{Layout}
-use Rattle.join_check.specs.Words.{Word}
+use Rattle.word_lists.specs.Words.{Word}
 use Rattle.join_check.specs.Asking.{LeftThere, RunThere}
 use Rattle.join_check.specs.Runs.{run, lead, leftIn, RunEnd}
 use Rattle.join_check.proofs.Orders.{order-within, run-next, run-key, run-fail}

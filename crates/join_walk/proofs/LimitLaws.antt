@@ -22,7 +22,7 @@ use Rattle.join_index.specs.Ground.{Listing}
 use Rattle.join_index.specs.declared.Layout.{Layout}
 use Rattle.join_check.specs.Asking.{RunThere, LeftThere}
 use Rattle.join_check.specs.Runs.{run, leftIn}
-use Rattle.join_check.specs.Words.{Word}
+use Rattle.word_lists.specs.Words.{Word}
 use Rattle.join_check.specs.Checks.{checksIn, RunsThere, runCount}
 use Rattle.join_check.specs.declared.Tally.{Tally}
 use Rattle.join_check.proofs.Orders.{order-within, run-next, run-none, run-key}

@@ -24,7 +24,7 @@ use Rattle.join_index.specs.Ground.{invertedList}
 use Rattle.join_index.specs.declared.Layout.{Layout}
 use Rattle.join_check.specs.Asking.{Index, LeftThere, PlacesThere}
 use Rattle.join_check.specs.Runs.{leftIn}
-use Rattle.join_check.specs.Words.{Word}
+use Rattle.word_lists.specs.Words.{Word}
 use Rattle.join_check.proofs.Orders.{order-left}
 use Rattle.join_walk.specs.Rows.{goes}
 use Rattle.join_walk.specs.Visiting.{OnPath, NodeAt}

@@ -6,7 +6,8 @@ ghost use Prim.Native.Nat.{_+_, _≤_};
 ghost use lib.ListN.{length};
 ghost use Rattle.sets.specs.Collections.{between, setsOf};
 ghost use Rattle.sets.specs.Signatures.{signature};
-ghost use Rattle.signatures.specs.Signing.{Positions, ItemsRoom, Stored, SigningRoom, Signed, BothRoom, BothSigned};
+ghost use Rattle.signatures.specs.Signing.{Positions, ItemsRoom, double, Stored, SigningRoom};
+ghost use Rattle.signatures.specs.Signing.{Signed, BothRoom, BothSigned};
 
 // The bits of the items: (3^k mod 257) mod 64.
 fn fill_positions(table: &mut [u8])
@@ -42,6 +43,16 @@ fn store_double(work: &mut [u32], at: usize, number: u64)
 {
     work[at] = (number % 4294967296) as u32;
     work[at + 1] = (number / 4294967296) as u32;
+}
+
+// The number that stands in two words.
+pub fn double_at(work: &[u32], at: usize) -> u64
+    requires { ⌜ at + 2 ≤ length (now work) ⌝ }
+    ensures { λ r. ⌜ r ≡ double (now (work .entry)) at ⌝ }
+{
+    let low = work[at] as u64;
+    let high = work[at + 1] as u64;
+    low + 4294967296 * high
 }
 
 // The signatures of a collection.

@@ -66,8 +66,8 @@ add-to c =
     let s = right-stored (a .lay) (start .pre .0 .query) (a .work .now) (a .s) (start .pre .0 .holds) in
     omega arith
 
-subset-ranks-requires : tie.Need-subset-ranks-requires
-subset-ranks-requires c κs =
+subset-words-requires : tie.Need-subset-words-requires
+subset-words-requires c κs =
     let start = c .before .before .before .before .before in
     let a = start .args in (
       start .pre .1 .0,
@@ -80,8 +80,8 @@ add-t20 c = search needs
 
 returns-2 : tie.Need-returns-2
 returns-2 c =
-    let at-subset-ranks = c .before .before in
-    let at-word-at2 = at-subset-ranks .before in
+    let at-subset-words = c .before .before in
+    let at-word-at2 = at-subset-words .before in
     let at-word-at = at-word-at2 .before in
     let at-if1 = at-word-at .before in
     let at-double-at = at-if1 .before in
@@ -95,7 +95,7 @@ returns-2 c =
           (at-word-at .word-at .ensures) (at-word-at2 .word-at2 .ensures) there
           in
           let test = sym (ap (subset (slice (a .p .from) (a .p .to) (a .work .now))) part) ∙ sym
-          (at-subset-ranks .subset-ranks .ensures) ∙ c .before .if2 .taken in
+          (at-subset-words .subset-words .ensures) ∙ c .before .if2 .taken in
           raise-confirmed (a .t) (probeOutcome q (a .work .now) (a .p) (a .s))
           (outcome-checked (a .lay) q (a .work .now) (a .p) (a .s) (at-double-at .double-at .result)
           (at-double-at .double-at .ensures) there (at-if1 .if1 .left)
@@ -107,8 +107,8 @@ add-t21 c = search needs
 
 returns-3 : tie.Need-returns-3
 returns-3 c =
-    let at-subset-ranks = c .before .before in
-    let at-word-at2 = at-subset-ranks .before in
+    let at-subset-words = c .before .before in
+    let at-word-at2 = at-subset-words .before in
     let at-word-at = at-word-at2 .before in
     let at-if1 = at-word-at .before in
     let at-double-at = at-if1 .before in
@@ -122,7 +122,7 @@ returns-3 c =
           (at-word-at .word-at .ensures) (at-word-at2 .word-at2 .ensures) there
           in
           let test = sym (ap (subset (slice (a .p .from) (a .p .to) (a .work .now))) part) ∙ sym
-          (at-subset-ranks .subset-ranks .ensures) ∙ c .before .if2 .left in
+          (at-subset-words .subset-words .ensures) ∙ c .before .if2 .left in
           raise-false (a .t) (probeOutcome q (a .work .now) (a .p) (a .s))
           (outcome-checked (a .lay) q (a .work .now) (a .p) (a .s) (at-double-at .double-at .result)
           (at-double-at .double-at .ensures) there (at-if1 .if1 .left)
@@ -145,7 +145,7 @@ check-one-spec =
     add-word-at-3
     word-at-requires-2
     add-to
-    subset-ranks-requires
+    subset-words-requires
     add-t20
     returns-2
     add-t21

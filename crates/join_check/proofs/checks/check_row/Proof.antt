@@ -10,7 +10,7 @@ use Rattle.join_spec.specs.Walk.{Outcome}
 use Rattle.join_index.specs.declared.Layout.{Layout}
 use Rattle.join_check.specs.declared.Tally.{Tally}
 use Rattle.join_check.specs.declared.checks.Probe.{Probe}
-use Rattle.join_check.specs.Words.{Word}
+use Rattle.word_lists.specs.Words.{Word}
 use Rattle.join_check.specs.Checks.{checkAt, rowCount, checksIn, RowThere}
 use Rattle.join_check.specs.Probes.{Probed, OneChecked}
 use Rattle.join_check.proofs.Places.{place-right, count-past, count-next}

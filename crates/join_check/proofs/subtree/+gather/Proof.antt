@@ -14,7 +14,7 @@ use Rattle.join_check.proofs.subtree.+gather.Lts-gather as gather-lts
 use Rattle.join_check.proofs.keys.key_at.Reads as key-at-reads
 use Rattle.join_check.proofs.keys.run_end.Reads as run-end-reads
 use Rattle.join_check.proofs.subtree.check_run.Reads as check-run-reads
-use Rattle.join_check.proofs.words.word_at.Reads as word-at-reads
+use Rattle.word_lists.proofs.words.word_at.Reads as word-at-reads
 use Rattle.join_check.proofs.subtree.+gather.{statement}
 use Rattle.join_check.proofs.subtree.+gather.Tie.{close}
 

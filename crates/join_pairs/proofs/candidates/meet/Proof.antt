@@ -1,5 +1,5 @@
 -- `join_pairs::candidates::meet` meets its contract: all candidates hold the pivot; any other rank is met by its inverted list.
-use Rattle.join_check.proofs.Flagging.{places-small}
+use Rattle.join_check.proofs.Places.{places-below}
 use Rattle.join_pairs.proofs.Inverted.{list-rising, list-small}
 use Rattle.join_pairs.proofs.Meeting.{met-same, met-apart, met-other}
 use borrow.Author.Needs.{needs}
@@ -38,7 +38,7 @@ intersect-requires c κs =
           met-apart (a .lay) (a .work .now) (a .r) (a .pivot) (a .from) (a .to) (list .result) (word .result) (list .ensures)
               (word .ensures) (start .pre .query) there,
           (
-            places-small (there .places) (there .order),
+            places-below (there .places) (there .order),
             list-small (a .lay) (start .pre .query) (a .work .now) (a .r) (list .result) (list .ensures) (there .rank),
           ),
         ),

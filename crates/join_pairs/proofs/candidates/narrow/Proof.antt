@@ -7,7 +7,7 @@ use native.Mathlib.Omega.{arith}
 use lib.ListN.{length, take}
 use Rattle.join_spec.specs.Query.{Query}
 use Rattle.join_index.specs.declared.Layout.{Layout}
-use Rattle.join_check.specs.Words.{Word}
+use Rattle.word_lists.specs.Words.{Word}
 use Rattle.join_pairs.specs.declared.candidates.Span.{Span}
 use Rattle.join_pairs.specs.Narrowing.{Met, NarrowThere, Narrowed}
 use Rattle.join_pairs.proofs.Spans.{SoFar, pivot-there, so-far-start, so-far-span, so-far-step, so-far-end}

@@ -56,8 +56,8 @@ add-to c =
     let s = right-stored (a .lay) (start .pre .0 .query) (a .work .now) (a .s) (start .pre .0 .holds) in
     omega arith
 
-subset-ranks-requires : tie.Need-subset-ranks-requires
-subset-ranks-requires c κs =
+subset-words-requires : tie.Need-subset-words-requires
+subset-words-requires c κs =
     let start = c .before .before .before .before .before .before .before in
     let a = start .args in
     let first = c .before .word-at in
@@ -74,7 +74,7 @@ returns-3 c =
     let first = c .before .before .word-at in
     let second = c .before .word-at2 in
     λ q k there.
-    c .subset-ranks .ensures
+    c .subset-words .ensures
     ∙ ap (subset (slice (a .p .from) (a .p .to) (a .work .now)))
     (right-part (a .lay) q (a .work .now) (a .s) (first .result) (second .result) (first .ensures) (second .ensures)
     (there .right))
@@ -96,5 +96,5 @@ is-contained-spec =
     add-word-at-3
     word-at-requires-2
     add-to
-    subset-ranks-requires
+    subset-words-requires
     returns-3)

@@ -13,7 +13,7 @@ use Rattle.join_spec.specs.Query.{Query}
 use Rattle.join_spec.specs.PairList.{ontoPair}
 use Rattle.join_index.specs.declared.Layout.{Layout}
 use Rattle.join_check.specs.declared.checks.Probe.{Probe}
-use Rattle.join_check.specs.Words.{Word}
+use Rattle.word_lists.specs.Words.{Word}
 use Rattle.join_check.proofs.Places.{place-right}
 use Rattle.join_pairs.specs.Containing.{containedAt, rowOf, CheckThere}
 use Rattle.join_pairs.specs.Writing.{PushRoom, RowRoom}

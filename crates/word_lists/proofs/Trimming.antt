@@ -1,0 +1,92 @@
+-- Containment of two rising parts, the last word first: the invariants of `skip_words` and `skip_higher`, with their steps and
+-- ends.
+use Prim.Native.Nat.{ℕ, _-_, _≤_, _<_}
+use mathlib.Core.Path.{_≡_, sym, ap₂, _∙_}
+use mathlib.Core.List.{List, []}
+use mathlib.Core.Bool.{true, false, and-false}
+use native.Mathlib.Omega.{arith}
+use lib.ListN.{length, getD}
+use Rattle.lists.specs.Lists.{memb, subset, rising, slice}
+use Rattle.lists.proofs.Throughout.{subset-nil}
+use Rattle.lists.proofs.Slices.{slice-past}
+use Rattle.word_lists.specs.Merges.{Rising, Skipped}
+use Rattle.word_lists.proofs.Lasts.{subset-last, part-last, front-of, last-high, last-low, last-same}
+
+-- containment of the parts up to i and j decides that of the whole, and both rise
+pub record Trimming (w : List ℕ) (a b c e i j : ℕ) : Type 0 where
+  pub first : i ≤ b
+  pub second : j ≤ e
+  pub left : rising (slice a i w) ≡ true
+  pub right : rising (slice c j w) ≡ true
+  pub same : subset (slice a i w) (slice c j w) ≡ subset (slice a b w) (slice c e w)
+
+module _ (w : List ℕ) (a b c e i j : ℕ) where
+  pub trimming-skip : (r : ℕ) → Trimming w a b c e i j → Skipped a i c j w r → Trimming w a b c e i r
+  trimming-skip r m s =
+      record {
+        first = m .first;
+        second = omega (arith, s .high, m .second);
+        left = m .left;
+        right = s .rise;
+        same = s .same ∙ m .same;
+      }
+
+  module _ (leftIn : b ≤ length w) (rightIn : e ≤ length w) (m : Trimming w a b c e i j) where
+    pub trimming-end : i ≤ a → true ≡ subset (slice a b w) (slice c e w)
+    trimming-end past =
+        let none = slice-past a i w past in
+        sym (rw none (subset-nil (slice c j w))) ∙ m .same
+
+    pub trimming-stop : a < i → j ≤ c → false ≡ subset (slice a b w) (slice c e w)
+    unfolding memb
+    trimming-stop some past =
+        let x = getD w (i - 1) 0 in
+        let none = slice-past c j w past in
+        sym
+        (ap₂ (λ (k l : List ℕ). subset k l) (part-last a i w some (omega (arith, m .first))) none
+        ∙ subset-last (slice a (i - 1) w) [] x
+        ∙ and-false (subset (slice a (i - 1) w) []))
+        ∙ m .same
+
+    module _ (some : a < i) (other : c < j) where
+      pub trimming-low : getD w (j - 1) 0 < getD w (i - 1) 0 → false ≡ subset (slice a b w) (slice c e w)
+      trimming-low h =
+          sym
+          (last-low w a i c j (omega (arith, m .first)) (omega (arith, m .second)) some other (m .left) (m .right) h)
+          ∙ m .same
+
+      pub trimming-same : getD w (i - 1) 0 ≡ getD w (j - 1) 0 → Trimming w a b c e (i - 1) (j - 1)
+      trimming-same h =
+          let inFirst : i ≤ length w = omega (arith, m .first) in
+          let inSecond : j ≤ length w = omega (arith, m .second) in
+          record {
+            first = omega (arith, m .first);
+            second = omega (arith, m .second);
+            left = front-of w a i inFirst some (m .left) .rise;
+            right = front-of w c j inSecond other (m .right) .rise;
+            same = sym (last-same w a i c j inFirst inSecond some other (m .left) (m .right) h) ∙ m .same;
+          }
+
+-- the invariant of `skip_higher`
+pub record Skipping (w : List ℕ) (a b c e x j : ℕ) : Type 0 where
+  pub high : j ≤ e
+  pub word : x ≡ getD w (b - 1) 0
+  pub rise : rising (slice c j w) ≡ true
+  pub same : subset (slice a b w) (slice c j w) ≡ subset (slice a b w) (slice c e w)
+
+module _ (w : List ℕ) (a b c e x j : ℕ) (s : Skipping w a b c e x j) where
+  pub skipped : (c < j → getD w (j - 1) 0 ≤ x) → Skipped a b c e w j
+  skipped stop =
+      record { high = s .high; stop = λ h. omega (arith, stop h, s .word); rise = s .rise; same = s .same }
+
+  pub skipping-next : a < b → Rising a b w → e ≤ length w → c < j → x < getD w (j - 1) 0 → Skipping w a b c e x (j - 1)
+  skipping-next some left rightIn other h =
+      let within : j ≤ length w = omega (arith, s .high) in
+      record {
+        high = omega (arith, s .high);
+        word = s .word;
+        rise = front-of w c j within other (s .rise) .rise;
+        same =
+            sym (last-high w a b c j (left .within) within some other (left .rise) (s .rise) (omega (arith, s .word)))
+            ∙ s .same;
+      }

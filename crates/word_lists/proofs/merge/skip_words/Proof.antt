@@ -1,0 +1,132 @@
+-- `word_lists::merge::skip_words` meets its contract. The invariant is `Trimming`; the measure is what is left of the first part.
+use mathlib.Core.Path.{refl}
+use Prim.Native.Nat.{_-_}
+use native.Mathlib.Omega.{arith}
+use Rattle.word_lists.proofs.Trimming.{Trimming, trimming-skip, trimming-stop, trimming-low, trimming-same, trimming-end}
+use Rattle.word_lists.proofs.merge.skip_words.Statement.{statement}
+use Rattle.word_lists.proofs.merge.skip_words.Tie as tie
+
+abbrev Inv-loop : tie.InvT-loop
+Inv-loop work a b c e i₀ j₀ i j = Trimming work a b c e i j
+
+abbrev μ-loop : tie.MeasureT-loop
+μ-loop work a b c e i₀ j₀ i j = i - a
+
+loop-holds : tie.Need-loop-holds Inv-loop μ-loop
+loop-holds c =
+    let asked = c .before .pre in
+    record { first = omega arith; second = omega arith; left = asked .0 .rise; right = asked .1 .rise; same = refl }
+
+skip-higher-requires : tie.Need-skip-higher-requires Inv-loop μ-loop
+skip-higher-requires c κs =
+    let start = c .before .before .before in
+    let m = c .before .loop .inv in (
+      c .loop-test .taken,
+      (
+        record { within = omega (arith, m .first, start .pre .0 .within); rise = m .left },
+        record { within = omega (arith, m .second, start .pre .1 .within); rise = m .right },
+      ),
+    )
+
+returns : tie.Need-returns Inv-loop μ-loop
+returns c =
+    let skip = c .before in
+    let at-loop = skip .before .before in
+    let start = at-loop .before .before in
+    let a = start .args in
+    let m =
+    trimming-skip (a .work .now) (a .a) (a .b) (a .c) (a .e) (at-loop .loop .i) (at-loop .loop .j) (skip .skip-higher .result)
+    (at-loop .loop .inv) (skip .skip-higher .ensures)
+    in
+    trimming-stop (a .work .now) (a .a) (a .b) (a .c) (a .e) (at-loop .loop .i)
+    (skip .skip-higher .result) (start .pre .0 .within)
+    (start .pre .1 .within) m (skip .before .loop-test .taken) (c .if1 .taken)
+
+sub-if2 : tie.Need-sub-if2 Inv-loop μ-loop
+sub-if2 c = omega arith
+
+mul-if2 : tie.Need-mul-if2 Inv-loop μ-loop
+mul-if2 c = omega arith
+
+shared-slice-read-if2 : tie.Need-shared-slice-read-if2 Inv-loop μ-loop
+shared-slice-read-if2 c = omega arith
+
+sub-if2-2 : tie.Need-sub-if2-2 Inv-loop μ-loop
+sub-if2-2 c = omega arith
+
+mul-if2-2 : tie.Need-mul-if2-2 Inv-loop μ-loop
+mul-if2-2 c = omega arith
+
+shared-slice-read-if2-2 : tie.Need-shared-slice-read-if2-2 Inv-loop μ-loop
+shared-slice-read-if2-2 c = omega arith
+
+returns-2 : tie.Need-returns-2 Inv-loop μ-loop
+returns-2 c =
+    let skip = c .before .before .before .before in
+    let at-loop = skip .before .before in
+    let start = at-loop .before .before in
+    let a = start .args in
+    let m =
+    trimming-skip (a .work .now) (a .a) (a .b) (a .c) (a .e) (at-loop .loop .i) (at-loop .loop .j) (skip .skip-higher .result)
+    (at-loop .loop .inv) (skip .skip-higher .ensures)
+    in
+    let other = c .before .before .before .if1 .left in
+    trimming-low (a .work .now) (a .a) (a .b) (a .c) (a .e) (at-loop .loop .i)
+    (skip .skip-higher .result) (start .pre .0 .within)
+    (start .pre .1 .within) m (skip .before .loop-test .taken) (omega (arith, other))
+    (omega (arith, skip .skip-higher .ensures .stop (omega (arith, other)), c .if2 .taken))
+
+sub-i : tie.Need-sub-i Inv-loop μ-loop
+sub-i c = omega arith
+
+sub-j : tie.Need-sub-j Inv-loop μ-loop
+sub-j c = omega arith
+
+loop-less : tie.Need-loop-less Inv-loop μ-loop
+loop-less c = omega arith
+
+loop-again : tie.Need-loop-again Inv-loop μ-loop
+loop-again c =
+    let skip = c .before .before .before .before in
+    let at-loop = skip .before .before in
+    let start = at-loop .before .before in
+    let a = start .args in
+    let m =
+    trimming-skip (a .work .now) (a .a) (a .b) (a .c) (a .e) (at-loop .loop .i) (at-loop .loop .j) (skip .skip-higher .result)
+    (at-loop .loop .inv) (skip .skip-higher .ensures)
+    in
+    let other = c .before .before .before .if1 .left in
+    trimming-same (a .work .now) (a .a) (a .b) (a .c) (a .e) (at-loop .loop .i)
+    (skip .skip-higher .result) (start .pre .0 .within)
+    (start .pre .1 .within) m (skip .before .loop-test .taken) (omega (arith, other))
+    (omega (arith, c .if2 .left))
+
+returns-3 : tie.Need-returns-3 Inv-loop μ-loop
+returns-3 c =
+    let at-loop = c .before in
+    let start = at-loop .before .before in
+    let a = start .args in
+    trimming-end (a .work .now) (a .a) (a .b) (a .c) (a .e) (at-loop .loop .i) (at-loop .loop .j) (start .pre .0 .within)
+    (start .pre .1 .within) (at-loop .loop .inv) (c .loop-test .left)
+
+pub skip-words-spec : {M : Type 1} → statement M
+skip-words-spec =
+    tie.close
+    (tie.spec
+    Inv-loop
+    μ-loop
+    loop-holds
+    skip-higher-requires
+    returns
+    sub-if2
+    mul-if2
+    shared-slice-read-if2
+    sub-if2-2
+    mul-if2-2
+    shared-slice-read-if2-2
+    returns-2
+    sub-i
+    sub-j
+    loop-less
+    loop-again
+    returns-3)

@@ -1,0 +1,4 @@
+-- Contents: what the functions of this crate ask and answer.
+pub mod Words
+pub mod Merges
+pub mod Flags

@@ -1,0 +1,35 @@
+-- Inner: rising parts of a list of words: how far one is passed over in a search for the other's words, and what two of them share,
+-- written behind them.
+use Prim.Native.Nat.{ℕ, _+_, _-_, _≤_, _<_}
+use mathlib.Core.Path.{_≡_}
+use mathlib.Core.List.{List}
+use mathlib.Core.Bool.{true}
+use lib.ListN.{length, getD}
+use Rattle.lists.specs.Lists.{keep, memb, subset, rising, slice}
+use Rattle.lists.specs.Parts.{Changed}
+
+-- the words from lo up to hi strictly rise; there are none where hi is at most lo
+pub record Rising (lo hi : ℕ) (w : List ℕ) : Type 0 where
+  pub within : hi ≤ length w
+  pub rise : rising (slice lo hi w) ≡ true
+
+-- of the part from c up to e, what lies from r on does not bear on whether it has the words of the part from a up to b, and the
+-- word before r, if there is one, is not above the last of those
+pub record Skipped (a b c e : ℕ) (w : List ℕ) (r : ℕ) : Type 0 where
+  pub high : r ≤ e
+  pub stop : c < r → getD w (r - 1) 0 ≤ getD w (b - 1) 0
+  pub rise : rising (slice c r w) ≡ true
+  pub same : subset (slice a b w) (slice c r w) ≡ subset (slice a b w) (slice c e w)
+
+-- parts that end at b and e lie below out, and from out on there is room for the second, which begins at c
+pub record Apart (b c e out : ℕ) (w : List ℕ) : Type 0 where
+  pub left : b ≤ out
+  pub right : e ≤ out
+  pub room : out + (e - c) ≤ length w
+
+-- w became w′: from out up to r stands what the part from a up to b shares with that from c up to e
+pub record Intersected (a b c e out : ℕ) (w w′ : List ℕ) (r : ℕ) : Type 0 where
+  pub changed : Changed out (out + (e - c)) w w′
+  pub low : out ≤ r
+  pub high : r ≤ out + (e - c)
+  pub is : slice out r w′ ≡ keep (λ s. memb s (slice c e w)) (slice a b w)

@@ -1,0 +1,38 @@
+// Tables of flags, one for each number below their length, and the words of a part of a list that are kept by one.
+ghost use mathlib.Core.Bool.{false};
+ghost use lib.ListN.{length};
+ghost use Rattle.lists.specs.Lists.{memb, slice};
+ghost use Rattle.word_lists.specs.Flags.{Below, Flagged, isFlagged, Behind, Kept};
+
+// Flags the words of a part. No number is flagged before.
+pub fn flag_words(work: &[u32], a: usize, b: usize, flags: &mut [u8])
+    requires { ⌜ Below (length (now flags)) a b (now work) ⌝ }
+    requires { ⌜ Flagged (λ s. false) (now flags) ⌝ }
+    ensures { λ _. ⌜ Flagged (λ s. memb s (slice a b (now (work .entry)))) (now (flags .exit)) ⌝ }
+{
+    let mut i = a;
+    while i < b {
+        let s = work[i] as usize;
+        flags[s] = 1;
+        i += 1;
+    }
+}
+
+// Writes from out on the flagged words of a part, and returns where they end. Every word is stored, and the place moves on only
+// past those that are flagged: no branch depends on the words.
+pub fn keep_flagged(work: &mut [u32], c: usize, e: usize, out: usize, flags: &[u8]) -> usize
+    requires { ⌜ Below (length (now flags)) c e (now work) ⌝ }
+    requires { ⌜ Behind c e out (now work) ⌝ }
+    requires { ⌜ Flagged (isFlagged (now flags)) (now flags) ⌝ }
+    ensures { λ r. ⌜ Kept (isFlagged (now (flags .entry))) c e out (now (work .entry)) (now (work .exit)) r ⌝ }
+{
+    let mut j = c;
+    let mut n = out;
+    while j < e {
+        let x = work[j];
+        work[n] = x;
+        n += flags[x as usize] as usize;
+        j += 1;
+    }
+    n
+}

@@ -1,0 +1,19 @@
+// Words of a list as numbers, and tests as numbers.
+ghost use Prim.Native.Nat.{_<_};
+ghost use lib.ListN.{length};
+ghost use Rattle.word_lists.specs.Words.{Word, Flag};
+
+// The word at a place.
+pub fn word_at(work: &[u32], i: usize) -> usize
+    requires { ⌜ i < length (now work) ⌝ }
+    ensures { λ r. ⌜ Word (now (work .entry)) i r ⌝ }
+{
+    work[i] as usize
+}
+
+// 1 for true, 0 for false.
+pub fn number(b: bool) -> usize
+    ensures { λ r. ⌜ Flag b r ⌝ }
+{
+    if b { 1 } else { 0 }
+}
