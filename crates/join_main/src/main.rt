@@ -5,14 +5,14 @@
 // - T, limit, budget, rule (0 Merge, 1 Check, 2 Weighed), four codes of weights, words of the work list, places of the pair list;
 // - where the left and the right ends stop, in one list, and where left items, right items and ranks stop, in another;
 // - the two lists.
-use libc::STDIN_FILENO;
-use libc::STDOUT_FILENO;
 use join_spec::Counts;
 use join_spec::JoinAnswer;
-use sets::Refusal;
 use join_spec::Rule;
-use sets::Side;
 use join_spec::Weights;
+use libc::STDIN_FILENO;
+use libc::STDOUT_FILENO;
+use sets::Refusal;
+use sets::Side;
 ghost use Prim.Native.Nat.{_≤_};
 ghost use lib.ListN.{length};
 

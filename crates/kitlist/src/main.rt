@@ -1,13 +1,13 @@
 // The program kitlist (document 01): reads a tag file from standard input and lists every kit that a stack contains, kit number
 // and stack number a line, after a line with the six counts; or says why there is no list. Kits are left sets, stacks right sets.
+use item_order::OrderAnswer;
 use join_spec::Counts;
 use join_spec::JoinAnswer;
+use join_spec::Rule;
+use sets::Refusal;
+use sets::Side;
 use tag_file::LoadAnswer;
 use tag_file::Loaded;
-use item_order::OrderAnswer;
-use sets::Refusal;
-use join_spec::Rule;
-use sets::Side;
 ghost use mathlib.Core.Path.{_≡_};
 ghost use mathlib.Core.Bool.{true};
 ghost use Prim.Native.Nat.{_<_};

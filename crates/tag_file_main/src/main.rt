@@ -1,9 +1,9 @@
 // Named vectors through the loader of tag files: each has a line with its name and the answer, then a line with the seven lists, which
 // hold EE, 77 and 99 before the call. `stdout` has what document 01 says.
-use tag_file::LoadAnswer;
-use tag_file::Loaded;
 use sets::Refusal;
 use sets::Side;
+use tag_file::LoadAnswer;
+use tag_file::Loaded;
 
 const STDOUT: i32 = 1;
 

@@ -3,10 +3,10 @@
 use lists::zero_u8;
 use lists::zero_u16;
 use lists::zero_u32;
-use tag_file::LoadAnswer;
-use tag_file::Loaded;
 use sets::Refusal;
 use sets::Side;
+use tag_file::LoadAnswer;
+use tag_file::Loaded;
 use tag_fill::fill_side;
 use tag_fill::fill_tags;
 use tag_index::rank_ids;

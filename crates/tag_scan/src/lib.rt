@@ -1,10 +1,10 @@
 // The loader's first pass over a tag file: the first record at fault, or the counts of the file and the index of its tags.
 use bit_sets::contains;
 use bit_sets::insert;
-use tag_file::LoadAnswer;
-use tag_file::Loaded;
 use sets::Refusal;
 use sets::Side;
+use tag_file::LoadAnswer;
+use tag_file::Loaded;
 use tag_file::ReadAnswer;
 use tag_file::read_record;
 use tag_index::Added;
