@@ -16,7 +16,7 @@ use Rattle.sets.proofs.Good.{good-places, good-entries}
 use Rattle.sets.specs.declared.Side.{Side}
 use Rattle.sets.specs.declared.Side.the-variants.{Left, Right}
 use Rattle.sets.specs.declared.Refusal.{Refusal}
-use Rattle.sets.specs.declared.Refusal.the-variants.{BadSet, ShortWork}
+use Rattle.sets.specs.declared.Refusal.the-variants.{BadSet, ShortWork, Spent}
 use Rattle.sets.specs.declared.Verdict.{Verdict}
 use Rattle.sets.specs.declared.Verdict.the-variants.{Good, Bad}
 use Rattle.sets.specs.declared.Tested.{Tested}
@@ -82,6 +82,25 @@ sized i few good =
       leftEntries = good-entries (i .T) (i .left .ends) (i .left .items) (good .left) .few;
       rightEntries = good-entries (i .T) (i .right .ends) (i .right .items) (good .right) .few;
     }
+
+-- the tests of the sets and of the work list refuse with 5 and 7 alone
+pub sets-not : (i : Input) → setsTest i ≡ Failed Spent → ⊥
+unfolding setsTest
+sets-not i =
+    go (firstBad (i .T) (i .left .ends) (i .left .items)) (firstBad (i .T) (i .right .ends) (i .right .items))
+  where
+    go : (l r : Verdict) → unless Failed (noBadSet Left l) (noBadSet Right r) ≡ Failed Spent → ⊥
+    go Good Good e = let z : _≡_ {A = ℕ} 0 1 = cc in omega arith
+    go Good (Bad place) e = let z : _≡_ {A = ℕ} 0 1 = cc in omega arith
+    go (Bad place) r e = let z : _≡_ {A = ℕ} 0 1 = cc in omega arith
+
+pub work-not : (i : Input) (words : ℕ) → workTest i words ≡ Failed Spent → ⊥
+unfolding workTest
+work-not i words = go (ltb words (wordsNeeded i))
+  where
+    go : (short : Bool) → refuseIf short ShortWork ≡ Failed Spent → ⊥
+    go true e = let z : _≡_ {A = ℕ} 0 1 = cc in omega arith
+    go false e = let z : _≡_ {A = ℕ} 0 1 = cc in omega arith
 
 -- a lone set is judged as the part of its list from the start to the end
 whole-part : (set : List ℕ) → between 0 (length set) set ≡ set

@@ -5,6 +5,7 @@ pub mod BorderCases
 pub mod Outcomes
 pub mod Demand
 pub mod PairListLaws
-pub mod Inputs
+pub mod GoodSettings
 pub mod Accepted
 pub mod AcceptedRuns
+pub mod Calls

@@ -1,5 +1,4 @@
--- The input of a join as two records, for the laws that speak of whole joins: the collections, and the settings with the lengths
--- of the lent lists. And what it means that settings are not refused (6).
+-- What it means that settings are not refused (6).
 use Prim.Native.Nat.{ℕ, _≤_}
 use mathlib.Core.Path.{_≡_}
 use mathlib.Core.List.{List}
@@ -8,43 +7,8 @@ use lib.Dec.{eqb, ltb}
 use borrow.Author.Tests.{ltb-false, le-ltb, eqb-false, ne-eqb, not-false}
 use Rattle.lists.proofs.Bools.{or-left-false, or-right-false}
 use Rattle.sets.specs.Limits.{maxItems, maxLimit}
-use Rattle.sets.specs.Collections.{setsOf}
 use Rattle.sets.specs.Ordered.{isPermutation}
-use Rattle.join_spec.specs.declared.Rule.{Rule}
-use Rattle.join_spec.specs.declared.JoinAnswer.{JoinAnswer}
-use Rattle.join_spec.specs.Query.{Query, query}
-use Rattle.join_spec.specs.Answer.{badSettings, joinAnswer}
-
--- the collections of a join; its settings, with the lengths of the work list and the pair list
-pub record Collections : Type 0 where
-  pub T : ℕ
-  pub leftEnds : List ℕ
-  pub leftItems : List ℕ
-  pub rightEnds : List ℕ
-  pub rightItems : List ℕ
-
-pub record Settings : Type 0 where
-  pub limit : ℕ
-  pub ranks : List ℕ
-  pub budget : ℕ
-  pub rule : Rule
-  pub words : ℕ
-  pub room : ℕ
-
-abbrev pub leftsOf : Collections → List (List ℕ)
-leftsOf c = setsOf (c .leftEnds) (c .leftItems)
-
-abbrev pub rightsOf : Collections → List (List ℕ)
-rightsOf c = setsOf (c .rightEnds) (c .rightItems)
-
-abbrev pub queryOf : Collections → Settings → Query
-queryOf c s =
-    query (c .T) (c .leftEnds) (c .leftItems) (c .rightEnds) (c .rightItems) (s .limit) (s .ranks) (s .rule)
-
-abbrev pub answerOf : Collections → Settings → JoinAnswer
-answerOf c s =
-    joinAnswer (c .T) (c .leftEnds) (c .leftItems) (c .rightEnds) (c .rightItems) (s .limit) (s .ranks) (s .budget) (s .rule)
-    (s .words) (s .room)
+use Rattle.join_spec.specs.Answer.{badSettings}
 
 -- settings that are not refused
 pub record GoodSettings (T limit : ℕ) (ranks : List ℕ) : Type 0 where
