@@ -6,7 +6,7 @@ ghost use Prim.Native.Nat.{_+_, _≤_};
 ghost use lib.ListN.{length};
 ghost use Rattle.sets.specs.Collections.{between, setsOf};
 ghost use Rattle.sets.specs.Marks.{signature};
-ghost use Rattle.signatures.specs.Signing.{Positions, ItemsRoom, Stored, SigningRoom, Signed, BothRoom, BothSigned};
+ghost use Rattle.signatures.specs.Signing.{Positions, ItemsRoom, DoubleStored, SigningRoom, Signed, BothRoom, BothSigned};
 
 // The bits of the items: (3^k mod 257) mod 64.
 fn fill_positions(table: &mut [u8])
@@ -38,7 +38,7 @@ fn sign_set(items: &[u16], table: &[u8], start: usize, end: usize) -> u64
 // A number of 64 bits in two words.
 fn store_double(work: &mut [u32], at: usize, number: u64)
     requires { ⌜ at + 2 ≤ length (now work) ⌝ }
-    ensures { λ _. ⌜ Stored at number (now (work .entry)) (now (work .exit)) ⌝ }
+    ensures { λ _. ⌜ DoubleStored at number (now (work .entry)) (now (work .exit)) ⌝ }
 {
     work[at] = (number % 4294967296) as u32;
     work[at + 1] = (number / 4294967296) as u32;
