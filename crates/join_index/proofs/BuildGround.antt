@@ -21,7 +21,7 @@ use Rattle.join_spec.specs.Node.{seen}
 use Rattle.counting_sort.specs.Groups.{grouped}
 use Rattle.counting_sort.specs.Holding.{RegionHolds}
 use Rattle.counting_sort.specs.Sorting.{sortedAt}
-use Rattle.index_keys.specs.Entries.{setAt, keyIn}
+use Rattle.index_keys.specs.SetKeys.{setAt, keyIn}
 use Rattle.side_index.proofs.SideReads.{side-inverted, side-bound}
 use Rattle.join_index.specs.Grouping.{leftAt, rightAt, keyAt, orderFrom, orderOf}
 use Rattle.join_index.specs.Ground.{Ground, Listing, seenCount}

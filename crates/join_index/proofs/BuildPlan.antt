@@ -13,7 +13,7 @@ use Rattle.sets.proofs.Permutation.{permutation-length}
 use Rattle.counting_sort.specs.Holding.{RegionHolds}
 use Rattle.counting_sort.specs.Sorting.{sortedAt}
 use Rattle.signatures.specs.Signing.{BothRoom, BothSigned}
-use Rattle.index_keys.specs.Entries.{startOf}
+use Rattle.index_keys.specs.SetKeys.{startOf}
 use Rattle.side_index.specs.Side.{SideRoom, SideBuilt, startsAt, ranksAt, sideEnd}
 use Rattle.side_index.proofs.SideReads.{side-set}
 use Rattle.join_index.specs.Stages.{StageRoom, LeastBuilt, OrderBuilt, orderedBy, heldKey}

@@ -1,5 +1,5 @@
--- Inner: the build as a whole. Where the regions lie, each beginning where the one before it ends, and what an accepted input gives
--- the build.
+-- Inner: the build as a whole. Where the regions lie, each beginning where the one before it ends, and what an accepted input
+-- gives the build.
 use Prim.Native.Nat.{ℕ, _+_, _*_, _≤_}
 use mathlib.Core.Path.{_≡_}
 use mathlib.Core.List.{List}

@@ -1,5 +1,5 @@
--- What the regions of the work list hold while the walk goes on: the facts that every step of the walk may use. All of it lies
--- below the candidate slots, which alone change.
+-- Inner: what the regions of the work list hold while the walk goes on, the facts that every step of the walk may use. All of it
+-- lies below the candidate slots, which alone change.
 use Prim.Native.Nat.{ℕ, suc, _+_, _*_, _≤_, _<_}
 use mathlib.Core.Path.{_≡_}
 use mathlib.Core.List.{List, []}
@@ -14,7 +14,7 @@ use Rattle.join_spec.specs.Node.{seen}
 use Rattle.join_index.specs.Grouping.{leftAt, rightAt, orderOf}
 use Rattle.counting_sort.specs.Holding.{RegionHolds}
 use Rattle.signatures.specs.Signing.{double}
-use Rattle.index_keys.specs.Entries.{startOf}
+use Rattle.index_keys.specs.SetKeys.{startOf}
 use Rattle.join_index.specs.declared.Layout.{Layout}
 
 -- the list holds, in some order and each once, the places below n that pass the test

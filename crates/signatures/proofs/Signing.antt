@@ -73,12 +73,12 @@ module _ (start end : ℕ) (items table : List ℕ) (room : ItemsRoom start end 
   bit-below = omega (arith, bit-is, position-bound (getD items i 0))
 
   pub sign-step : (mark : ℕ)
-      → signatureFrom (bitOr mark (1 * 2 ^ getD table (getD items i 0) 0 % 18446744073709551616)) (between (i + 1) end items)
+      → signatureFrom (bitOr mark (1 * 2 ^ getD table (getD items i 0) 0 % 2 ^ 64)) (between (i + 1) end items)
       ≡ signatureFrom mark (between i end items)
   unfolding signatureFrom
   sign-step mark =
       let bit = position (getD items i 0) in
-      let exact : 1 * 2 ^ bit % 18446744073709551616 ≡ 2 ^ bit =
+      let exact : 1 * 2 ^ bit % 2 ^ 64 ≡ 2 ^ bit =
       shl-exact 1 bit 64 (lit< tt) (omega (arith, position-bound (getD items i 0))) ∙ one-mul (2 ^ bit)
       in
       rw (bit-is, exact, between-cons i end items below (room .within))
@@ -89,10 +89,10 @@ sign-end end i mark items past = rw (between-nil i end items past)
 
 -- a number in two words
 pub stored-words : (w : List ℕ) (at number : ℕ) → at + 2 ≤ length w
-    → DoubleStored at number w (set (set w at (number % 4294967296)) (at + 1) (number / 4294967296))
+    → DoubleStored at number w (set (set w at (number % 2 ^ 32)) (at + 1) (number / 2 ^ 32))
 stored-words w at number room =
-    let low = number % 4294967296 in
-    let high = number / 4294967296 in
+    let low = number % 2 ^ 32 in
+    let high = number / 2 ^ 32 in
     let first : getD (set (set w at low) (at + 1) high) at 0 ≡ low =
     getD-set-other (set w at low) (at + 1) at high 0 (λ e. omega arith) ∙ getD-set-same w at low 0 (omega arith)
     in

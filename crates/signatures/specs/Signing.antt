@@ -1,4 +1,5 @@
--- What the loops that make the signatures need and leave: a table of the items' bits, and for each set two words, low then high.
+-- Inner: what the loops that make the signatures need and leave. A table of the items' bits, and for each set two words, low then
+-- high.
 use Prim.Native.Nat.{ℕ, _+_, _*_, _^_, _≤_, _<_}
 use mathlib.Core.Path.{_≡_}
 use mathlib.Core.List.{List, []}
