@@ -88,9 +88,14 @@ module _ (lay : Layout) (q : Query) (w : List ℕ) (p : Probe) (s sign : ℕ)
     pub outcome-dropped : (bitAnd (p .signature) sign ≡ p .signature → ⊥) → probeOutcome q w p s ≡ dropped
     outcome-dropped other = rw (missing false (ne-eqb (bitAnd (p .signature) sign) (p .signature) other))
 
-    pub outcome-checked : bitAnd (p .signature) sign ≡ p .signature
-        → probeOutcome q w p s ≡ cond (subset (slice (p .from) (p .to) w) (rightAt q s)) confirmed falseDrop
-    outcome-checked same = rw (missing true (eq-eqb (bitAnd (p .signature) sign) (p .signature) same))
+    pub outcome-checked : (start next : ℕ) → Word w (lay .«right_starts» + s) start → Word w (lay .«right_starts» + s + 1) next
+        → bitAnd (p .signature) sign ≡ p .signature → (b : Bool)
+        → b ≡ subset (slice (p .from) (p .to) w) (slice (lay .«right_ranks» + start) (lay .«right_ranks» + next) w)
+        → cond b confirmed falseDrop ≡ probeOutcome q w p s
+    outcome-checked start next first second same b test =
+        let part = right-part lay q w s start next first second there in
+        rw (missing true (eq-eqb (bitAnd (p .signature) sign) (p .signature) same), ← part)
+        (ap (λ (x : Bool). cond x confirmed falseDrop) test)
 
 -- a check raises one counter
 module _ (t : Tally) (o : Outcome) where

@@ -12,6 +12,8 @@ use Rattle.join_index.specs.Grouping.{leftAt, rightAt}
 use Rattle.join_index.specs.declared.Layout.{Layout}
 use Rattle.join_check.specs.declared.Tally.{Tally}
 use Rattle.join_check.specs.declared.checks.Probe.{Probe}
+use Rattle.join_check.specs.declared.checks.Checked.{Checked}
+use Rattle.join_check.specs.declared.checks.Checked.the-variants.{Dropped, FalseDrop, Confirmed}
 use Rattle.join_check.specs.Asking.{LeftThere, RightThere}
 use Rattle.join_check.specs.Checks.{checksIn, Tallied}
 
@@ -30,6 +32,12 @@ abbrev pub probeOutcome : Query → List ℕ → Probe → ℕ → Outcome
 probeOutcome q w p s =
     cond (drops (p .signature) (signature (getD (q .rights) s []))) dropped
     (cond (subset (slice (p .from) (p .to) w) (rightAt q s)) confirmed falseDrop)
+
+-- the outcome that the end of a check stands for
+abbrev pub outcomeOf : Checked → Outcome
+outcomeOf Dropped = dropped
+outcomeOf FalseDrop = falseDrop
+outcomeOf Confirmed = confirmed
 
 -- one check was made
 pub record OneChecked (lay : Layout) (w : List ℕ) (p : Probe) (s : ℕ) (t r : Tally) : Type 0 where
