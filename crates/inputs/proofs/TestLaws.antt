@@ -23,7 +23,7 @@ use Rattle.sets.specs.declared.Tested.{Tested}
 use Rattle.sets.specs.declared.Tested.the-variants.{Passed, Failed}
 use Rattle.inputs.specs.Input.{Input}
 use Rattle.inputs.specs.Inner.{Sized}
-use Rattle.inputs.specs.Tests.{sideTest, setsTest, loneTest, workTest, wordsNeeded}
+use Rattle.inputs.specs.Tests.{sideTest, setsTest, loneTest, workTest, wordsFor, wordsNeeded}
 
 -- tests in a row pass exactly where each does
 pub both-passed : (a b : Tested) → unless Failed a b ≡ Passed → (a ≡ Passed) × (b ≡ Passed)
@@ -118,6 +118,10 @@ lone-failed T place set e =
     sym (ap (λ (b : Bool). refuseIf (not b) (BadSet Right place)) (ap (goodItems T) (sym (whole-part set)) ∙ sym e))
 
 -- the work list
+pub words-for : (i : Input) → wordsNeeded i ≡ wordsFor (i .T) (i .left .ends) (i .right .ends)
+unfolding wordsNeeded
+words-for i = refl
+
 pub work-short : (i : Input) (words : ℕ) → words < wordsNeeded i → Failed ShortWork ≡ workTest i words
 unfolding workTest
 work-short i words short = sym (ap (λ (b : Bool). refuseIf b ShortWork) (lt-ltb words (wordsNeeded i) short))

@@ -32,13 +32,15 @@ unfoldable pub loneTest : ℕ → ℕ → List ℕ → Tested
 loneTest T place set = refuseIf (not (goodItems T set)) (BadSet Right place)
 
 -- the size of an input (n in document 01): sets, entries and items
-abbrev pub inputSize : Input → ℕ
-inputSize i =
-    length (i .left .ends) + length (i .right .ends) + (entries (i .left .ends) + entries (i .right .ends)) + i .T
+abbrev pub inputSize : ℕ → List ℕ → List ℕ → ℕ
+inputSize T leftEnds rightEnds = length leftEnds + length rightEnds + (entries leftEnds + entries rightEnds) + T
 
 -- the words that a work list must have
+abbrev pub wordsFor : ℕ → List ℕ → List ℕ → ℕ
+wordsFor T leftEnds rightEnds = 16 * inputSize T leftEnds rightEnds + 64
+
 unfoldable pub wordsNeeded : Input → ℕ
-wordsNeeded i = 16 * inputSize i + 64
+wordsNeeded i = wordsFor (i .T) (i .left .ends) (i .right .ends)
 
 -- the work list is long enough: 7
 unfoldable pub workTest : Input → ℕ → Tested

@@ -15,7 +15,8 @@ use Rattle.lists.proofs.Slices.{frame-at, frame-less, frame-slice}
 use Rattle.sets.specs.Collections.{setsOf}
 use Rattle.sets.specs.Ordered.{ordered}
 use Rattle.join_spec.specs.declared.Rule.{Rule}
-use Rattle.sets.proofs.Ordered.{below, items-below, subset-ordered}
+use Rattle.sets.proofs.Ordered.{below, items-below}
+use Rattle.sets.proofs.Containment.{contained-ranks}
 use Rattle.join_spec.specs.Query.{Query, query}
 use Rattle.join_spec.specs.Node.{seen}
 use Rattle.counting_sort.specs.Groups.{grouped}
@@ -185,7 +186,7 @@ module _ {leftEnds leftItems rightEnds rightItems ranks w a b c d f : List ℕ} 
         faithful =
             λ k s hk hs.
             sym
-            (subset-ordered T ranks (plan .room .permutation) (getD lefts k []) (getD rights s []) (left-items k hk)
+            (contained-ranks T ranks (plan .room .permutation) (getD lefts k []) (getD rights s []) (left-items k hk)
             (right-items s hs));
         leftFew = omega (arith, plan-sizes plan .leftSets, left-long plan);
         rightFew = omega (arith, plan-sizes plan .rightSets, right-long plan);

@@ -9,7 +9,7 @@ use Rattle.sets.specs.Limits.{maxItems, maxSets, maxEntries}
 use Rattle.sets.specs.Collections.{firstBad}
 use Rattle.sets.specs.Ordered.{isPermutation}
 use Rattle.sets.specs.declared.Verdict.the-variants.{Good}
-use Rattle.join_spec.specs.Answer.{workNeeded}
+use Rattle.inputs.specs.Tests.{wordsFor}
 use Rattle.counting_sort.specs.Sorting.{sortedAt}
 use Rattle.side_index.specs.Side.{startsAt, ranksAt, sideEnd}
 use Rattle.join_index.specs.declared.Layout.{Layout}
@@ -51,4 +51,4 @@ pub record BuildRoom (T : ℕ) (leftEnds leftItems rightEnds rightItems ranks w 
   pub permutation : isPermutation T ranks ≡ true
   pub leftGood : firstBad T leftEnds leftItems ≡ Good
   pub rightGood : firstBad T rightEnds rightItems ≡ Good
-  pub room : workNeeded T leftEnds rightEnds ≤ length w
+  pub room : wordsFor T leftEnds rightEnds ≤ length w

@@ -53,7 +53,7 @@ all-none k s rights past = let none : rights - s ≡ 0 = omega arith in rw none
 
 -- a row of the pair list, as the right places that are kept
 row-from : (k : ℕ) (left : List ℕ) (rights : List (List ℕ)) (r n : ℕ) → r + n ≡ length rights
-    → rowFrom k r left (drop r rights) ≡ pairsWith k (keep (λ (s : ℕ). contained left (getD rights s [])) (range r n))
+    → rowFrom (contained left) k r (drop r rights) ≡ pairsWith k (keep (λ (s : ℕ). contained left (getD rights s [])) (range r n))
 unfolding rowFrom pairsWith keep range
 row-from k left rights r zero e = rw (drop-of-length-le rights {i = r} (omega arith))
 row-from k left rights r (suc n) e =
@@ -61,9 +61,9 @@ row-from k left rights r (suc n) e =
     (made (contained left (getD rights r [])) (row-from k left rights (suc r) n (omega arith)))
   where
     made : (b : Bool)
-        → rowFrom k (suc r) left (drop (suc r) rights)
+        → rowFrom (contained left) k (suc r) (drop (suc r) rights)
         ≡ pairsWith k (keep (λ (s : ℕ). contained left (getD rights s [])) (range (suc r) n))
-        → ontoPair b k r (rowFrom k (suc r) left (drop (suc r) rights))
+        → ontoPair b k r (rowFrom (contained left) k (suc r) (drop (suc r) rights))
         ≡ pairsWith k (onto b r (keep (λ (s : ℕ). contained left (getD rights s [])) (range (suc r) n)))
     made true later = ap (λ (l : List ℕ). k ∷ r ∷ l) later
     made false later = later
@@ -73,14 +73,14 @@ row-whole q k = row-from k (getD (q .lefts) k []) (q .rights) 0 (length (q .righ
 
 -- the pairs of the left sets from place k on
 pub pairs-next : (q : Query) (k : ℕ) → k < length (q .lefts)
-    → pairsFrom k (drop k (q .lefts)) (q .rights) ≡ rowAt q k ++ pairsFrom (k + 1) (drop (k + 1) (q .lefts)) (q .rights)
+    → pairsFrom contained k (drop k (q .lefts)) (q .rights) ≡ rowAt q k ++ pairsFrom contained (k + 1) (drop (k + 1) (q .lefts)) (q .rights)
 unfolding pairsFrom
 pairs-next q k below =
     let next : suc k ≡ k + 1 = omega arith in
     rw (drop-cons (q .lefts) k [] below)
-    (ap (λ (n : ℕ). rowAt q k ++ pairsFrom n (drop n (q .lefts)) (q .rights)) next)
+    (ap (λ (n : ℕ). rowAt q k ++ pairsFrom contained n (drop n (q .lefts)) (q .rights)) next)
 
-pub pairs-none : (q : Query) (k : ℕ) → length (q .lefts) ≤ k → pairsFrom k (drop k (q .lefts)) (q .rights) ≡ []
+pub pairs-none : (q : Query) (k : ℕ) → length (q .lefts) ≤ k → pairsFrom contained k (drop k (q .lefts)) (q .rights) ≡ []
 unfolding pairsFrom
 pairs-none q k past = rw (drop-of-length-le (q .lefts) {i = k} past)
 

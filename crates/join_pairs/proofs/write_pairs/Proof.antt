@@ -7,6 +7,7 @@ use native.Mathlib.Omega.{arith}
 use lib.ListN.{length, take, drop}
 use Rattle.lists.proofs.Writing.{Writing, writing-start, writing-step, writing-end, writing-room, written-whole}
 use Rattle.join_spec.specs.Query.{Query}
+use Rattle.sets.specs.Collections.{contained}
 use Rattle.join_spec.specs.PairList.{pairsFrom, pairList}
 use Rattle.join_spec.proofs.PairListLaws.{length-pairList}
 use Rattle.join_index.specs.declared.Layout.{Layout}
@@ -22,7 +23,7 @@ record PairsLeft (lay : Layout) (w : List ℕ) (lefts rights : ℕ) (was v pairs
   size : length v ≡ length w
   written :
       (q : Query) → PairsRoom lay q w lefts rights was
-      → Writing was 0 (pairList (q .lefts) (q .rights)) pairs n (pairsFrom k (drop k (q .lefts)) (q .rights))
+      → Writing was 0 (pairList (q .lefts) (q .rights)) pairs n (pairsFrom contained k (drop k (q .lefts)) (q .rights))
 
 list-room : {lay : Layout} {q : Query} {w : List ℕ} {lefts rights : ℕ} {was : List ℕ} → PairsRoom lay q w lefts rights was
     → length (pairList (q .lefts) (q .rights)) ≤ length was
@@ -41,7 +42,7 @@ module _ {lay : Layout} {w : List ℕ} {lefts rights : ℕ} {was v pairs : List 
               };
           rightCount = there .rightCount;
           room =
-              writing-room (left .written q there) (rowAt q k) (pairsFrom (k + 1) (drop (k + 1) (q .lefts)) (q .rights))
+              writing-room (left .written q there) (rowAt q k) (pairsFrom contained (k + 1) (drop (k + 1) (q .lefts)) (q .rights))
               (pairs-next q k (omega (arith, there .leftCount)));
         }
 
