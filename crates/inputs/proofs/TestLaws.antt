@@ -11,12 +11,12 @@ use lib.ListN.{length}
 use lib.Seq.{take-length}
 use Rattle.sets.specs.Limits.{maxItems}
 use Rattle.sets.specs.Collections.{Collection, between, goodItems, firstBad}
-use Rattle.sets.specs.Refusals.{refuseIf, noBadSet, unless}
+use Rattle.sets.specs.Refusals.{refuseIf, noBadSet, unless, clears}
 use Rattle.sets.proofs.Good.{good-places, good-entries}
 use Rattle.sets.specs.declared.Side.{Side}
 use Rattle.sets.specs.declared.Side.the-variants.{Left, Right}
 use Rattle.sets.specs.declared.Refusal.{Refusal}
-use Rattle.sets.specs.declared.Refusal.the-variants.{BadSet, ShortWork, Spent}
+use Rattle.sets.specs.declared.Refusal.the-variants.{BadSet, ShortWork}
 use Rattle.sets.specs.declared.Verdict.{Verdict}
 use Rattle.sets.specs.declared.Verdict.the-variants.{Good, Bad}
 use Rattle.sets.specs.declared.Tested.{Tested}
@@ -83,24 +83,27 @@ sized i few good =
       rightEntries = good-entries (i .T) (i .right .ends) (i .right .items) (good .right) .few;
     }
 
--- the tests of the sets and of the work list refuse with 5 and 7 alone
-pub sets-not : (i : Input) → setsTest i ≡ Failed Spent → ⊥
+-- the tests of the sets and of the work list refuse with 5 and 7 alone, which leave every list as it was
+pub failed-same : (a b : Refusal) → Failed a ≡ Failed b → a ≡ b
+failed-same a b e = cc
+
+pub sets-keep : (i : Input) (why : Refusal) → setsTest i ≡ Failed why → clears why ≡ false
 unfolding setsTest
-sets-not i =
+sets-keep i why =
     go (firstBad (i .T) (i .left .ends) (i .left .items)) (firstBad (i .T) (i .right .ends) (i .right .items))
   where
-    go : (l r : Verdict) → unless Failed (noBadSet Left l) (noBadSet Right r) ≡ Failed Spent → ⊥
-    go Good Good e = let z : _≡_ {A = ℕ} 0 1 = cc in omega arith
-    go Good (Bad place) e = let z : _≡_ {A = ℕ} 0 1 = cc in omega arith
-    go (Bad place) r e = let z : _≡_ {A = ℕ} 0 1 = cc in omega arith
+    go : (l r : Verdict) → unless Failed (noBadSet Left l) (noBadSet Right r) ≡ Failed why → clears why ≡ false
+    go Good Good e = let z : _≡_ {A = ℕ} 0 1 = cc in absurd (omega arith)
+    go Good (Bad place) e = ap clears (sym (failed-same (BadSet Right place) why e))
+    go (Bad place) r e = ap clears (sym (failed-same (BadSet Left place) why e))
 
-pub work-not : (i : Input) (words : ℕ) → workTest i words ≡ Failed Spent → ⊥
+pub work-keep : (i : Input) (words : ℕ) (why : Refusal) → workTest i words ≡ Failed why → clears why ≡ false
 unfolding workTest
-work-not i words = go (ltb words (wordsNeeded i))
+work-keep i words why = go (ltb words (wordsNeeded i))
   where
-    go : (short : Bool) → refuseIf short ShortWork ≡ Failed Spent → ⊥
-    go true e = let z : _≡_ {A = ℕ} 0 1 = cc in omega arith
-    go false e = let z : _≡_ {A = ℕ} 0 1 = cc in omega arith
+    go : (short : Bool) → refuseIf short ShortWork ≡ Failed why → clears why ≡ false
+    go true e = ap clears (sym (failed-same ShortWork why e))
+    go false e = let z : _≡_ {A = ℕ} 0 1 = cc in absurd (omega arith)
 
 -- a lone set is judged as the part of its list from the start to the end
 whole-part : (set : List ℕ) → between 0 (length set) set ≡ set

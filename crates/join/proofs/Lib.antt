@@ -1,4 +1,3 @@
--- Laws of the tests before the walk, and of the answer after it.
-pub mod EarlyLaws
+-- Laws of the answer after the walk, and of a call as a whole.
 pub mod AnswerLaws
-pub mod Calls
+pub mod CallLaws

@@ -1,2 +1,2 @@
--- Contents: the tests of a join before its walk, and what an input that passed them has.
-pub mod Early
+-- Contents: what an input has that passed the tests before the walk.
+pub mod Ready

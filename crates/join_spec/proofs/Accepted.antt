@@ -2,11 +2,13 @@
 -- budget: the walk is refused as spent exactly where the sum of checks is above it.
 use Prim.Native.Nat.{ℕ, _*_, _<_, _≤_}
 use mathlib.Core.Path.{_≡_, refl, sym, ap, _∙_}
+use mathlib.Core.List.{List}
 use mathlib.Core.Bool.{Bool, true, false, cond}
 use native.Mathlib.Omega.{arith}
 use lib.Dec.{ltb}
 use borrow.Author.Tests.{ltb-true, ltb-false, lt-ltb, le-ltb}
-use Rattle.sets.specs.Refusals.{refuseIf, unless}
+use Rattle.lists.proofs.Bools.{true-false}
+use Rattle.sets.specs.Refusals.{refuseIf, unless, clears}
 use Rattle.sets.specs.declared.Refusal.{Refusal}
 use Rattle.sets.specs.declared.Refusal.the-variants.{BadSettings, Spent, ShortPairs}
 use Rattle.sets.specs.declared.Tested.{Tested}
@@ -14,7 +16,7 @@ use Rattle.sets.specs.declared.Tested.the-variants.{Passed, Failed}
 use Rattle.inputs.specs.Input.{Input, leftSets, rightSets}
 use Rattle.inputs.specs.Tests.{setsTest, wordsNeeded, workTest}
 use Rattle.inputs.proofs.TestLaws.{BothGood, both-passed, refuse-passed, sets-good, good-sets, work-enough, enough-work}
-use Rattle.inputs.proofs.TestLaws.{sets-not, work-not}
+use Rattle.inputs.proofs.TestLaws.{sets-keep, work-keep, failed-same}
 use Rattle.join_spec.specs.declared.Counts.{Counts}
 use Rattle.join_spec.specs.declared.JoinAnswer.{JoinAnswer}
 use Rattle.join_spec.specs.declared.JoinAnswer.the-variants.{Joined, Refused}
@@ -25,26 +27,42 @@ use Rattle.join_spec.specs.Answer.{Room, badSettings, joinTests, walkAns
 use Rattle.join_spec.proofs.GoodSettings.{GoodSettings, good-settings, settings-good}
 
 -- what holds where the tests before the walk are passed
-pub record Tests (i : Input) (s : Settings) (words : ℕ) : Type 0 where
-  pub settings : GoodSettings (i .T) (s .limit) (s .ranks)
+pub record Tests (i : Input) (limit : ℕ) (ranks : List ℕ) (words : ℕ) : Type 0 where
+  pub settings : GoodSettings (i .T) limit ranks
   pub good : BothGood i
   pub work : wordsNeeded i ≤ words
 
-pub tests-passed : (i : Input) (s : Settings) (words : ℕ) → joinTests i s words ≡ Passed → Tests i s words
+pub tests-passed : (i : Input) (limit : ℕ) (ranks : List ℕ) (words : ℕ) → joinTests i limit ranks words ≡ Passed
+    → Tests i limit ranks words
 unfolding joinTests
-tests-passed i s words e =
-    let six = both-passed (refuseIf (badSettings (i .T) (s .limit) (s .ranks)) BadSettings) _ e in
+tests-passed i limit ranks words e =
+    let six = both-passed (refuseIf (badSettings (i .T) limit ranks) BadSettings) _ e in
     let five = both-passed (setsTest i) (workTest i words) (six .1) in
     record {
-      settings = good-settings (i .T) (s .limit) (s .ranks) (refuse-passed (badSettings (i .T) (s .limit) (s .ranks)) _ (six .0));
+      settings = good-settings (i .T) limit ranks (refuse-passed (badSettings (i .T) limit ranks) _ (six .0));
       good = sets-good i (five .0);
       work = work-enough i words (five .1);
     }
 
-pub passed-tests : (i : Input) (s : Settings) (words : ℕ) → Tests i s words → joinTests i s words ≡ Passed
+pub passed-tests : (i : Input) (limit : ℕ) (ranks : List ℕ) (words : ℕ) → Tests i limit ranks words
+    → joinTests i limit ranks words ≡ Passed
 unfolding joinTests
-passed-tests i s words t =
-    rw (settings-good (i .T) (s .limit) (s .ranks) (t .settings), good-sets i (t .good), enough-work i words (t .work))
+passed-tests i limit ranks words t =
+    rw (settings-good (i .T) limit ranks (t .settings), good-sets i (t .good), enough-work i words (t .work))
+
+-- what the tests before the walk refuse leaves every list as it was
+pub early-keeps : (i : Input) (limit : ℕ) (ranks : List ℕ) (words : ℕ) {why : Refusal} → joinTests i limit ranks words ≡ Failed why
+    → clears why ≡ false
+unfolding joinTests
+early-keeps i limit ranks words {why} e =
+    go (badSettings (i .T) limit ranks) (setsTest i) (workTest i words) (sets-keep i) (work-keep i words) e
+  where
+    go : (bad : Bool) (sets work : Tested) → ((w : Refusal) → sets ≡ Failed w → clears w ≡ false)
+        → ((w : Refusal) → work ≡ Failed w → clears w ≡ false)
+        → unless Failed (refuseIf bad BadSettings) (unless Failed sets work) ≡ Failed why → clears why ≡ false
+    go true sets work keeps kept h = ap clears (sym (failed-same BadSettings why h))
+    go false Passed work keeps kept h = kept why h
+    go false (Failed w) work keeps kept h = keeps why h
 
 -- an answer that is no refusal passed its tests
 unrefused : (t : Tested) (answer : JoinAnswer) (counts : Counts) → unless Refused t answer ≡ Joined counts
@@ -59,17 +77,6 @@ passed false why answer counts e = (refl, e)
 
 joined-counts : (a b : Counts) → Joined a ≡ Joined b → b ≡ a
 joined-counts a b e = cc
-
--- no test before the walk refuses as spent
-not-early : (i : Input) (s : Settings) (words : ℕ) → joinTests i s words ≡ Failed Spent → ⊥
-unfolding joinTests
-not-early i s words e = go (badSettings (i .T) (s .limit) (s .ranks)) (setsTest i) (workTest i words) (sets-not i) (work-not i words) e
-  where
-    go : (bad : Bool) (sets work : Tested) → (sets ≡ Failed Spent → ⊥) → (work ≡ Failed Spent → ⊥)
-        → unless Failed (refuseIf bad BadSettings) (unless Failed sets work) ≡ Failed Spent → ⊥
-    go true sets work nosets nowork h = let z : _≡_ {A = ℕ} 0 1 = cc in omega arith
-    go false Passed work nosets nowork h = nowork h
-    go false (Failed why) work nosets nowork h = nosets h
 
 is-spent : (b c : Bool) (counts : Counts)
     → cond b (Refused Spent) (cond c (Refused ShortPairs) (Joined counts)) ≡ Refused Spent → b ≡ true
@@ -102,30 +109,30 @@ module _ (q : Query) (budget places : ℕ) where
 
 -- what holds where a join is accepted: no cause of the refusal table is there, and the counts are the definitions'
 pub record Accepted (i : Input) (s : Settings) (room : Room) (counts : Counts) : Type 0 where
-  pub tests : Tests i s (room .words)
+  pub tests : Tests i (s .limit) (s .ranks) (room .words)
   pub within : checksOf (queryOf i s) ≤ s .budget
   pub places : 2 * pairCount (leftSets i) (rightSets i) ≤ room .places
   pub counted : counts ≡ countsOf (queryOf i s)
 
 module _ (i : Input) (s : Settings) (room : Room) where
   -- the answer after tests that are passed
-  pub answer-tested : Tests i s (room .words) → joinAnswer i s room ≡ walkAnswer (queryOf i s) (s .budget) (room .places)
+  pub answer-tested : Tests i (s .limit) (s .ranks) (room .words) → joinAnswer i s room ≡ walkAnswer (queryOf i s) (s .budget) (room .places)
   unfolding joinAnswer
-  answer-tested t = rw (passed-tests i s (room .words) t)
+  answer-tested t = rw (passed-tests i (s .limit) (s .ranks) (room .words) t)
 
   -- and after one that fails
-  pub answer-refused : {why : Refusal} → joinTests i s (room .words) ≡ Failed why → joinAnswer i s room ≡ Refused why
+  pub answer-refused : {why : Refusal} → joinTests i (s .limit) (s .ranks) (room .words) ≡ Failed why → joinAnswer i s room ≡ Refused why
   unfolding joinAnswer
   answer-refused e = rw e
 
   pub accepted : (counts : Counts) → joinAnswer i s room ≡ Joined counts → Accepted i s room counts
   unfolding joinAnswer walkAnswer
   accepted counts e =
-      let early = unrefused (joinTests i s (room .words)) _ counts e in
+      let early = unrefused (joinTests i (s .limit) (s .ranks) (room .words)) _ counts e in
       let eight = passed (ltb (s .budget) (checksOf (queryOf i s))) Spent _ counts (early .1) in
       let nine = passed (ltb (room .places) (2 * pairCount (leftSets i) (rightSets i))) ShortPairs _ counts (eight .1) in
       record {
-        tests = tests-passed i s (room .words) (early .0);
+        tests = tests-passed i (s .limit) (s .ranks) (room .words) (early .0);
         within = ltb-false (s .budget) (checksOf (queryOf i s)) (eight .0);
         places = ltb-false (room .places) (2 * pairCount (leftSets i) (rightSets i)) (nine .0);
         counted = joined-counts (countsOf (queryOf i s)) counts (nine .1);
@@ -141,18 +148,18 @@ module _ (i : Input) (s : Settings) (room : Room) where
   -- 8 is returned only where the sum of checks is above the budget
   pub spent-only-above : joinAnswer i s room ≡ Refused Spent → s .budget < checksOf (queryOf i s)
   unfolding joinAnswer
-  spent-only-above e = go (joinTests i s (room .words)) refl e
+  spent-only-above e = go (joinTests i (s .limit) (s .ranks) (room .words)) refl e
     where
-      go : (t : Tested) → joinTests i s (room .words) ≡ t
+      go : (t : Tested) → joinTests i (s .limit) (s .ranks) (room .words) ≡ t
           → unless Refused t (walkAnswer (queryOf i s) (s .budget) (room .places)) ≡ Refused Spent
           → s .budget < checksOf (queryOf i s)
       go Passed is h = above-spent (queryOf i s) (s .budget) (room .places) h
-      go (Failed why) is h = absurd (not-early i s (room .words) (is ∙ ap Failed (same-refusal why Spent h)))
+      go (Failed why) is h = absurd (true-false refl (early-keeps i (s .limit) (s .ranks) (room .words) (is ∙ ap Failed (same-refusal why Spent h))))
         where
           same-refusal : (a b : Refusal) → Refused a ≡ Refused b → a ≡ b
           same-refusal a b e = cc
 
   -- and wherever that is so and nothing before it is at fault
-  pub spent-wherever-above : Tests i s (room .words) → s .budget < checksOf (queryOf i s) → joinAnswer i s room ≡ Refused Spent
+  pub spent-wherever-above : Tests i (s .limit) (s .ranks) (room .words) → s .budget < checksOf (queryOf i s) → joinAnswer i s room ≡ Refused Spent
   spent-wherever-above tests above =
       answer-tested tests ∙ spent-above (queryOf i s) (s .budget) (room .places) above

@@ -58,7 +58,7 @@ call-spent i s {work} {before} call = spent-only-above i s (roomOf work before) 
 
 -- and one whose checks are above it answers 8 where nothing before is at fault
 pub call-beyond : (i : Input) (s : Settings) {r : JoinAnswer} {work before work′ after : List ℕ}
-    → RunCall i s work before work′ after r → Tests i s (length work) → s .budget < checksOf (queryOf i s) → r ≡ Refused Spent
+    → RunCall i s work before work′ after r → Tests i (s .limit) (s .ranks) (length work) → s .budget < checksOf (queryOf i s) → r ≡ Refused Spent
 call-beyond i s {r} {work} {before} call tests above =
     call .answer ∙ spent-wherever-above i s (roomOf work before) tests above
 

@@ -33,9 +33,9 @@ abbrev pub roomOf : List ℕ → List ℕ → Room
 roomOf work pairs = record { words = length work; places = length pairs }
 
 -- the tests before the walk: 6, 5 left, 5 right, 7
-unfoldable pub joinTests : Input → Settings → ℕ → Tested
-joinTests i s words =
-    unless Failed (refuseIf (badSettings (i .T) (s .limit) (s .ranks)) BadSettings)
+unfoldable pub joinTests : Input → ℕ → List ℕ → ℕ → Tested
+joinTests i limit ranks words =
+    unless Failed (refuseIf (badSettings (i .T) limit ranks) BadSettings)
     (unless Failed (setsTest i)
     (workTest i words))
 
@@ -49,7 +49,7 @@ walkAnswer q budget places =
 -- the answer of a join: what the tests refuse, else the walk's
 unfoldable pub joinAnswer : Input → Settings → Room → JoinAnswer
 joinAnswer i s room =
-    unless Refused (joinTests i s (room .words)) (walkAnswer (queryOf i s) (s .budget) (room .places))
+    unless Refused (joinTests i (s .limit) (s .ranks) (room .words)) (walkAnswer (queryOf i s) (s .budget) (room .places))
 
 -- the pair list afterwards: filled and beyond that as before; zeros after 8 and 9; as before after the others
 abbrev pub pairsAfter : JoinAnswer → List ℕ → List ℕ → List ℕ

@@ -2,9 +2,9 @@
 use mathlib.Core.Path.{ap, _∙_}
 use mathlib.Core.Bool.{not}
 use borrow.Author.Needs.{needs}
-use Rattle.join.proofs.EarlyLaws.{many-items, no-limit, high-limit, rank-test}
-use Rattle.join.proofs.bad_settings.Statement.{statement}
-use Rattle.join.proofs.bad_settings.Tie as tie
+use Rattle.join_tests.proofs.SettingsLaws.{many-items, no-limit, high-limit, rank-test}
+use Rattle.join_tests.proofs.bad_settings.Statement.{statement}
+use Rattle.join_tests.proofs.bad_settings.Tie as tie
 
 returns : tie.Need-returns
 returns c =
