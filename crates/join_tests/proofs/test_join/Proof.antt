@@ -22,7 +22,7 @@ enum-told c = search needs
 
 test-work-requires : tie.Need-test-work-requires
 test-work-requires c κs =
-    let told = c .before in
+    let told = c in
     let tested = told .before .before in
     let good = tested .before in
     sizes _ _ _ 0 (sym (good .before .bad-settings .ensures) ∙ good .if1 .left)
