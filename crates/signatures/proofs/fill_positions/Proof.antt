@@ -3,12 +3,12 @@
 use Prim.Native.Nat.{_-_}
 use native.Mathlib.Omega.{arith}
 use lib.ListN.{length}
-use Rattle.signatures.proofs.Signing.{PositionsLeft, positions-start, positions-step, positions-end}
+use Rattle.signatures.proofs.Signing.{PositionsFilling, positions-start, positions-step, positions-end}
 use Rattle.signatures.proofs.fill_positions.Statement.{statement}
 use Rattle.signatures.proofs.fill_positions.Tie as tie
 
 abbrev Inv-loop : tie.InvT-loop
-Inv-loop table₀ power₀ k₀ k-end table power k = PositionsLeft table₀ table power k k-end
+Inv-loop table₀ power₀ k₀ k-end table power k = PositionsFilling table₀ table power k k-end
 
 abbrev μ-loop : tie.MeasureT-loop
 μ-loop table₀ power₀ k₀ k-end table power k = k-end - k

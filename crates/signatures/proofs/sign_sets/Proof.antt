@@ -4,13 +4,13 @@ use Prim.Native.Nat.{_-_}
 use mathlib.Core.Path.{_≡_, refl}
 use native.Mathlib.Omega.{arith}
 use lib.ListN.{length}
-use Rattle.signatures.proofs.SigningSets.{SigningLeft, signing-start, signing-items, signing-step, signing-end}
+use Rattle.signatures.proofs.SigningSets.{SetsSigning, signing-start, signing-items, signing-step, signing-end}
 use Rattle.signatures.proofs.sign_sets.Statement.{statement}
 use Rattle.signatures.proofs.sign_sets.Tie as tie
 
 abbrev Inv-loop : tie.InvT-loop
 Inv-loop work₀ ends items table at start₀ k₀ k-end work start k =
-    (k-end ≡ length ends) × SigningLeft at ends items table work₀ work start k
+    (k-end ≡ length ends) × SetsSigning at ends items table work₀ work start k
 
 abbrev μ-loop : tie.MeasureT-loop
 μ-loop work₀ ends items table at start₀ k₀ k-end work start k = k-end - k

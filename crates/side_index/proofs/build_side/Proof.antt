@@ -1,8 +1,8 @@
--- `join_index::build::build_side` meets its contract: each step requires what the steps before it leave.
+-- `side_index::build_side` meets its contract: each step requires what the steps before it leave.
 use borrow.Author.Needs.{needs}
-use Rattle.join_index.proofs.BuildSide.{entries-room, first-sortable, turned-room, second-sortable, side-built}
-use Rattle.join_index.proofs.build.build_side.Statement.{statement}
-use Rattle.join_index.proofs.build.build_side.Tie as tie
+use Rattle.side_index.proofs.SideSorts.{entries-room, first-sortable, turned-room, second-sortable, side-built}
+use Rattle.side_index.proofs.build_side.Statement.{statement}
+use Rattle.side_index.proofs.build_side.Tie as tie
 
 fill-entries-requires : tie.Need-fill-entries-requires
 fill-entries-requires c κs = entries-room (c .before .before .before .before .before .pre)
