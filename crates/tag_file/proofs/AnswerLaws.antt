@@ -94,3 +94,18 @@ pub call-lists : {file : List ℕ} {before after : Lists} {answer : LoadAnswer} 
     → after ≡ listsAfter file before
 call-lists c =
     rw (c .tags, c .leftNumbers, c .leftEnds, c .leftItems, c .rightNumbers, c .rightEnds, c .rightItems)
+
+-- a call, with the answer as it is defined
+pub call-defined : {file : List ℕ} {before after : Lists} {answer : LoadAnswer} → LoadCall file before after answer
+    → LoadCall file before after (loadAnswer file before)
+call-defined c =
+    record {
+      answered = refl;
+      tags = c .tags;
+      leftNumbers = c .leftNumbers;
+      leftEnds = c .leftEnds;
+      leftItems = c .leftItems;
+      rightNumbers = c .rightNumbers;
+      rightEnds = c .rightEnds;
+      rightItems = c .rightItems;
+    }
