@@ -49,9 +49,10 @@ module _ (seen : List TagRecord) (r : TagRecord) where
   fault-clear e =
       let used = refuseIf (numberUsed seen r) (NumberUsed (totalLength seen)) in
       let many = refuseIf (tooMany (r .side) (seen ++ (r ∷ []))) (TooMany (totalLength seen)) in
-      let both = both-passed used many e in
-      (right-passed (numberUsed seen r) (NumberUsed (totalLength seen)) (both .0),
-      right-passed (tooMany (r .side) (seen ++ (r ∷ []))) (TooMany (totalLength seen)) (both .1))
+      let both = both-passed used many e in (
+        right-passed (numberUsed seen r) (NumberUsed (totalLength seen)) (both .0),
+        right-passed (tooMany (r .side) (seen ++ (r ∷ []))) (TooMany (totalLength seen)) (both .1),
+      )
 
 -- ---- a fault makes zeros
 
