@@ -1,3 +1,2 @@
--- Contents: a join whose rule is a number, and a lent list after an equal answer of the loader.
+-- Contents: a join whose rule is a number.
 pub mod ByNumber
-pub mod Lent

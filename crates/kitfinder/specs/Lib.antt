@@ -1,3 +1,2 @@
--- Contents: the rule as a number, and the loader's lists.
+-- Contents: the rule as a number.
 pub mod Numbered
-pub mod LoadedLists

@@ -13,10 +13,9 @@ ghost use Rattle.sets.specs.Collections.{setsOf};
 ghost use Rattle.join_spec.specs.PairList.{pairList};
 ghost use Rattle.join_spec.specs.Answer.{pairsAfter, workKept, joinWords};
 ghost use Rattle.item_order.specs.Order.{orderAnswer, orderRanks, orderWords};
-ghost use Rattle.tag_file.specs.Loading.{listsOf, loadAnswer, loadWords};
+ghost use Rattle.tag_file.specs.Loading.{listsOf, loadAnswer, loadWords, LoadCall};
 ghost use Rattle.tag_writer.specs.Writer.{fileBytes, writeAnswer, fileAfter, writeWords};
 ghost use Rattle.kitfinder.specs.Numbered.{ruleOf, weightsOf, numberedAnswer};
-ghost use Rattle.kitfinder.specs.LoadedLists.{loadedList};
 
 // The rule of a number: 0 Merge, 1 Check, else Weighed.
 fn rule_of(number: u32, weights: Weights) -> Rule
@@ -181,27 +180,14 @@ pub extern "C" fn kitfinder_load(
     ensures answer { λ _. ⌜ now (answer .exit) ≡ loadWords (loadAnswer (now (file .entry))
         (listsOf (now (tags .entry)) (now («left_numbers» .entry)) (now («left_ends» .entry)) (now («left_items» .entry))
         (now («right_numbers» .entry)) (now («right_ends» .entry)) (now («right_items» .entry)))) ⌝ }
-    ensures tags { λ _. ⌜ now (tags .exit) ≡ loadedList (λ l. l .tags) (now (file .entry))
+    ensures lists { λ _. ⌜ LoadCall (now (file .entry))
         (listsOf (now (tags .entry)) (now («left_numbers» .entry)) (now («left_ends» .entry)) (now («left_items» .entry))
-        (now («right_numbers» .entry)) (now («right_ends» .entry)) (now («right_items» .entry))) ⌝ }
-    ensures left_numbers { λ _. ⌜ now («left_numbers» .exit) ≡ loadedList (λ l. l .leftNumbers) (now (file .entry))
+        (now («right_numbers» .entry)) (now («right_ends» .entry)) (now («right_items» .entry)))
+        (listsOf (now (tags .exit)) (now («left_numbers» .exit)) (now («left_ends» .exit)) (now («left_items» .exit))
+        (now («right_numbers» .exit)) (now («right_ends» .exit)) (now («right_items» .exit)))
+        (loadAnswer (now (file .entry))
         (listsOf (now (tags .entry)) (now («left_numbers» .entry)) (now («left_ends» .entry)) (now («left_items» .entry))
-        (now («right_numbers» .entry)) (now («right_ends» .entry)) (now («right_items» .entry))) ⌝ }
-    ensures left_ends { λ _. ⌜ now («left_ends» .exit) ≡ loadedList (λ l. l .leftEnds) (now (file .entry))
-        (listsOf (now (tags .entry)) (now («left_numbers» .entry)) (now («left_ends» .entry)) (now («left_items» .entry))
-        (now («right_numbers» .entry)) (now («right_ends» .entry)) (now («right_items» .entry))) ⌝ }
-    ensures left_items { λ _. ⌜ now («left_items» .exit) ≡ loadedList (λ l. l .leftItems) (now (file .entry))
-        (listsOf (now (tags .entry)) (now («left_numbers» .entry)) (now («left_ends» .entry)) (now («left_items» .entry))
-        (now («right_numbers» .entry)) (now («right_ends» .entry)) (now («right_items» .entry))) ⌝ }
-    ensures right_numbers { λ _. ⌜ now («right_numbers» .exit) ≡ loadedList (λ l. l .rightNumbers) (now (file .entry))
-        (listsOf (now (tags .entry)) (now («left_numbers» .entry)) (now («left_ends» .entry)) (now («left_items» .entry))
-        (now («right_numbers» .entry)) (now («right_ends» .entry)) (now («right_items» .entry))) ⌝ }
-    ensures right_ends { λ _. ⌜ now («right_ends» .exit) ≡ loadedList (λ l. l .rightEnds) (now (file .entry))
-        (listsOf (now (tags .entry)) (now («left_numbers» .entry)) (now («left_ends» .entry)) (now («left_items» .entry))
-        (now («right_numbers» .entry)) (now («right_ends» .entry)) (now («right_items» .entry))) ⌝ }
-    ensures right_items { λ _. ⌜ now («right_items» .exit) ≡ loadedList (λ l. l .rightItems) (now (file .entry))
-        (listsOf (now (tags .entry)) (now («left_numbers» .entry)) (now («left_ends» .entry)) (now («left_items» .entry))
-        (now («right_numbers» .entry)) (now («right_ends» .entry)) (now («right_items» .entry))) ⌝ }
+        (now («right_numbers» .entry)) (now («right_ends» .entry)) (now («right_items» .entry)))) ⌝ }
 {
     *answer = tag_file::load_words(tag_loader::load(
         file,

@@ -1,38 +1,102 @@
 -- The fault of one record, case by case: a used number decides before the limits do. Document 01: "the first record at fault
--- decides, by 1, 2, 3".
+-- decides, by 1, 2, 3". And every fault of a file makes zeros of the lists.
 use Prim.Native.Nat.{ℕ}
-use mathlib.Core.Path.{_≡_, refl}
+use mathlib.Core.Path.{_≡_, refl, sym, ap, _∙_}
 use mathlib.Core.List.{List, [], _∷_, _++_}
 use mathlib.Core.Bool.{Bool, true, false, cond}
-use mathlib.Core.Option.{none, some}
 use native.Mathlib.Omega.{arith}
+use lib.Dec.{eqb}
+use lib.ListN.{length}
+use Rattle.sets.specs.Refusals.{clears, refuseIf, unless}
+use Rattle.sets.specs.declared.Side.{Side}
+use Rattle.sets.specs.declared.Side.the-variants.{Left, Right}
 use Rattle.sets.specs.declared.Refusal.{Refusal}
-use Rattle.sets.specs.declared.Refusal.the-variants.{NumberUsed, TooMany}
-use Rattle.tag_file.specs.Records.{TagRecord, totalLength}
-use Rattle.tag_file.specs.Loading.{numberUsed, tooMany, faultOf}
+use Rattle.sets.specs.declared.Refusal.the-variants.{Malformed, NumberUsed, TooMany}
+use Rattle.sets.specs.declared.Tested.{Tested}
+use Rattle.sets.specs.declared.Tested.the-variants.{Passed, Failed}
+use Rattle.tag_file.specs.Reading.{marked, wholeAt, recordAt, readAt}
+use Rattle.tag_file.specs.Records.{TagRecord, totalLength, records}
+use Rattle.tag_file.specs.Loading.{numberUsed, tooMany, faultOf, firstFault, refusalOf, fileFault}
+use Rattle.tag_file.specs.declared.ReadAnswer.{ReadAnswer}
+use Rattle.tag_file.specs.declared.ReadAnswer.the-variants.{NoMore, Refused}
 
-neither : (used many : Bool) (a b : Refusal) → cond used (some a) (cond many (some b) none) ≡ none
-    → (used ≡ false) × (many ≡ false)
-neither true many a b e = let z : _≡_ {A = ℕ} 0 1 = cc in absurd (omega arith)
-neither false true a b e = let z : _≡_ {A = ℕ} 0 1 = cc in absurd (omega arith)
-neither false false a b e = (refl, refl)
+-- two tests are passed where both are
+pub both-passed : (first later : Tested) → unless Failed first later ≡ Passed → (first ≡ Passed) × (later ≡ Passed)
+both-passed Passed later e = (refl, e)
+both-passed (Failed why) later e = let z : _≡_ {A = ℕ} 0 1 = cc in absurd (omega arith)
+
+-- nothing was wrong where a test is passed
+right-passed : (wrong : Bool) (why : Refusal) → refuseIf wrong why ≡ Passed → wrong ≡ false
+right-passed true why e = let z : _≡_ {A = ℕ} 0 1 = cc in absurd (omega arith)
+right-passed false why e = refl
 
 module _ (seen : List TagRecord) (r : TagRecord) where
-  pub fault-used : numberUsed seen r ≡ true → faultOf seen r ≡ some (NumberUsed (totalLength seen))
+  pub fault-used : numberUsed seen r ≡ true → faultOf seen r ≡ Failed (NumberUsed (totalLength seen))
   unfolding faultOf
   fault-used used = rw used
 
   pub fault-past : numberUsed seen r ≡ false → tooMany (r .side) (seen ++ (r ∷ [])) ≡ true
-      → faultOf seen r ≡ some (TooMany (totalLength seen))
+      → faultOf seen r ≡ Failed (TooMany (totalLength seen))
   unfolding faultOf
   fault-past free past = rw (free, past)
 
-  pub fault-none : numberUsed seen r ≡ false → tooMany (r .side) (seen ++ (r ∷ [])) ≡ false → faultOf seen r ≡ none
+  pub fault-none : numberUsed seen r ≡ false → tooMany (r .side) (seen ++ (r ∷ [])) ≡ false → faultOf seen r ≡ Passed
   unfolding faultOf
   fault-none free few = rw (free, few)
 
-  pub fault-clear : faultOf seen r ≡ none → (numberUsed seen r ≡ false) × (tooMany (r .side) (seen ++ (r ∷ [])) ≡ false)
+  pub fault-clear : faultOf seen r ≡ Passed → (numberUsed seen r ≡ false) × (tooMany (r .side) (seen ++ (r ∷ [])) ≡ false)
   unfolding faultOf
   fault-clear e =
-      neither (numberUsed seen r) (tooMany (r .side) (seen ++ (r ∷ [])))
-      (NumberUsed (totalLength seen)) (TooMany (totalLength seen)) e
+      let used = refuseIf (numberUsed seen r) (NumberUsed (totalLength seen)) in
+      let many = refuseIf (tooMany (r .side) (seen ++ (r ∷ []))) (TooMany (totalLength seen)) in
+      let both = both-passed used many e in (
+        right-passed (numberUsed seen r) (NumberUsed (totalLength seen)) (both .0),
+        right-passed (tooMany (r .side) (seen ++ (r ∷ []))) (TooMany (totalLength seen)) (both .1),
+      )
+
+-- ---- a fault makes zeros
+
+-- whether what a test refuses with, if anything, makes zeros
+abbrev clearing : Tested → Bool
+clearing Passed = true
+clearing (Failed why) = clears why
+
+clearing-both : (first later : Tested) → clearing first ≡ true → clearing later ≡ true → clearing (unless Failed first later) ≡ true
+clearing-both Passed later a b = b
+clearing-both (Failed why) later a b = a
+
+clearing-if : (wrong : Bool) (why : Refusal) → clears why ≡ true → clearing (refuseIf wrong why) ≡ true
+clearing-if true why c = c
+clearing-if false why c = refl
+
+clearing-cond : (b : Bool) (x y : ReadAnswer) → clearing (refusalOf x) ≡ true → clearing (refusalOf y) ≡ true
+    → clearing (refusalOf (cond b x y)) ≡ true
+clearing-cond true x y ex ey = ex
+clearing-cond false x y ex ey = ey
+
+clearing-record : (side : Side) (file : List ℕ) (at : ℕ) → clearing (refusalOf (recordAt side file at)) ≡ true
+clearing-record side file at = clearing-cond (wholeAt file at) _ (Refused (Malformed at)) refl refl
+
+clearing-read : (file : List ℕ) (at : ℕ) → clearing (refusalOf (readAt file at)) ≡ true
+unfolding readAt
+clearing-read file at =
+    clearing-cond (eqb at (length file)) NoMore _ refl
+    (clearing-cond (marked Left file at) (recordAt Left file at) _ (clearing-record Left file at)
+    (clearing-cond (marked Right file at) (recordAt Right file at) (Refused (Malformed at)) (clearing-record Right file at) refl))
+
+clearing-first : (seen rs : List TagRecord) (last : Tested) → clearing last ≡ true → clearing (firstFault seen rs last) ≡ true
+unfolding firstFault faultOf
+clearing-first seen [] last c = c
+clearing-first seen (r ∷ rs) last c =
+    let used = refuseIf (numberUsed seen r) (NumberUsed (totalLength seen)) in
+    let many = refuseIf (tooMany (r .side) (seen ++ (r ∷ []))) (TooMany (totalLength seen)) in
+    clearing-both (unless Failed used many) (firstFault (seen ++ (r ∷ [])) rs last)
+    (clearing-both used many (clearing-if (numberUsed seen r) _ refl) (clearing-if (tooMany (r .side) (seen ++ (r ∷ []))) _ refl))
+    (clearing-first (seen ++ (r ∷ [])) rs last c)
+
+pub fault-clears : (file : List ℕ) (why : Refusal) → fileFault file ≡ Failed why → clears why ≡ true
+unfolding fileFault
+fault-clears file why e =
+    sym (ap clearing e)
+    ∙ clearing-first [] (records file) (refusalOf (readAt file (totalLength (records file))))
+    (clearing-read file (totalLength (records file)))

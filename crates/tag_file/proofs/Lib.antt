@@ -4,5 +4,6 @@ pub mod Tables
 pub mod RecordLaws
 pub mod Ended
 pub mod FaultLaws
+pub mod AnswerLaws
 pub mod Bytes
 pub mod ItemCount

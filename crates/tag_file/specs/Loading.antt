@@ -1,18 +1,20 @@
 -- The loader: the first record at fault, the seven lists that are filled, the answer, and what each lent list holds at the end.
 -- Document 01, "Tag file", and rows 1 to 4 of "When no list is made": "the first record at fault decides, by 1, 2, 3; then 4".
 use Prim.Native.Nat.{ℕ, _+_}
+use mathlib.Core.Path.{_≡_}
 use mathlib.Core.List.{List, [], _∷_, _++_, map}
-use mathlib.Core.Bool.{Bool, cond, _&&_, _||_}
-use mathlib.Core.Option.{Option, none, some}
+use mathlib.Core.Bool.{Bool, not, _&&_, _||_}
 use lib.Dec.{eqb, leb, ltb}
-use lib.ListN.{length, drop, replicate}
+use lib.ListN.{length}
 use Rattle.lists.specs.Lists.{any}
 use Rattle.sets.specs.Limits.{maxItems, maxSets, maxEntries}
-use Rattle.sets.specs.Refusals.{acceptedWords, refusedWords}
+use Rattle.sets.specs.Refusals.{acceptedWords, refusedWords, refuseIf, unless}
+use Rattle.sets.specs.Lent.{filledOver, afterRefusal}
 use Rattle.sets.specs.declared.Side.{Side}
 use Rattle.sets.specs.declared.Side.the-variants.{Left, Right}
-use Rattle.sets.specs.declared.Refusal.{Refusal}
 use Rattle.sets.specs.declared.Refusal.the-variants.{NumberUsed, TooMany, ShortOutput}
+use Rattle.sets.specs.declared.Tested.{Tested}
+use Rattle.sets.specs.declared.Tested.the-variants.{Passed, Failed}
 use Rattle.tag_file.specs.declared.Loaded.{Loaded}
 use Rattle.tag_file.specs.declared.LoadAnswer.{LoadAnswer}
 use Rattle.tag_file.specs.declared.LoadAnswer.the-variants as load
@@ -31,30 +33,25 @@ unfoldable pub tooMany : Side → List TagRecord → Bool
 tooMany side rs =
     ltb maxSets (length (ofSide side rs)) || (ltb maxEntries (entriesOf side rs) || ltb maxItems (length (tagTable rs)))
 
--- the fault of a whole record that follows those seen: 2 before 3, with its byte place
-unfoldable pub faultOf : List TagRecord → TagRecord → Option Refusal
+-- the test of a whole record that follows those seen: 2 before 3, with its byte place
+unfoldable pub faultOf : List TagRecord → TagRecord → Tested
 faultOf seen r =
-    cond (numberUsed seen r) (some (NumberUsed (totalLength seen)))
-    (cond (tooMany (r .side) (seen ++ (r ∷ []))) (some (TooMany (totalLength seen))) none)
-
--- the first of two faults
-abbrev pub earlier : Option Refusal → Option Refusal → Option Refusal
-earlier (some why) later = some why
-earlier none later = later
+    unless Failed (refuseIf (numberUsed seen r) (NumberUsed (totalLength seen)))
+    (refuseIf (tooMany (r .side) (seen ++ (r ∷ []))) (TooMany (totalLength seen)))
 
 -- the first fault of records that follow those seen, and else what the reading ended with
-unfoldable pub firstFault : List TagRecord → List TagRecord → Option Refusal → Option Refusal
+unfoldable pub firstFault : List TagRecord → List TagRecord → Tested → Tested
 firstFault seen [] last = last
-firstFault seen (r ∷ rs) last = earlier (faultOf seen r) (firstFault (seen ++ (r ∷ [])) rs last)
+firstFault seen (r ∷ rs) last = unless Failed (faultOf seen r) (firstFault (seen ++ (r ∷ [])) rs last)
 
--- the refusal that the reading ended with, or none at the file's end
-abbrev pub refusalOf : ReadAnswer → Option Refusal
-refusalOf (Refused why) = some why
-refusalOf NoMore = none
-refusalOf (Record side number count place next) = none
+-- the refusal that the reading ended with; at the file's end there is none
+abbrev pub refusalOf : ReadAnswer → Tested
+refusalOf (Refused why) = Failed why
+refusalOf NoMore = Passed
+refusalOf (Record side number count place next) = Passed
 
 -- the first fault of a file: of its whole records, and else at the place where they end
-unfoldable pub fileFault : List ℕ → Option Refusal
+unfoldable pub fileFault : List ℕ → Tested
 fileFault file = firstFault [] (records file) (refusalOf (readAt file (totalLength (records file))))
 
 -- the seven lists: the tag table as bytes, and for each side the record numbers, the ends and the items
@@ -100,23 +97,23 @@ filled rs =
       rightItems = joinedItems Right rs;
     }
 
--- whether one list is at least as long as another needs
-abbrev pub holds : List ℕ → List ℕ → Bool
-holds part lent = leb (length part) (length lent)
+-- whether a part fits into a lent list
+abbrev pub fits : List ℕ → List ℕ → Bool
+fits part lent = leb (length part) (length lent)
 
 -- whether each lent list is long enough
 unfoldable pub roomFor : Lists → Lists → Bool
 roomFor part lent =
-    holds (part .tags) (lent .tags)
-    && (holds (part .leftNumbers) (lent .leftNumbers)
-    && (holds (part .leftEnds) (lent .leftEnds)
-    && (holds (part .leftItems) (lent .leftItems)
-    && (holds (part .rightNumbers) (lent .rightNumbers)
-    && (holds (part .rightEnds) (lent .rightEnds) && holds (part .rightItems) (lent .rightItems))))))
+    fits (part .tags) (lent .tags)
+    && (fits (part .leftNumbers) (lent .leftNumbers)
+    && (fits (part .leftEnds) (lent .leftEnds)
+    && (fits (part .leftItems) (lent .leftItems)
+    && (fits (part .rightNumbers) (lent .rightNumbers)
+    && (fits (part .rightEnds) (lent .rightEnds) && fits (part .rightItems) (lent .rightItems))))))
 
 -- how much records give: sets and collapsed entries a side, and distinct tags
-abbrev pub countsOf : List TagRecord → Loaded
-countsOf rs =
+abbrev pub totalsOf : List TagRecord → Loaded
+totalsOf rs =
     record {
       «left_sets» = length (ofSide Left rs);
       «right_sets» = length (ofSide Right rs);
@@ -125,21 +122,30 @@ countsOf rs =
       tags = length (tagTable rs);
     }
 
--- a fault is refused; without one the rest decides
-abbrev pub unless : Option Refusal → LoadAnswer → LoadAnswer
-unless (some why) answer = load.Refused why
-unless none answer = answer
-
 -- the loader's answer: the first record at fault by 1, 2, 3; then 4; else how much was filled
 unfoldable pub loadAnswer : List ℕ → Lists → LoadAnswer
 loadAnswer file lent =
-    unless (fileFault file)
-    (cond (roomFor (filled (records file)) lent) (load.Loaded (countsOf (records file))) (load.Refused ShortOutput))
+    unless load.Refused (fileFault file)
+    (unless load.Refused (refuseIf (not (roomFor (filled (records file)) lent)) ShortOutput)
+    (load.Loaded (totalsOf (records file))))
 
--- a lent list at the end: filled from its beginning and as before beyond, or zeros in a refusal
+-- a lent list at the end: filled from its beginning and as before beyond, or as the refusal leaves it
 abbrev pub lentAfter : LoadAnswer → List ℕ → List ℕ → List ℕ
-lentAfter (load.Loaded counts) part lent = part ++ drop (length part) lent
-lentAfter (load.Refused why) part lent = replicate (length lent) 0
+lentAfter (load.Loaded totals) part lent = filledOver part lent
+lentAfter (load.Refused why) part lent = afterRefusal why lent
+
+-- the seven lent lists at the end
+abbrev pub listsAfter : List ℕ → Lists → Lists
+listsAfter file lent =
+    record {
+      tags = lentAfter (loadAnswer file lent) (filled (records file) .tags) (lent .tags);
+      leftNumbers = lentAfter (loadAnswer file lent) (filled (records file) .leftNumbers) (lent .leftNumbers);
+      leftEnds = lentAfter (loadAnswer file lent) (filled (records file) .leftEnds) (lent .leftEnds);
+      leftItems = lentAfter (loadAnswer file lent) (filled (records file) .leftItems) (lent .leftItems);
+      rightNumbers = lentAfter (loadAnswer file lent) (filled (records file) .rightNumbers) (lent .rightNumbers);
+      rightEnds = lentAfter (loadAnswer file lent) (filled (records file) .rightEnds) (lent .rightEnds);
+      rightItems = lentAfter (loadAnswer file lent) (filled (records file) .rightItems) (lent .rightItems);
+    }
 
 -- seven lists by their names
 abbrev pub listsOf : List ℕ → List ℕ → List ℕ → List ℕ → List ℕ → List ℕ → List ℕ → Lists
@@ -153,6 +159,17 @@ listsOf tags leftNumbers leftEnds leftItems rightNumbers rightEnds rightItems =
       rightEnds = rightEnds;
       rightItems = rightItems;
     }
+
+-- a load of a file into seven lent lists: what is answered, and each list afterwards
+pub record LoadCall (file : List ℕ) (before after : Lists) (answer : LoadAnswer) : Type 0 where
+  pub answered : answer ≡ loadAnswer file before
+  pub tags : after .tags ≡ listsAfter file before .tags
+  pub leftNumbers : after .leftNumbers ≡ listsAfter file before .leftNumbers
+  pub leftEnds : after .leftEnds ≡ listsAfter file before .leftEnds
+  pub leftItems : after .leftItems ≡ listsAfter file before .leftItems
+  pub rightNumbers : after .rightNumbers ≡ listsAfter file before .rightNumbers
+  pub rightEnds : after .rightEnds ≡ listsAfter file before .rightEnds
+  pub rightItems : after .rightItems ≡ listsAfter file before .rightItems
 
 -- the words of an answer: left sets, right sets, left entries, right entries, tags
 abbrev pub loadWords : LoadAnswer → List ℕ

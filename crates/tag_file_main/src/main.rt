@@ -1,7 +1,7 @@
 // Named vectors through the loader of tag files: each has a line with its name and the answer, then a line with the seven lists, which
 // hold EE, 77 and 99 before the call. `stdout` has what document 01 says.
 use sets::Refusal;
-use sets::Side;
+use sets::head_of;
 use tag_file::LoadAnswer;
 use tag_file::Loaded;
 
@@ -13,31 +13,11 @@ fn print_number(n: usize) {
     io::print_decimal(STDOUT, n as u64);
 }
 
-// A number and one detail.
-fn print_pair(number: usize, detail: usize) {
-    print_number(number);
-    print_number(detail);
-}
-
-// The number of a refusal and what returns with it.
+// The number of a refusal and what returns with it: one detail, for each that the loader has.
 fn print_refusal(why: Refusal) {
-    match why {
-        Refusal::Malformed(place) => print_pair(1, place),
-        Refusal::NumberUsed(place) => print_pair(2, place),
-        Refusal::TooMany(place) => print_pair(3, place),
-        Refusal::ShortOutput => print_pair(4, 0),
-        Refusal::BadSet(side, place) => {
-            match side {
-                Side::Left => print_pair(5, 0),
-                Side::Right => print_pair(5, 1),
-            }
-            print_number(place);
-        }
-        Refusal::BadSettings => print_pair(6, 0),
-        Refusal::ShortWork => print_pair(7, 0),
-        Refusal::Spent => print_pair(8, 0),
-        Refusal::ShortPairs => print_pair(9, 0),
-    }
+    let head = head_of(why);
+    print_number(head.number as usize);
+    print_number(head.first as usize);
 }
 
 fn print_counts(counts: Loaded) {

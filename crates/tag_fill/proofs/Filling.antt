@@ -15,6 +15,7 @@ use Rattle.lists.proofs.Bools.{or-left, or-right}
 use Rattle.lists.proofs.Membership.{memb-append}
 use Rattle.lists.proofs.Writing.{Writing, writing-start, writing-room, writing-step, writing-end, written-whole}
 use Rattle.bit_sets.specs.BitSets.{members}
+use Rattle.sets.specs.Lent.{filledOver}
 use Rattle.sets.specs.declared.Side.{Side}
 use Rattle.tag_file.specs.Format.{tagAt}
 use Rattle.tag_file.specs.Reading.{readAt, tagsAt}
@@ -25,7 +26,7 @@ use Rattle.tag_file.proofs.RecordLaws.{read-whole, records-next}
 use Rattle.tag_file.proofs.Tables.{memb-collapse}
 use Rattle.tag_index.specs.Index.{tableOf, Sorted, Ranked}
 use Rattle.tag_index.proofs.Ids.{sorted-size}
-use Rattle.tag_fill.specs.Fill.{Unmarked, Marking, Known, RoomForOne, OneFilled, FillReady, filledWith}
+use Rattle.tag_fill.specs.Fill.{Unmarked, Marking, Known, RoomForOne, OneFilled, FillReady}
 use Rattle.tag_fill.specs.declared.Filled.{Filled}
 use Rattle.tag_fill.proofs.Marks.{unmarked-zeros, marked-items}
 use Rattle.tag_fill.proofs.Runs.{join-one, numbers-cons, sets-cons, join-onto, ends-onto}
@@ -69,17 +70,17 @@ filling-start {file} {heads} {tails} {n} {order} {ranks} {side} {numbers} {ends}
 module _ {file : List ℕ} {side : Side} {numbers₀ ends₀ items₀ marks numbers ends items : List ℕ} {done : Filled} {at : ℕ}
     (f : Filling file side numbers₀ ends₀ items₀ marks numbers ends items done at) where
   module _ (stop : recordsAt file at ≡ []) where
-    pub filled-numbers : numbers ≡ filledWith (numbersOf side (records file)) numbers₀
+    pub filled-numbers : numbers ≡ filledOver (numbersOf side (records file)) numbers₀
     unfolding keep
     filled-numbers = written-whole (writing-end (f .for-numbers) (ap (numbersOf side) stop)) (omega (arith, f .for-numbers .room))
 
-    pub filled-ends : ends ≡ filledWith (endsOf side (records file)) ends₀
+    pub filled-ends : ends ≡ filledOver (endsOf side (records file)) ends₀
     unfolding keep endsFrom
     filled-ends =
         let end = ap (λ (l : List TagRecord). endsFrom (done .entries) (setsOfSide side (tagTable (records file)) l)) stop in
         written-whole (writing-end (f .for-ends) end) (omega (arith, f .for-ends .room))
 
-    pub filled-items : items ≡ filledWith (joinedItems side (records file)) items₀
+    pub filled-items : items ≡ filledOver (joinedItems side (records file)) items₀
     unfolding keep join
     filled-items =
         let end = ap (λ (l : List TagRecord). join (setsOfSide side (tagTable (records file)) l)) stop in

@@ -1,92 +1,113 @@
--- The loader's answer by its three ends: a fault of the file, lists that are too short, and what was filled.
+-- A call of the loader by its three ends: a fault of the file, lists that are too short, and what was filled.
 use mathlib.Core.Path.{_≡_, refl, sym, ap, subst, _∙_}
 use mathlib.Core.List.{List}
-use mathlib.Core.Bool.{Bool, true, false, cond}
-use mathlib.Core.Option.{Option, none, some}
+use mathlib.Core.Bool.{Bool, true, false, not}
 use Prim.Native.Nat.{ℕ}
 use native.Mathlib.Omega.{arith}
-use lib.ListN.{length, replicate}
+use borrow.Author.Tests.{not-true, not-false}
+use lib.ListN.{length}
+use Rattle.sets.specs.Refusals.{clears, unless}
 use Rattle.sets.specs.declared.Refusal.{Refusal}
 use Rattle.sets.specs.declared.Refusal.the-variants.{ShortOutput}
+use Rattle.sets.specs.declared.Tested.{Tested}
+use Rattle.sets.specs.declared.Tested.the-variants.{Passed, Failed}
 use Rattle.tag_file.specs.declared.Loaded.{Loaded}
 use Rattle.tag_file.specs.declared.LoadAnswer.{LoadAnswer}
 use Rattle.tag_file.specs.declared.LoadAnswer.the-variants as load
 use Rattle.tag_file.specs.Records.{records}
-use Rattle.tag_file.specs.Loading.{Lists, fileFault, countsOf, unless, filled, roomFor, listsOf, loadAnswer, lentAfter}
+use Rattle.tag_file.specs.Loading.{Lists, fileFault, totalsOf, filled, roomFor, loadAnswer, LoadCall}
+use Rattle.tag_file.proofs.FaultLaws.{fault-clears}
+use Rattle.tag_file.proofs.AnswerLaws.{accepts, refuses-short, refuses-fault}
 use Rattle.tag_scan.specs.Scan.{Scanned, Limited}
-use Rattle.tag_loader.specs.Passes.{hasRoom, Fillable}
+use Rattle.tag_loader.specs.Passes.{hasRoom, AllCleared, AllFilled, Fillable}
 use Rattle.tag_loader.proofs.Rooms.{room-counted}
 
-unless-refused : (o : Option Refusal) (x : Loaded) (why : Refusal) (y : LoadAnswer)
-    → unless o (load.Loaded x) ≡ load.Refused why → unless o y ≡ load.Refused why
-unless-refused none x why y e = let z : _≡_ {A = ℕ} 0 1 = cc in absurd (omega arith)
-unless-refused (some w) x why y e = e
+-- a refusal that makes zeros
+call-refused : {file : List ℕ} {before after : Lists} {answer : LoadAnswer} (why : Refusal)
+    → loadAnswer file before ≡ load.Refused why → clears why ≡ true → answer ≡ load.Refused why → AllCleared before after
+    → LoadCall file before after answer
+call-refused why is zeros e z =
+    record {
+      answered = e ∙ sym is;
+      tags = rw (is, zeros) (z .tags-zero);
+      leftNumbers = rw (is, zeros) (z .left .numbers-zero);
+      leftEnds = rw (is, zeros) (z .left .ends-zero);
+      leftItems = rw (is, zeros) (z .left .items-zero);
+      rightNumbers = rw (is, zeros) (z .right .numbers-zero);
+      rightEnds = rw (is, zeros) (z .right .ends-zero);
+      rightItems = rw (is, zeros) (z .right .items-zero);
+    }
 
--- a file at fault: the reader's or the first pass's refusal is the answer
-pub answer-refused : {file heads tails order : List ℕ} {r : LoadAnswer} (why : Refusal) → Scanned file heads tails order r
-    → r ≡ load.Refused why → (lent : Lists) → r ≡ loadAnswer file lent
-unfolding loadAnswer
-answer-refused {file} {heads} {tails} {order} {r} why s e lent =
-    e ∙ sym (unless-refused (fileFault file) (countsOf (records file)) why
-    (cond (roomFor (filled (records file)) lent) (load.Loaded (countsOf (records file))) (load.Refused ShortOutput))
-    (sym (s .answer) ∙ e))
+refused-fault : (t : Tested) (x : Loaded) (why : Refusal) → unless load.Refused t (load.Loaded x) ≡ load.Refused why → t ≡ Failed why
+refused-fault Passed x why e = let z : _≡_ {A = ℕ} 0 1 = cc in absurd (omega arith)
+refused-fault (Failed w) x why e = ap Failed cc
 
--- and every list is all zeros
-pub zeros-refused : {r : LoadAnswer} {why : Refusal} → r ≡ load.Refused why → (part lent is : List ℕ)
-    → is ≡ replicate (length lent) 0 → is ≡ lentAfter r part lent
-zeros-refused e part lent is z = rw e z
+-- a file at fault: the refusal of the first pass is the answer
+pub call-fault : {file heads tails order : List ℕ} {before after : Lists} {r : LoadAnswer} (why : Refusal)
+    → Scanned file heads tails order r → r ≡ load.Refused why → AllCleared before after → LoadCall file before after r
+call-fault {file} {heads} {tails} {order} {before} {after} {r} why s e z =
+    let fault = refused-fault (fileFault file) (totalsOf (records file)) why (sym (s .answer) ∙ e) in
+    call-refused why (refuses-fault file before why fault) (fault-clears file why fault) e z
 
--- no fault: the counts are the file's
+-- no fault: the totals are the file's
 pub record Sound (file : List ℕ) (total : Loaded) : Type 0 where
-  pub clean : fileFault file ≡ none
-  pub counts : total ≡ countsOf (records file)
+  pub clean : fileFault file ≡ Passed
+  pub counts : total ≡ totalsOf (records file)
 
-unless-loaded : (o : Option Refusal) (x total : Loaded) → unless o (load.Loaded x) ≡ load.Loaded total → (o ≡ none) × (total ≡ x)
-unless-loaded none x total e = (refl, cc)
-unless-loaded (some w) x total e = let z : _≡_ {A = ℕ} 0 1 = cc in absurd (omega arith)
+loaded-sound : (t : Tested) (x total : Loaded) → unless load.Refused t (load.Loaded x) ≡ load.Loaded total
+    → (t ≡ Passed) × (total ≡ x)
+loaded-sound Passed x total e = (refl, cc)
+loaded-sound (Failed w) x total e = let z : _≡_ {A = ℕ} 0 1 = cc in absurd (omega arith)
 
-pub answer-sound : {file heads tails order : List ℕ} {r : LoadAnswer} {total : Loaded} → Scanned file heads tails order r
-    → r ≡ load.Loaded total → Sound file total
-answer-sound {file} {heads} {tails} {order} {r} {total} s e =
-    let both = unless-loaded (fileFault file) (countsOf (records file)) total (sym (s .answer) ∙ e) in
-    record { clean = both .0; counts = both .1 }
+module _ {file heads tails order : List ℕ} {r : LoadAnswer} {total : Loaded} (s : Scanned file heads tails order r)
+    (e : r ≡ load.Loaded total) where
+  sound : Sound file total
+  sound =
+      let both = loaded-sound (fileFault file) (totalsOf (records file)) total (sym (s .answer) ∙ e) in
+      record { clean = both .0; counts = both .1 }
 
-pub sound-limited : {file heads tails order : List ℕ} {r : LoadAnswer} {total : Loaded} → Scanned file heads tails order r
-    → Sound file total → Limited total
-sound-limited {file} s a = subst (λ (t : Loaded). Limited t) (sym (a .counts)) (s .limited (a .clean))
+  pub sound-limited : Limited total
+  sound-limited = subst (λ (t : Loaded). Limited t) (sym (sound .counts)) (s .limited (sound .clean))
 
-module _ {file : List ℕ} {total : Loaded} (a : Sound file total)
-    (tags leftNumbers leftEnds leftItems rightNumbers rightEnds rightItems : List ℕ) where
-  abbrev lists : Lists
-  lists = listsOf tags leftNumbers leftEnds leftItems rightNumbers rightEnds rightItems
+  module _ (lent : Lists) where
+    abbrev roomOf : Loaded → Bool
+    roomOf t =
+        hasRoom t (length (lent .tags)) (length (lent .leftNumbers)) (length (lent .leftEnds)) (length (lent .leftItems))
+        (length (lent .rightNumbers)) (length (lent .rightEnds)) (length (lent .rightItems))
 
-  abbrev roomOf : Loaded → Bool
-  roomOf t =
-      hasRoom t (length tags) (length leftNumbers) (length leftEnds) (length leftItems)
-      (length rightNumbers) (length rightEnds) (length rightItems)
+    same-room : roomOf total ≡ roomFor (filled (records file)) lent
+    same-room = ap (λ (t : Loaded). roomOf t) (sound .counts) ∙ room-counted (records file) lent
 
-  same-room : roomOf total ≡ roomFor (filled (records file)) lists
-  same-room =
-      ap (λ (t : Loaded). roomOf t) (a .counts)
-      ∙ room-counted (records file) tags leftNumbers leftEnds leftItems rightNumbers rightEnds rightItems
+    -- a list is too short
+    pub call-short : {b : Bool} {after : Lists} → b ≡ roomOf total → not b ≡ true → AllCleared lent after
+        → LoadCall file lent after (load.Refused ShortOutput)
+    call-short {b} is short z =
+        call-refused ShortOutput (refuses-short file lent (sound .clean) (sym same-room ∙ sym is ∙ not-true b short)) refl refl z
 
-  -- a list is too short
-  pub answer-short : roomOf total ≡ false → load.Refused ShortOutput ≡ loadAnswer file lists
-  unfolding loadAnswer
-  answer-short f = rw (a .clean, sym same-room ∙ f)
+    -- there is room
+    module _ {b : Bool} (is : b ≡ roomOf total) (enough : not b ≡ false) where
+      room-here : roomFor (filled (records file)) lent ≡ true
+      room-here = sym same-room ∙ sym is ∙ not-false b enough
 
-  -- there is room
-  pub answer-loaded : roomOf total ≡ true → load.Loaded total ≡ loadAnswer file lists
-  unfolding loadAnswer
-  answer-loaded t = rw (a .clean, sym same-room ∙ t) (ap load.Loaded (a .counts))
+      pub room-fillable : Fillable file heads tails order (total .tags) lent
+      room-fillable =
+          record {
+            index = s .index (sound .clean);
+            count = ap (λ (q : Loaded). q .tags) (sound .counts);
+            limited = s .limited (sound .clean);
+            room = room-here;
+          }
 
-  pub answer-fillable : {heads tails order : List ℕ} {r : LoadAnswer} → Scanned file heads tails order r
-      → roomOf total ≡ true
-      → Fillable file heads tails order (total .tags) tags leftNumbers leftEnds leftItems rightNumbers rightEnds rightItems
-  answer-fillable s t =
-      record {
-        index = s .index (a .clean);
-        count = ap (λ (q : Loaded). q .tags) (a .counts);
-        limited = s .limited (a .clean);
-        room = sym same-room ∙ t;
-      }
+      pub call-loaded : {after : Lists} → AllFilled (records file) lent after → LoadCall file lent after (load.Loaded total)
+      call-loaded z =
+          let accepted = accepts file lent (sound .clean) room-here in
+          record {
+            answered = ap load.Loaded (sound .counts) ∙ sym accepted;
+            tags = rw accepted (z .tags-filled);
+            leftNumbers = rw accepted (z .leftNumbers-filled);
+            leftEnds = rw accepted (z .leftEnds-filled);
+            leftItems = rw accepted (z .leftItems-filled);
+            rightNumbers = rw accepted (z .rightNumbers-filled);
+            rightEnds = rw accepted (z .rightEnds-filled);
+            rightItems = rw accepted (z .rightItems-filled);
+          }

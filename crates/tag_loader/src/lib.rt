@@ -13,9 +13,9 @@ use tag_index::rank_ids;
 use tag_scan::scan;
 ghost use mathlib.Core.Path.{_≡_};
 ghost use Rattle.tag_file.specs.Records.{records};
-ghost use Rattle.tag_file.specs.Loading.{filled, listsOf, loadAnswer, lentAfter};
+ghost use Rattle.tag_file.specs.Loading.{listsOf, LoadCall};
 ghost use Rattle.tag_scan.specs.Scan.{Limited};
-ghost use Rattle.tag_loader.specs.Passes.{sideFits, SideCleared, Cleared, hasRoom, AllFilled, Fillable};
+ghost use Rattle.tag_loader.specs.Passes.{sideFits, SideCleared, AllCleared, hasRoom, AllFilled, Fillable};
 
 // Whether lists of these lengths hold the numbers, ends and items of a side.
 fn side_fits(sets: usize, entries: usize, numbers: usize, ends: usize, items: usize) -> bool
@@ -44,12 +44,13 @@ fn clear_lists(
     right_ends: &mut [u32],
     right_items: &mut [u16],
 )
-    ensures { λ _. ⌜ Cleared (now (tags .entry))
+    ensures { λ _. ⌜ AllCleared
+        (listsOf (now (tags .entry))
         (now («left_numbers» .entry)) (now («left_ends» .entry)) (now («left_items» .entry))
-        (now («right_numbers» .entry)) (now («right_ends» .entry)) (now («right_items» .entry))
-        (now (tags .exit))
+        (now («right_numbers» .entry)) (now («right_ends» .entry)) (now («right_items» .entry)))
+        (listsOf (now (tags .exit))
         (now («left_numbers» .exit)) (now («left_ends» .exit)) (now («left_items» .exit))
-        (now («right_numbers» .exit)) (now («right_ends» .exit)) (now («right_items» .exit)) ⌝ }
+        (now («right_numbers» .exit)) (now («right_ends» .exit)) (now («right_items» .exit))) ⌝ }
 {
     zero_u8(tags);
     clear_side(left_numbers, left_ends, left_items);
@@ -108,15 +109,16 @@ fn fill_lists(
     right_ends: &mut [u32],
     right_items: &mut [u16],
 )
-    requires { ⌜ Fillable (now file) (now heads) (now tails) (now order) n (now tags)
+    requires { ⌜ Fillable (now file) (now heads) (now tails) (now order) n (listsOf (now tags)
         (now «left_numbers») (now «left_ends») (now «left_items»)
-        (now «right_numbers») (now «right_ends») (now «right_items») ⌝ }
-    ensures { λ _. ⌜ AllFilled (records (now (file .entry))) (now (tags .entry))
+        (now «right_numbers») (now «right_ends») (now «right_items»)) ⌝ }
+    ensures { λ _. ⌜ AllFilled (records (now (file .entry)))
+        (listsOf (now (tags .entry))
         (now («left_numbers» .entry)) (now («left_ends» .entry)) (now («left_items» .entry))
-        (now («right_numbers» .entry)) (now («right_ends» .entry)) (now («right_items» .entry))
-        (now (tags .exit))
+        (now («right_numbers» .entry)) (now («right_ends» .entry)) (now («right_items» .entry)))
+        (listsOf (now (tags .exit))
         (now («left_numbers» .exit)) (now («left_ends» .exit)) (now («left_items» .exit))
-        (now («right_numbers» .exit)) (now («right_ends» .exit)) (now («right_items» .exit)) ⌝ }
+        (now («right_numbers» .exit)) (now («right_ends» .exit)) (now («right_items» .exit))) ⌝ }
 {
     let mut ranks = [0u16; 4352];
     rank_ids(order, n, &mut ranks);
@@ -160,23 +162,13 @@ pub fn load(
     right_ends: &mut [u32],
     right_items: &mut [u16],
 ) -> LoadAnswer
-    ensures answer { λ r. ⌜ r ≡ loadAnswer (now (file .entry)) (listsOf (now (tags .entry))
+    ensures { λ r. ⌜ LoadCall (now (file .entry))
+        (listsOf (now (tags .entry))
         (now («left_numbers» .entry)) (now («left_ends» .entry)) (now («left_items» .entry))
-        (now («right_numbers» .entry)) (now («right_ends» .entry)) (now («right_items» .entry))) ⌝ }
-    ensures tags { λ r. ⌜ now (tags .exit)
-        ≡ lentAfter r (filled (records (now (file .entry))) .tags) (now (tags .entry)) ⌝ }
-    ensures left_numbers { λ r. ⌜ now («left_numbers» .exit)
-        ≡ lentAfter r (filled (records (now (file .entry))) .leftNumbers) (now («left_numbers» .entry)) ⌝ }
-    ensures left_ends { λ r. ⌜ now («left_ends» .exit)
-        ≡ lentAfter r (filled (records (now (file .entry))) .leftEnds) (now («left_ends» .entry)) ⌝ }
-    ensures left_items { λ r. ⌜ now («left_items» .exit)
-        ≡ lentAfter r (filled (records (now (file .entry))) .leftItems) (now («left_items» .entry)) ⌝ }
-    ensures right_numbers { λ r. ⌜ now («right_numbers» .exit)
-        ≡ lentAfter r (filled (records (now (file .entry))) .rightNumbers) (now («right_numbers» .entry)) ⌝ }
-    ensures right_ends { λ r. ⌜ now («right_ends» .exit)
-        ≡ lentAfter r (filled (records (now (file .entry))) .rightEnds) (now («right_ends» .entry)) ⌝ }
-    ensures right_items { λ r. ⌜ now («right_items» .exit)
-        ≡ lentAfter r (filled (records (now (file .entry))) .rightItems) (now («right_items» .entry)) ⌝ }
+        (now («right_numbers» .entry)) (now («right_ends» .entry)) (now («right_items» .entry)))
+        (listsOf (now (tags .exit))
+        (now («left_numbers» .exit)) (now («left_ends» .exit)) (now («left_items» .exit))
+        (now («right_numbers» .exit)) (now («right_ends» .exit)) (now («right_items» .exit))) r ⌝ }
 {
     let mut heads = [0usize; 4352];
     let mut tails = [0u32; 4352];

@@ -3,9 +3,9 @@
 use mathlib.Core.Path.{_≡_, refl}
 use Prim.Native.Nat.{ℕ}
 use mathlib.Core.List.{List, [], _∷_, _++_}
-use mathlib.Core.Option.{none}
 use Rattle.lists.specs.Lists.{keep, memb, sum, range, any, prefix}
 use Rattle.sets.specs.Collections.{setsFrom}
+use Rattle.sets.specs.declared.Tested.the-variants.{Passed}
 use Rattle.tag_file.specs.Format.{valueFrom, bytesOf, tagBytes}
 use Rattle.tag_file.specs.Reading.{readAt, tagsAt}
 use Rattle.tag_file.specs.Records.{records, recordsFrom, insert, insertAll, allTags, itemsOf}
@@ -25,7 +25,7 @@ file =
 rewritten-file : List ℕ
 rewritten-file = (0x4B ∷ 0x54 ∷ 0 ∷ 7 ∷ 2 ∷ []) ++ (tag 1 ++ tag 2) ++ (0x53 ∷ 0x4B ∷ 0 ∷ 9 ∷ 2 ∷ []) ++ (tag 1 ++ tag 2)
 
-example-accepted : fileFault file ≡ none
+example-accepted : fileFault file ≡ Passed
 unfolding file tag fileFault firstFault faultOf tooMany readAt tagsAt recordsFrom valueFrom insert insertAll allTags
     keep memb sum any prefix
 example-accepted = refl

@@ -4,7 +4,6 @@ use mathlib.Core.Path.{_≡_, refl, sym, ap, _∙_}
 use Prim.Native.Nat.{ℕ, _≤_}
 use mathlib.Core.List.{List, [], _∷_, _++_, map, append-assoc, append-nil, map-append}
 use mathlib.Core.Bool.{Bool, true, false, _&&_, _||_}
-use mathlib.Core.Option.{Option, none, some}
 use native.Mathlib.Nat.{le-trans}
 use native.Mathlib.Omega.{arith}
 use borrow.Author.Tests.{ltb-false, le-ltb}
@@ -18,10 +17,11 @@ use Rattle.lists.proofs.Summing.{sum-append}
 use Rattle.sets.specs.Limits.{maxItems, maxSets, maxEntries}
 use Rattle.sets.specs.declared.Side.{Side}
 use Rattle.sets.specs.declared.Side.the-variants.{Left, Right}
-use Rattle.sets.specs.declared.Refusal.{Refusal}
+use Rattle.sets.specs.declared.Tested.{Tested}
+use Rattle.sets.specs.declared.Tested.the-variants.{Passed}
 use Rattle.tag_file.specs.Records.{TagRecord, sameSide, ofSide, insertAll, allTags, tagTable, entriesOf}
-use Rattle.tag_file.specs.Loading.{numberUsed, tooMany, faultOf, earlier, firstFault, numbersOf}
-use Rattle.tag_file.proofs.FaultLaws.{fault-none, fault-clear}
+use Rattle.tag_file.specs.Loading.{numberUsed, tooMany, faultOf, firstFault, numbersOf}
+use Rattle.tag_file.proofs.FaultLaws.{both-passed, fault-none, fault-clear}
 use Rattle.tag_file.proofs.Tables.{insertAll-append, rising-collapse}
 use Rattle.tag_file.proofs.RecordLaws.{same-side}
 use Rattle.tag_round_trip.specs.Rewritten.{rewritten}
@@ -136,16 +136,12 @@ free-step seen r so unused few =
 
 -- ---- from no fault to what holds
 
-no-earlier : (first later : Option Refusal) → earlier first later ≡ none → (first ≡ none) × (later ≡ none)
-no-earlier none later e = (refl, e)
-no-earlier (some why) later e = let z : _≡_ {A = ℕ} 0 1 = cc in absurd (omega arith)
-
-pub free-from : (seen rs : List TagRecord) (last : Option Refusal) → FaultFree seen → firstFault seen rs last ≡ none
-    → FaultFree (seen ++ rs) × (last ≡ none)
+pub free-from : (seen rs : List TagRecord) (last : Tested) → FaultFree seen → firstFault seen rs last ≡ Passed
+    → FaultFree (seen ++ rs) × (last ≡ Passed)
 unfolding firstFault
 free-from seen [] last so e = (rw append-nil so, e)
 free-from seen (r ∷ rs) last so e =
-    let both = no-earlier (faultOf seen r) (firstFault (seen ++ (r ∷ [])) rs last) e in
+    let both = both-passed (faultOf seen r) (firstFault (seen ++ (r ∷ [])) rs last) e in
     let clear = fault-clear seen r (both .0) in
     let rest = free-from (seen ++ (r ∷ [])) rs last (free-step seen r so (clear .0) (clear .1)) (both .1) in
     (rw (append-assoc seen (r ∷ []) rs) at (rest .0), rest .1)
@@ -182,7 +178,7 @@ numbers-around seen r rs =
     ap (map (λ s. s .number)) (keep-append (λ s. sameSide (r .side) (s .side)) seen (r ∷ rs))
     ∙ rw (same-self (r .side)) (map-append (λ s. s .number) (ofSide (r .side) seen) (r ∷ ofSide (r .side) rs))
 
-pub free-none : (seen rs : List TagRecord) → FaultFree (seen ++ rs) → firstFault seen rs none ≡ none
+pub free-none : (seen rs : List TagRecord) → FaultFree (seen ++ rs) → firstFault seen rs Passed ≡ Passed
 unfolding firstFault
 free-none seen [] so = refl
 free-none seen (r ∷ rs) so =

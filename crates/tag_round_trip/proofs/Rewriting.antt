@@ -13,7 +13,7 @@ use Rattle.lists.proofs.Rising.{rising-same}
 use Rattle.sets.specs.declared.Side.{Side}
 use Rattle.sets.specs.declared.Side.the-variants.{Left, Right}
 use Rattle.tag_file.specs.Records.{TagRecord, sameSide, ofSide, collapse, allTags, tagTable, itemsOf, entriesOf, setsOfSide}
-use Rattle.tag_file.specs.Loading.{numbersOf, filled, countsOf}
+use Rattle.tag_file.specs.Loading.{numbersOf, filled, totalsOf}
 use Rattle.tag_file.proofs.Tables.{rising-collapse, memb-collapse}
 use Rattle.tag_round_trip.specs.Rewritten.{collapsed, collapsedSide, rewritten}
 use Rattle.tag_round_trip.proofs.Items.{items-collapse}
@@ -148,7 +148,7 @@ filled-rewritten rs =
       sets-rewritten Right rs (tagTable rs),
     )
 
-pub counts-rewritten : (rs : List TagRecord) → countsOf (rewritten rs) ≡ countsOf rs
+pub counts-rewritten : (rs : List TagRecord) → totalsOf (rewritten rs) ≡ totalsOf rs
 counts-rewritten rs =
     rw (
       table-rewritten rs,

@@ -5,7 +5,6 @@ use mathlib.Core.Path.{_≡_, refl, sym, ap, subst, _∙_}
 use Prim.Native.Nat.{ℕ, _≤_, _<_}
 use mathlib.Core.List.{List, [], _++_}
 use mathlib.Core.Bool.{Bool, true, false, cond}
-use mathlib.Core.Option.{none}
 use native.Mathlib.Omega.{arith}
 use borrow.Author.Tests.{leb-true}
 use lib.Dec.{leb}
@@ -13,6 +12,7 @@ use lib.ListN.{length, take, drop, getD}
 use lib.Seq.{take-at}
 use Rattle.sets.specs.declared.Side.the-variants.{Left, Right}
 use Rattle.sets.specs.declared.Refusal.the-variants.{ShortOutput}
+use Rattle.sets.specs.declared.Tested.the-variants.{Passed}
 use Rattle.tag_file.specs.declared.Loaded.{Loaded}
 use Rattle.tag_file.specs.declared.LoadAnswer.{LoadAnswer}
 use Rattle.tag_file.specs.declared.LoadAnswer.the-variants as load
@@ -21,16 +21,17 @@ use Rattle.tag_writer.specs.declared.WriteAnswer.the-variants as write
 use Rattle.tag_file.specs.Format.{tagBytes}
 use Rattle.tag_file.specs.Records.{TagRecord, records, tagTable, totalLength}
 use Rattle.tag_file.specs.Reading.{readAt}
-use Rattle.tag_file.specs.Loading.{Lists, filled, countsOf, fileFault, firstFault, refusalOf, roomFor, loadAnswer, numbersOf}
-use Rattle.tag_file.specs.Loading.{endsOf, joinedItems}
+use Rattle.tag_file.specs.Loading.{Lists, filled, totalsOf, fileFault, firstFault, refusalOf, roomFor, loadAnswer, numbersOf}
+use Rattle.tag_file.specs.Loading.{endsOf, joinedItems, listsAfter, LoadCall}
 use Rattle.tag_file.specs.declared.ReadAnswer.{ReadAnswer}
 use Rattle.tag_writer.specs.Writer.{writtenWithin, fileAfter}
 use Rattle.tag_writer.proofs.Answers.{answer-good, within}
 use Rattle.tag_file.proofs.ItemCount.{length-tagBytes}
+use Rattle.tag_file.proofs.AnswerLaws.{accepted, accepts, call-lists}
 use Rattle.tag_round_trip.specs.Rewritten.{bytesOfLists, rewritten}
-use Rattle.tag_round_trip.specs.Calls.{LoadCall, WriteCall}
-use Rattle.tag_round_trip.specs.Trips.{listsAfter, partsOf, loadedFrom, writeOf, writtenTo, Loads, Trip}
-use Rattle.tag_round_trip.proofs.Accepted.{accepted, accepts, parts-filled}
+use Rattle.tag_round_trip.specs.Calls.{WriteCall}
+use Rattle.tag_round_trip.specs.Trips.{partsOf, loadedFrom, writeOf, writtenTo, Loads, Trip}
+use Rattle.tag_round_trip.proofs.Accepted.{parts-filled}
 use Rattle.tag_round_trip.proofs.Faults.{FaultFree, free-from, free-nil, free-none, free-rewritten}
 use Rattle.tag_round_trip.proofs.FileRecords.{table-fit, file-fit, file-few}
 use Rattle.tag_round_trip.proofs.Refilled.{side-good, lists-records}
@@ -42,7 +43,7 @@ if-written : (b : Bool) (m n : ℕ) → cond b (write.Written m) (write.Refused 
 if-written true m n e = (refl, cc)
 if-written false m n e = let z : _≡_ {A = ℕ} 0 1 = cc in absurd (omega arith)
 
-module _ (file : List ℕ) (low : (i : ℕ) → getD file i 0 < 256) (clear : fileFault file ≡ none) where
+module _ (file : List ℕ) (low : (i : ℕ) → getD file i 0 < 256) (clear : fileFault file ≡ Passed) where
   free : FaultFree (records file)
   unfolding fileFault
   free = free-from [] (records file) (refusalOf (readAt file (totalLength (records file)))) free-nil clear .0
@@ -76,13 +77,13 @@ module _ (file : List ℕ) (low : (i : ℕ) → getD file i 0 < 256) (clear : fi
       written-records (filled (records file)) (tagBytes-low (tagTable (records file)))
       ∙ lists-records (records file) (table-fit (records file) (file-fit file low))
 
-  clear-again : fileFault (bytesOfLists (filled (records file))) ≡ none
+  clear-again : fileFault (bytesOfLists (filled (records file))) ≡ Passed
   unfolding fileFault
   clear-again =
       let bytes = bytesOfLists (filled (records file)) in
       ap (λ (a : ReadAnswer). firstFault [] (records bytes) (refusalOf a))
       (written-end (filled (records file)) (tagBytes-low (tagTable (records file))))
-      ∙ ap (λ (rs : List TagRecord). firstFault [] rs none) reads
+      ∙ ap (λ (rs : List TagRecord). firstFault [] rs Passed) reads
       ∙ free-none [] (rewritten (records file)) (free-rewritten (records file) free)
 
   filled-again : filled (records (bytesOfLists (filled (records file)))) ≡ filled (records file)
@@ -92,8 +93,8 @@ module _ (file : List ℕ) (low : (i : ℕ) → getD file i 0 < 256) (clear : fi
   pub bytes-again : bytesOfLists (filled (records (bytesOfLists (filled (records file))))) ≡ bytesOfLists (filled (records file))
   bytes-again = ap bytesOfLists filled-again
 
-  counts-again : countsOf (records (bytesOfLists (filled (records file)))) ≡ countsOf (records file)
-  counts-again = ap countsOf reads ∙ counts-rewritten (records file)
+  counts-again : totalsOf (records (bytesOfLists (filled (records file)))) ≡ totalsOf (records file)
+  counts-again = ap totalsOf reads ∙ counts-rewritten (records file)
 
   -- what the output list holds is the file
   written-bytes : (out : List ℕ) → length (bytesOfLists (filled (records file))) ≤ length out
@@ -105,10 +106,10 @@ module _ (file : List ℕ) (low : (i : ℕ) → getD file i 0 < 256) (clear : fi
 
   -- a load of that file
   loads-again : (lent : Lists) → roomFor (filled (records file)) lent ≡ true
-      → Loads (bytesOfLists (filled (records file))) lent (countsOf (records file)) (filled (records file))
+      → Loads (bytesOfLists (filled (records file))) lent (totalsOf (records file)) (filled (records file))
   loads-again lent room =
       let bytes = bytesOfLists (filled (records file)) in
-      let answer : loadAnswer bytes lent ≡ load.Loaded (countsOf (records bytes)) =
+      let answer : loadAnswer bytes lent ≡ load.Loaded (totalsOf (records bytes)) =
       accepts bytes lent clear-again (rw filled-again room) in
       record {
         answer = answer ∙ ap (λ (c : Loaded). load.Loaded c) counts-again;
@@ -117,7 +118,7 @@ module _ (file : List ℕ) (low : (i : ℕ) → getD file i 0 < 256) (clear : fi
       }
 
   trip-filled : (out : List ℕ) → length (bytesOfLists (filled (records file))) ≤ length out
-      → Trip (countsOf (records file)) (filled (records file)) out
+      → Trip (totalsOf (records file)) (filled (records file)) out
   trip-filled out enough =
       record {
         written = writes (length out) enough;
@@ -137,12 +138,12 @@ round-trip file lent counts low e out enough =
     → Trip c (loadedFrom file lent c) out)
     (so .counted) (own (so .clear)) e enough
   where
-    own : fileFault file ≡ none → loadAnswer file lent ≡ load.Loaded (countsOf (records file))
-        → length (bytesOfLists (loadedFrom file lent (countsOf (records file)))) ≤ length out
-        → Trip (countsOf (records file)) (loadedFrom file lent (countsOf (records file))) out
+    own : fileFault file ≡ Passed → loadAnswer file lent ≡ load.Loaded (totalsOf (records file))
+        → length (bytesOfLists (loadedFrom file lent (totalsOf (records file)))) ≤ length out
+        → Trip (totalsOf (records file)) (loadedFrom file lent (totalsOf (records file))) out
     own clear e enough =
         let same = parts-filled file lent e in
-        subst (λ (l : Lists). Trip (countsOf (records file)) l out) (sym same)
+        subst (λ (l : Lists). Trip (totalsOf (records file)) l out) (sym same)
         (trip-filled file low clear out (subst (λ (l : Lists). length (bytesOfLists l) ≤ length out) same enough))
 
 -- the same of three calls, by what their contracts say: a load that is accepted, a write of what it filled that is accepted,
@@ -160,7 +161,7 @@ calls-round-trip file lent got counts out wrote n again more answer low first se
     let so = accepted file lent counts e in
     let own = e ∙ ap (λ (c : Loaded). load.Loaded c) (sym (so .counted)) in
     let same : partsOf counts got ≡ filled rs =
-    ap (partsOf counts) (first .lists) ∙ ap (loadedFrom file lent) (sym (so .counted)) ∙ parts-filled file lent own in
+    ap (partsOf counts) (call-lists first) ∙ ap (loadedFrom file lent) (sym (so .counted)) ∙ parts-filled file lent own in
     let wrote-it : writeOf (length (tagTable rs)) (filled rs) (length out) ≡ write.Written n =
     ap (λ (c : Loaded). writeOf (c .tags) (filled rs) (length out)) (so .counted)
     ∙ ap (λ (l : Lists). writeOf (counts .tags) l (length out)) (sym same) ∙ sym (second .answered) in
@@ -173,6 +174,6 @@ calls-round-trip file lent got counts out wrote n again more answer low first se
     let loads = loads-again file low (so .clear) again (ap (λ (l : Lists). roomFor l again) (sym same) ∙ room) in (
       third .answered ∙ ap (λ (f : List ℕ). loadAnswer f again) output ∙ loads .answer
           ∙ ap (λ (c : Loaded). load.Loaded c) (so .counted),
-      ap (partsOf counts) (third .lists) ∙ ap (λ (f : List ℕ). partsOf counts (listsAfter f again)) output
+      ap (partsOf counts) (call-lists third) ∙ ap (λ (f : List ℕ). partsOf counts (listsAfter f again)) output
           ∙ ap (loadedFrom bytes again) (sym (so .counted)) ∙ loads .lists ∙ sym same,
     )

@@ -1,5 +1,5 @@
--- What the statement of the round trip is made of: the seven lists after a load, the part of each that was filled, and the
--- writer's answer and output over such lists. Document 01, "Tag file", "What loader and writer don't fill is as before".
+-- What the statement of the round trip is made of: the part of each of the seven lists that was filled, and the writer's answer
+-- and output over such lists. Document 01, "Tag file", "What loader and writer don't fill is as before".
 use mathlib.Core.Path.{_≡_}
 use Prim.Native.Nat.{ℕ, _*_}
 use mathlib.Core.List.{List}
@@ -10,23 +10,9 @@ use Rattle.tag_file.specs.declared.LoadAnswer.the-variants as load
 use Rattle.tag_writer.specs.declared.WriteAnswer.{WriteAnswer}
 use Rattle.tag_writer.specs.declared.WriteAnswer.the-variants as write
 use Rattle.tag_file.specs.Format.{tagLength}
-use Rattle.tag_file.specs.Records.{records}
-use Rattle.tag_file.specs.Loading.{Lists, filled, roomFor, loadAnswer, lentAfter}
+use Rattle.tag_file.specs.Loading.{Lists, roomFor, loadAnswer, listsAfter}
 use Rattle.tag_writer.specs.Writer.{writeAnswer, fileAfter}
 use Rattle.tag_round_trip.specs.Rewritten.{bytesOfLists}
-
--- the seven lent lists after a load, as the loader's contract has them
-abbrev pub listsAfter : List ℕ → Lists → Lists
-listsAfter file lent =
-    record {
-      tags = lentAfter (loadAnswer file lent) (filled (records file) .tags) (lent .tags);
-      leftNumbers = lentAfter (loadAnswer file lent) (filled (records file) .leftNumbers) (lent .leftNumbers);
-      leftEnds = lentAfter (loadAnswer file lent) (filled (records file) .leftEnds) (lent .leftEnds);
-      leftItems = lentAfter (loadAnswer file lent) (filled (records file) .leftItems) (lent .leftItems);
-      rightNumbers = lentAfter (loadAnswer file lent) (filled (records file) .rightNumbers) (lent .rightNumbers);
-      rightEnds = lentAfter (loadAnswer file lent) (filled (records file) .rightEnds) (lent .rightEnds);
-      rightItems = lentAfter (loadAnswer file lent) (filled (records file) .rightItems) (lent .rightItems);
-    }
 
 -- the parts of seven lists that a load with these counts filled
 abbrev pub partsOf : Loaded → Lists → Lists

@@ -16,7 +16,7 @@ use Rattle.sets.specs.declared.Side.{Side}
 use Rattle.sets.specs.declared.Side.the-variants.{Left, Right}
 use Rattle.tag_file.specs.declared.Loaded.{Loaded}
 use Rattle.tag_file.specs.Records.{TagRecord, sameSide, ofSide, insertAll, collapse, allTags, tagTable, entriesOf}
-use Rattle.tag_file.specs.Loading.{tooMany, countsOf}
+use Rattle.tag_file.specs.Loading.{tooMany, totalsOf}
 use Rattle.tag_file.proofs.Tables.{insertAll-append}
 use Rattle.tag_scan.specs.Scan.{grownBy, isOver, Limited}
 
@@ -55,10 +55,10 @@ module _ (side : Side) (rs : List TagRecord) (r : TagRecord) where
 -- the counts grow by the record's
 pub grown-counts : (rs : List TagRecord) (r : TagRecord) (tags fresh : ℕ)
     → tags ≡ length (tagTable (rs ++ (r ∷ []))) → fresh ≡ length (collapse (r .tags))
-    → grownBy (countsOf rs) (r .side) tags fresh ≡ countsOf (rs ++ (r ∷ []))
+    → grownBy (totalsOf rs) (r .side) tags fresh ≡ totalsOf (rs ++ (r ∷ []))
 grown-counts rs r tags fresh et ef = by-side (r .side) refl
   where
-    by-side : (s : Side) → r .side ≡ s → grownBy (countsOf rs) s tags fresh ≡ countsOf (rs ++ (r ∷ []))
+    by-side : (s : Side) → r .side ≡ s → grownBy (totalsOf rs) s tags fresh ≡ totalsOf (rs ++ (r ∷ []))
     by-side Left e =
         rw (
           sets-same Left rs r (ap (sameSide Left) e),
@@ -80,7 +80,7 @@ pub grown-tags : (t : Loaded) (side : Side) (tags fresh : ℕ) → grownBy t sid
 grown-tags t Left tags fresh = refl
 grown-tags t Right tags fresh = refl
 
-pub over-tooMany : (side : Side) (rs : List TagRecord) → isOver (countsOf rs) side ≡ tooMany side rs
+pub over-tooMany : (side : Side) (rs : List TagRecord) → isOver (totalsOf rs) side ≡ tooMany side rs
 unfolding tooMany
 over-tooMany Left rs = refl
 over-tooMany Right rs = refl

@@ -2,20 +2,22 @@
 use mathlib.Core.Path.{_≡_, refl, sym, ap, subst, _∙_}
 use mathlib.Core.List.{List, [], _∷_, _++_, append-nil, append-assoc}
 use mathlib.Core.Bool.{true, false}
-use mathlib.Core.Option.{Option, none, some}
 use Prim.Native.Nat.{ℕ, _+_, _-_, _<_, _≤_}
 use native.Mathlib.Omega.{arith}
 use lib.ListN.{length, getD}
 use Rattle.lists.specs.Lists.{keep, sum, rising}
 use Rattle.bit_sets.specs.BitSets.{member, Inserted}
+use Rattle.sets.specs.Refusals.{unless}
 use Rattle.sets.specs.declared.Side.{Side}
 use Rattle.sets.specs.declared.Refusal.{Refusal}
 use Rattle.sets.specs.declared.Refusal.the-variants.{NumberUsed, TooMany}
+use Rattle.sets.specs.declared.Tested.{Tested}
+use Rattle.sets.specs.declared.Tested.the-variants.{Passed, Failed}
 use Rattle.tag_file.specs.declared.Loaded.{Loaded}
 use Rattle.tag_file.specs.declared.LoadAnswer.the-variants as load
 use Rattle.tag_file.specs.Reading.{readAt, tagsAt}
 use Rattle.tag_file.specs.Records.{TagRecord, totalLength, recordsAt, records, insertAll, allTags, tagTable}
-use Rattle.tag_file.specs.Loading.{numberUsed, tooMany, faultOf, earlier, firstFault, refusalOf, fileFault, countsOf, unless}
+use Rattle.tag_file.specs.Loading.{numberUsed, tooMany, faultOf, firstFault, refusalOf, fileFault, totalsOf}
 use Rattle.tag_file.specs.declared.ReadAnswer.{ReadAnswer}
 use Rattle.tag_file.specs.declared.ReadAnswer.the-variants.{Record, Refused}
 use Rattle.tag_file.proofs.FaultLaws.{fault-used, fault-past, fault-none}
@@ -28,7 +30,7 @@ use Rattle.tag_scan.proofs.Numbers.{Noted, noted-step, noted-tells}
 use Rattle.tag_scan.proofs.Counting.{tagTable-last, grown-counts, grown-tags, over-tooMany, limited-grown}
 
 -- what the reading of a file ends with
-abbrev pub lastRefusal : List ℕ → Option Refusal
+abbrev pub lastRefusal : List ℕ → Tested
 lastRefusal file = refusalOf (readAt file (totalLength (records file)))
 
 pub record Scanning (file used heads tails order places : List ℕ) (total : Loaded) (at : ℕ) : Type 0 where
@@ -42,11 +44,11 @@ pub record Scanning (file used heads tails order places : List ℕ) (total : Loa
   pub wide : length places ≡ 4352
   pub before : (id : ℕ) → id < total .tags → getD places id 0 < at
   pub table : tableOf heads tails (total .tags) order ≡ tagTable seen
-  pub counts : total ≡ countsOf seen
+  pub counts : total ≡ totalsOf seen
   pub limited : Limited total
 
 pub scanning-start : (file used heads tails order places : List ℕ) (total : Loaded) → Lengths heads tails order
-    → length places ≡ 4352 → Noted used [] → total ≡ countsOf [] → Scanning file used heads tails order places total 0
+    → length places ≡ 4352 → Noted used [] → total ≡ totalsOf [] → Scanning file used heads tails order places total 0
 unfolding fileFault sum tableOf rising insertAll allTags keep
 scanning-start file used heads tails order places total l wide noted e =
     let zero-tags : total .tags ≡ 0 = ap (λ (t : Loaded). t .tags) e in
@@ -82,29 +84,29 @@ scanning-start file used heads tails order places total l wide noted e =
     }
 
 -- a fault is what the file is refused with
-pub refused : {file heads tails order : List ℕ} (why : Refusal) → fileFault file ≡ some why
+pub refused : {file heads tails order : List ℕ} (why : Refusal) → fileFault file ≡ Failed why
     → Scanned file heads tails order (load.Refused why)
 refused why e =
     record { answer = rw e; index = λ n. never (sym e ∙ n); limited = λ n. never (sym e ∙ n) }
   where
-    never : {A : Type 0} {w : Refusal} → some w ≡ none → A
+    never : {A : Type 0} {w : Refusal} → Failed w ≡ Passed → A
     never e = let z : _≡_ {A = ℕ} 0 1 = cc in absurd (omega arith)
 
 module _ {file used heads tails order places : List ℕ} {total : Loaded} {at : ℕ}
     (s : Scanning file used heads tails order places total at) where
   -- the reading ended: there are no records from here on
   pub scanning-stop : (a : ReadAnswer) → readAt file at ≡ a → recordsAt file at ≡ []
-      → Scanned file heads tails order (unless (refusalOf a) (load.Loaded total))
+      → Scanned file heads tails order (unless load.Refused (refusalOf a) (load.Loaded total))
   unfolding firstFault
   scanning-stop a e stop =
       record {
-        answer = ap (λ (o : Option Refusal). unless o (load.Loaded total)) (sym ends)
-            ∙ ap (λ (t : Loaded). unless (fileFault file) (load.Loaded t)) (s .counts ∙ ap countsOf (sym all));
+        answer = ap (λ (t : Tested). unless load.Refused t (load.Loaded total)) (sym ends)
+            ∙ ap (λ (t : Loaded). unless load.Refused (fileFault file) (load.Loaded t)) (s .counts ∙ ap totalsOf (sym all));
         index = λ n. record {
           sorted = subst (λ (k : ℕ). Sorted heads tails k order) size (s .sorted);
           table = ap (λ (k : ℕ). tableOf heads tails k order) (sym size) ∙ s .table ∙ ap tagTable (sym all);
         };
-        limited = λ n. subst (λ (t : Loaded). Limited t) (s .counts ∙ ap countsOf (sym all)) (s .limited);
+        limited = λ n. subst (λ (t : Loaded). Limited t) (s .counts ∙ ap totalsOf (sym all)) (s .limited);
       }
     where
       all : records file ≡ s .seen
@@ -124,7 +126,7 @@ module _ {file used heads tails order places : List ℕ} {total : Loaded} {at : 
     this = record { side = side; number = n; tags = tagsAt c file p }
 
     here : fileFault file
-        ≡ earlier (faultOf (s .seen) this) (firstFault (s .seen ++ (this ∷ [])) (recordsAt file next) (lastRefusal file))
+        ≡ unless Failed (faultOf (s .seen) this) (firstFault (s .seen ++ (this ∷ [])) (recordsAt file next) (lastRefusal file))
     unfolding firstFault
     here =
         s .fault
@@ -148,12 +150,12 @@ module _ {file used heads tails order places : List ℕ} {total : Loaded} {at : 
     scanning-tells small = sym (noted-tells this small (s .noted))
 
     -- the record's number was used
-    pub scanning-used : numberUsed (s .seen) this ≡ true → fileFault file ≡ some (NumberUsed at)
+    pub scanning-used : numberUsed (s .seen) this ≡ true → fileFault file ≡ Failed (NumberUsed at)
     scanning-used t = here ∙ rw (fault-used (s .seen) this t, ← s .place)
 
     -- the record passes a limit
     pub scanning-past : numberUsed (s .seen) this ≡ false → tooMany side (s .seen ++ (this ∷ [])) ≡ true
-        → fileFault file ≡ some (TooMany at)
+        → fileFault file ≡ Failed (TooMany at)
     scanning-past f t = here ∙ rw (fault-past (s .seen) this f t, ← s .place)
 
     pub scanning-ready : c < 256 → Ready file p c (total .tags) heads tails order places
@@ -173,7 +175,7 @@ module _ {file used heads tails order places : List ℕ} {total : Loaded} {at : 
       table-next =
           added .table ∙ ap (λ (l : List ℕ). insertAll l (tagsAt c file p)) (s .table) ∙ sym (tagTable-last (s .seen) this)
 
-      counts-next : grownBy total side tags fresh ≡ countsOf (s .seen ++ (this ∷ []))
+      counts-next : grownBy total side tags fresh ≡ totalsOf (s .seen ++ (this ∷ []))
       counts-next =
           ap (λ (t : Loaded). grownBy t side tags fresh) (s .counts)
           ∙ grown-counts (s .seen) this tags fresh

@@ -3,18 +3,19 @@ use Prim.Native.Nat.{ℕ, _+_, _≤_}
 use mathlib.Core.Path.{_≡_}
 use mathlib.Core.List.{List}
 use mathlib.Core.Bool.{Bool, _||_}
-use mathlib.Core.Option.{none}
 use lib.Dec.{ltb}
 use lib.ListN.{length}
 use Rattle.bit_sets.specs.BitSets.{member, Inserted}
 use Rattle.sets.specs.Limits.{maxItems, maxSets, maxEntries}
+use Rattle.sets.specs.Refusals.{unless}
 use Rattle.sets.specs.declared.Side.{Side}
 use Rattle.sets.specs.declared.Side.the-variants.{Left, Right}
+use Rattle.sets.specs.declared.Tested.the-variants.{Passed}
 use Rattle.tag_file.specs.declared.Loaded.{Loaded}
 use Rattle.tag_file.specs.declared.LoadAnswer.{LoadAnswer}
 use Rattle.tag_file.specs.declared.LoadAnswer.the-variants as load
 use Rattle.tag_file.specs.Records.{records, tagTable}
-use Rattle.tag_file.specs.Loading.{fileFault, countsOf, unless}
+use Rattle.tag_file.specs.Loading.{fileFault, totalsOf}
 use Rattle.tag_index.specs.Index.{tableOf, Sorted}
 
 -- where the loader notes that a number was used by a side
@@ -76,6 +77,6 @@ pub record Indexed (file heads tails order : List ℕ) : Type 0 where
 
 -- the first pass: the first fault of the file, or its counts; and then the index of its tags
 pub record Scanned (file heads tails order : List ℕ) (r : LoadAnswer) : Type 0 where
-  pub answer : r ≡ unless (fileFault file) (load.Loaded (countsOf (records file)))
-  pub index : fileFault file ≡ none → Indexed file heads tails order
-  pub limited : fileFault file ≡ none → Limited (countsOf (records file))
+  pub answer : r ≡ unless load.Refused (fileFault file) (load.Loaded (totalsOf (records file)))
+  pub index : fileFault file ≡ Passed → Indexed file heads tails order
+  pub limited : fileFault file ≡ Passed → Limited (totalsOf (records file))

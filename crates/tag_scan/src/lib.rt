@@ -12,8 +12,9 @@ use tag_index::add_tags;
 ghost use mathlib.Core.Path.{_≡_};
 ghost use Prim.Native.Nat.{_≤_};
 ghost use lib.ListN.{length};
-ghost use Rattle.tag_file.specs.declared.LoadAnswer.the-variants.{Loaded as Accepted};
-ghost use Rattle.tag_file.specs.Loading.{refusalOf, unless};
+ghost use Rattle.sets.specs.Refusals.{unless};
+ghost use Rattle.tag_file.specs.declared.LoadAnswer.the-variants.{Loaded as Accepted, Refused as Rejected};
+ghost use Rattle.tag_file.specs.Loading.{refusalOf};
 ghost use Rattle.tag_scan.specs.Scan.{keyOf, Claimed, grownBy, passes, isOver, Limited, Lengths, Scanned};
 
 // Where a side's number is noted.
@@ -81,7 +82,7 @@ fn is_over(total: Loaded, side: Side) -> bool
 
 // What the first pass answers where the reading ended: the reader's refusal, or the counts.
 fn stopped(answer: ReadAnswer, total: Loaded) -> LoadAnswer
-    ensures { λ r. ⌜ r ≡ unless (refusalOf answer) (Accepted total) ⌝ }
+    ensures { λ r. ⌜ r ≡ unless Rejected (refusalOf answer) (Accepted total) ⌝ }
 {
     match answer {
         ReadAnswer::Refused(why) => LoadAnswer::Refused(why),

@@ -1,7 +1,7 @@
 -- `kitfinder_load` meets its contract: the words of the answer, and the seven lists that the loader leaves.
 use mathlib.Core.Path.{ap, _∙_}
-use Rattle.kitfinder.specs.Words.{loadWords}
-use Rattle.kitfinder.proofs.Lent.{list-after}
+use Rattle.tag_file.specs.Loading.{loadWords}
+use Rattle.tag_file.proofs.AnswerLaws.{call-defined}
 use borrow.Author.Needs.{needs}
 use Rattle.kitfinder.proofs.kitfinder_load.Statement.{statement}
 use Rattle.kitfinder.proofs.kitfinder_load.Tie as tie
@@ -38,15 +38,7 @@ returns c =
     let loaded =
     c .before .before .before .before .before .before .before .before .before .before .before .before .before .before .before in
     let given = loaded .load .ensures in
-    let e = given .0 in
-    let l1 = list-after _ _ e (given .1 .0) in
-    let l2 = list-after _ _ e (given .1 .1 .0) in
-    let l3 = list-after _ _ e (given .1 .1 .1 .0) in
-    let l4 = list-after _ _ e (given .1 .1 .1 .1 .0) in
-    let l5 = list-after _ _ e (given .1 .1 .1 .1 .1 .0) in
-    let l6 = list-after _ _ e (given .1 .1 .1 .1 .1 .1 .0) in
-    let l7 = list-after _ _ e (given .1 .1 .1 .1 .1 .1 .1) in
-    (c .load-words .ensures ∙ ap loadWords e, (l1, (l2, (l3, (l4, (l5, (l6, l7)))))))
+    (c .load-words .ensures ∙ ap loadWords (given .answered), call-defined given)
 
 pub kitfinder-load-spec : {M : Type 1} → statement M
 kitfinder-load-spec =

@@ -1,6 +1,7 @@
 -- `list_file` is safe: what was loaded lies within the lists.
 use mathlib.Core.Path.{sym, _∙_}
 use native.Mathlib.Omega.{arith}
+use Rattle.tag_file.specs.Loading.{listsOf}
 use Rattle.kitlist.proofs.LoadedRoom.{loaded-within, within-kept}
 use borrow.Author.Needs.{needs}
 use Rattle.kitlist.proofs.list_file.Statement.{statement}
@@ -85,14 +86,18 @@ list-counted-requires c κs =
     let made = loaded .before .before .before .before .before .before .before .before in
     let load = loaded .load in
     let ranks = made .new-places3 in
+    let right-items = made .before .new-items2 in
     let right-ends = made .before .before .new-ends2 in
     let right-numbers = made .before .before .before .new-places2 in
+    let left-items = made .before .before .before .before .new-items in
     let left-ends = made .before .before .before .before .before .new-ends in
     let left-numbers = made .before .before .before .before .before .before .new-places in
     let tags = made .before .before .before .before .before .before .before .new-tags in
     within-kept _ _ _ _ _ _
-    (loaded-within _ (tags .result) (left-numbers .result) (left-ends .result) _ (right-numbers .result) (right-ends .result) _
-    (ranks .result) _ (sym (load .ensures .0) ∙ told .answer .given .1)
+    (loaded-within _
+    (listsOf (tags .result) (left-numbers .result) (left-ends .result) (left-items .result)
+    (right-numbers .result) (right-ends .result) (right-items .result))
+    (ranks .result) _ (sym (load .ensures .answered) ∙ told .answer .given .1)
     (omega (arith, tags .ensures)) (omega (arith, ranks .ensures)))
     (load .kept .1 .1 .0) (load .kept .1 .1 .1 .0) (load .kept .1 .1 .1 .1 .1 .0) (load .kept .1 .1 .1 .1 .1 .1 .0)
 

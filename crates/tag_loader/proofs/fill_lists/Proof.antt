@@ -4,7 +4,7 @@ use mathlib.Core.List.{List}
 use Prim.Native.Nat.{ℕ}
 use lib.ListN.{length-replicate}
 use Rattle.tag_file.specs.Format.{tagBytes}
-use Rattle.tag_fill.specs.Fill.{filledWith}
+use Rattle.sets.specs.Lent.{filledOver}
 use Rattle.tag_loader.proofs.Rooms.{sorted-here, table-here, tags-room, left-ready, right-ready}
 use borrow.Author.Needs.{needs}
 use Rattle.tag_loader.proofs.fill_lists.Statement.{statement}
@@ -64,7 +64,7 @@ returns c =
     let r = at-right .fill-side2 .ensures in
     record {
       tags-filled = at-tags .fill-tags .ensures
-          ∙ ap (λ (t : List ℕ). filledWith (tagBytes t) (start .args .tags .now)) (table-here (start .pre));
+          ∙ ap (λ (t : List ℕ). filledOver (tagBytes t) (start .args .tags .now)) (table-here (start .pre));
       leftNumbers-filled = l .0;
       leftEnds-filled = l .1 .0;
       leftItems-filled = l .1 .1;

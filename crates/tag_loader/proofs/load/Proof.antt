@@ -1,8 +1,5 @@
 -- `tag_loader::load` meets its contract: by the three ends of `Answers`.
-use mathlib.Core.Path.{sym, _∙_}
-use borrow.Author.Tests.{not-true, not-false}
-use Rattle.tag_loader.proofs.Answers.{answer-refused, zeros-refused, answer-sound, sound-limited}
-use Rattle.tag_loader.proofs.Answers.{answer-short, answer-loaded, answer-fillable}
+use Rattle.tag_loader.proofs.Answers.{call-fault, sound-limited, call-short, room-fillable, call-loaded}
 use borrow.Author.Needs.{needs}
 use Rattle.tag_loader.proofs.load.Statement.{statement}
 use Rattle.tag_loader.proofs.load.Tie as tie
@@ -47,31 +44,12 @@ returns c =
     let at-told = at-clear .before .before .before .before .before .before .before .before in
     let at-scan = at-told .before .before in
     let told = at-told .enum-told .given in
-    let e = told .1 in
-    let z = at-clear .clear-lists .ensures in (
-      answer-refused (told .0 .0) (at-scan .scan .ensures) e _,
-      (
-        zeros-refused e _ _ _ (z .tags-zero),
-        (
-          zeros-refused e _ _ _ (z .left .numbers-zero),
-          (
-            zeros-refused e _ _ _ (z .left .ends-zero),
-            (
-              zeros-refused e _ _ _ (z .left .items-zero),
-              (
-                zeros-refused e _ _ _ (z .right .numbers-zero),
-                (zeros-refused e _ _ _ (z .right .ends-zero), zeros-refused e _ _ _ (z .right .items-zero)),
-              ),
-            ),
-          ),
-        ),
-      ),
-    )
+    call-fault (told .0 .0) (at-scan .scan .ensures) (told .1) (at-clear .clear-lists .ensures)
 
 has-room-requires : tie.Need-has-room-requires
 has-room-requires c κs =
     let at-scan = c .before .before .before in
-    sound-limited (at-scan .scan .ensures) (answer-sound (at-scan .scan .ensures) (c .before .answer .given .1))
+    sound-limited (at-scan .scan .ensures) (c .before .answer .given .1)
 
 clear-lists-requires-2 : tie.Need-clear-lists-requires-2
 clear-lists-requires-2 c κs = search needs
@@ -105,14 +83,9 @@ returns-2 c =
     let at-room = at-if1 .before in
     let at-answer = at-room .before .before in
     let at-scan = at-answer .before .before in
-    let sound = answer-sound (at-scan .scan .ensures) (at-answer .answer .given .1) in
-    let z = at-clear .clear-lists2 .ensures in
-    let l = z .left in
-    let r = z .right in (
-      answer-short sound _ _ _ _ _ _ _
-          (sym (at-room .has-room .ensures) ∙ not-true (at-room .has-room .result) (at-if1 .if1 .taken)),
-      (z .tags-zero, (l .numbers-zero, (l .ends-zero, (l .items-zero, (r .numbers-zero, (r .ends-zero, r .items-zero)))))),
-    )
+    call-short (at-scan .scan .ensures) (at-answer .answer .given .1) _
+    (at-room .has-room .ensures) (at-if1 .if1 .taken)
+    (at-clear .clear-lists2 .ensures)
 
 fill-lists-requires : tie.Need-fill-lists-requires
 fill-lists-requires c κs =
@@ -120,12 +93,8 @@ fill-lists-requires c κs =
     let at-room = at-if1 .before in
     let at-answer = at-room .before .before in
     let at-scan = at-answer .before .before in
-    let start = at-scan .before .before .before .before .before .before .before .before .before .before .before .before .before in
-    let a = start .args in
-    let sound = answer-sound (at-scan .scan .ensures) (at-answer .answer .given .1) in
-    answer-fillable sound (a .tags .now) (a .left-numbers .now) (a .left-ends .now) (a .left-items .now)
-    (a .right-numbers .now) (a .right-ends .now) (a .right-items .now) (at-scan .scan .ensures)
-    (sym (at-room .has-room .ensures) ∙ not-false (at-room .has-room .result) (at-if1 .if1 .left))
+    room-fillable (at-scan .scan .ensures) (at-answer .answer .given .1) _
+    (at-room .has-room .ensures) (at-if1 .if1 .left)
 
 same-length-15 : tie.Need-same-length-15
 same-length-15 c = search needs
@@ -156,18 +125,9 @@ returns-3 c =
     let at-room = at-if1 .before in
     let at-answer = at-room .before .before in
     let at-scan = at-answer .before .before in
-    let sound = answer-sound (at-scan .scan .ensures) (at-answer .answer .given .1) in
-    let z = at-fill .fill-lists .ensures in (
-      answer-loaded sound _ _ _ _ _ _ _
-          (sym (at-room .has-room .ensures) ∙ not-false (at-room .has-room .result) (at-if1 .if1 .left)),
-      (
-        z .tags-filled,
-        (
-          z .leftNumbers-filled,
-          (z .leftEnds-filled, (z .leftItems-filled, (z .rightNumbers-filled, (z .rightEnds-filled, z .rightItems-filled)))),
-        ),
-      ),
-    )
+    call-loaded (at-scan .scan .ensures) (at-answer .answer .given .1) _
+    (at-room .has-room .ensures) (at-if1 .if1 .left)
+    (at-fill .fill-lists .ensures)
 
 pub load-spec : {M : Type 1} → statement M
 load-spec =
