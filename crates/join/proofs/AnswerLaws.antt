@@ -1,6 +1,6 @@
 -- After the walk: it can begin over the index that was built, the pairs are those by path and those confirmed, and its counters
 -- make the answer.
-use Prim.Native.Nat.{ℕ, _+_, _*_, _≤_, _<_}
+use Prim.Native.Nat.{ℕ, _+_, _*_, _^_, _≤_, _<_}
 use mathlib.Core.Path.{_≡_, refl, sym, ap, _∙_}
 use mathlib.Core.List.{List}
 use mathlib.Core.Bool.{Bool, true, false, cond}
@@ -23,7 +23,7 @@ use Rattle.join_spec.specs.Counting.{total, checksOf, countsOf, isByPath, isCon
 use Rattle.join_spec.specs.Kinds.{pathPair, confirmedCheck, droppedCheck, falseCheck}
 use Rattle.join_spec.specs.Answer.{walkAnswer, workKept}
 use Rattle.join_spec.proofs.Demand.{pairs-met, checks-end, total-small}
-use Rattle.join_spec.proofs.Accepted.{spent-above, within-joined}
+use Rattle.join_spec.proofs.Accepted.{Tests, spent-above, within-joined}
 use Rattle.sets.proofs.Between.{length-sets}
 use Rattle.inputs.proofs.TestLaws.{words-for}
 use Rattle.join_index.specs.Building.{BuildRoom}
@@ -65,7 +65,7 @@ walk-uses q budget room is = ap workKept is ∙ go (ltb budget (checksOf q)) (lt
     go false true = refl
     go false false = refl
 
-module _ {i : Input} {limit : ℕ} {ranks w₀ : List ℕ} (ok : Accepted i limit ranks w₀) (rule : Rule) where
+module _ {i : Input} {limit : ℕ} {ranks : List ℕ} {words : ℕ} (ok : Tests i limit ranks words) (rule : Rule) where
   abbrev q : Query
   q = queryBy i limit ranks rule
 
@@ -117,8 +117,8 @@ module _ {i : Input} {limit : ℕ} {ranks w₀ : List ℕ} (ok : Accepted i limi
     walk-made {budget} made = made q (walk-ready budget)
 
 -- what the walk's counters give
-module _ {i : Input} {limit : ℕ} {ranks w₀ : List ℕ} {rule : Rule} {lay : Layout} {budget : ℕ} {w w′ : List ℕ} {r : Walked}
-    (ok : Accepted i limit ranks w₀) (done : WalkDone lay (queryBy i limit ranks rule) budget w w′ r) where
+module _ {i : Input} {limit : ℕ} {ranks : List ℕ} {words : ℕ} {rule : Rule} {lay : Layout} {budget : ℕ} {w w′ : List ℕ}
+    {r : Walked} (ok : Tests i limit ranks words) (done : WalkDone lay (queryBy i limit ranks rule) budget w w′ r) where
   abbrev asked : Query
   asked = queryBy i limit ranks rule
 
