@@ -1,5 +1,5 @@
--- The right sets that contain a left set, and the pairs that they make. Document 01, "The run": the pair list has two 16-bit
--- places per pair, kit then stack, rising by kit, then stack.
+-- Inner: the right sets that contain a left set, and the pairs that they make. Document 01, "The run": the pair list has two
+-- 16-bit places per pair, kit then stack, rising by kit, then stack.
 use Prim.Native.Nat.{ℕ, _≤_, _<_}
 use mathlib.Core.Path.{_≡_}
 use mathlib.Core.List.{List, [], _∷_}

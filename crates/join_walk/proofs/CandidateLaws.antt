@@ -108,8 +108,8 @@ module _ {lay : Layout} {q : Query} {path w : List ℕ} {d lo hi : ℕ} (cands :
     pub slot-apart : Apart hi (lay .index + first) (lay .index + last) (lay .slots + first) w
     slot-apart =
         record {
-          left = omega (arith, cands .below, at-first);
-          right = omega (arith, inverted-holds .within);
+          first = omega (arith, cands .below, at-first);
+          second = omega (arith, inverted-holds .within);
           room = omega (arith, slot-room, inverted-holds .rise);
         }
 

@@ -144,7 +144,8 @@ module _ {w₀ : List ℕ} {a b c e out : ℕ} where
             right = rising-next j e w₀ other rightIn (s .right);
             is =
                 ap (λ (k : ℕ). slice out k (set w n (getD w i 0)) ++ shared w₀ (i + 1) b (j + 1) e) (add-one n)
-                ∙ ap (λ (l : List ℕ). l ++ shared w₀ (i + 1) b (j + 1) e) (slice-set-end out n w (getD w i 0) (s .low) (sharing-rooms .next))
+                ∙ ap (λ (l : List ℕ). l ++ shared w₀ (i + 1) b (j + 1) e)
+                (slice-set-end out n w (getD w i 0) (s .low) (sharing-rooms .next))
                 ∙ append-snoc (slice out n w) (getD w i 0) (shared w₀ (i + 1) b (j + 1) e)
                 ∙ ap (λ (l : List ℕ). slice out n w ++ l)
                 (ap (λ (y : ℕ). y ∷ shared w₀ (i + 1) b (j + 1) e) x-same

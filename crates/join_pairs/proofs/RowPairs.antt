@@ -84,7 +84,7 @@ pub pairs-none : (q : Query) (k : ℕ) → length (q .lefts) ≤ k → pairsFrom
 unfolding pairsFrom
 pairs-none q k past = rw (drop-of-length-le (q .lefts) {i = k} past)
 
-module _ (lay : Layout) (q : Query) (w : List ℕ) (k : ℕ) (there : LeftThere lay q w k) where
+module _ {lay : Layout} {q : Query} {w : List ℕ} {k : ℕ} (there : LeftThere lay q w k) where
   -- a left set without ranks is contained in every right set
   pub row-empty : leftAt q k ≡ [] → rowAt q k ≡ pairsWith k (upto (length (q .rights)))
   row-empty none =

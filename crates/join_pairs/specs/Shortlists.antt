@@ -1,5 +1,5 @@
--- Candidates for a left set: right sets holding one of its ranks, narrowed by its other ranks. All places are those of right
--- sets, in a part of the work list; what is narrowed stands in the slots.
+-- Inner: candidates for a left set: right sets holding one of its ranks, cut down by its other ranks. All places are those of
+-- right sets, in a part of the work list; what is cut down stands in the slots.
 use Prim.Native.Nat.{ℕ, _+_, _≤_}
 use mathlib.Core.Path.{_≡_}
 use mathlib.Core.List.{List}
@@ -12,11 +12,11 @@ use Rattle.join_index.specs.Grouping.{rightAt}
 use Rattle.join_index.specs.declared.Layout.{Layout}
 use Rattle.join_check.specs.Asking.{Index, PlacesThere}
 use Rattle.join_pairs.specs.declared.candidates.Span.{Span}
-use Rattle.join_pairs.specs.declared.candidates.Candidates.{Candidates}
+use Rattle.join_pairs.specs.declared.candidates.Shortlist.{Shortlist}
 use Rattle.join_pairs.specs.Containing.{RankThere}
 
 -- the span lies between the offsets of the rank
-pub record Listed (lay : Layout) (w : List ℕ) (r : ℕ) (s : Span) : Type 0 where
+pub record Located (lay : Layout) (w : List ℕ) (r : ℕ) (s : Span) : Type 0 where
   pub from : s .from ≡ lay .index + getD w (lay .offsets + r) 0
   pub to : s .to ≡ lay .index + getD w (lay .offsets + r + 1) 0
 
@@ -30,7 +30,7 @@ pub record SpanThere (lay : Layout) (q : Query) (w : List ℕ) (r pivot from to 
   pub high : to ≤ lay .slots + getD w (lay .offsets + r) 0
 
 -- w became w′: the span has those of the places whose right sets hold the rank; it ends with the slot at the latest
-pub record Met (lay : Layout) (w : List ℕ) (r pivot from to : ℕ) (w′ : List ℕ) (s : Span) : Type 0 where
+pub record RankMet (lay : Layout) (w : List ℕ) (r pivot from to : ℕ) (w′ : List ℕ) (s : Span) : Type 0 where
   pub frame : take (lay .slots) w′ ≡ take (lay .slots) w
   pub order : s .from ≤ s .to
   pub high : s .to ≤ lay .slots + getD w (lay .offsets + r + 1) 0
@@ -39,7 +39,7 @@ pub record Met (lay : Layout) (w : List ℕ) (r pivot from to : ℕ) (w′ : Lis
       → slice (s .from) (s .to) w′ ≡ keep (λ x. memb r (rightAt q x)) (slice from to w)
 
 -- rising ranks, the pivot among them, from one place up to another below the slots
-pub record NarrowThere (lay : Layout) (q : Query) (w : List ℕ) (from to pivot : ℕ) : Type 0 where
+pub record FindThere (lay : Layout) (q : Query) (w : List ℕ) (from to pivot : ℕ) : Type 0 where
   pub index : Index lay q w
   pub within : to ≤ lay .slots
   pub below : all (λ r. ltb r (q .T)) (slice from to w) ≡ true
@@ -47,7 +47,7 @@ pub record NarrowThere (lay : Layout) (q : Query) (w : List ℕ) (from to pivot 
   pub there : memb pivot (slice from to w) ≡ true
 
 -- no right set that holds all the ranks is missing from the candidates, and of a candidate the ranks that are left decide
-pub record Narrows (lay : Layout) (q : Query) (w : List ℕ) (from to : ℕ) (w′ : List ℕ) (c : Candidates) : Type 0 where
+pub record ShortlistOf (lay : Layout) (q : Query) (w : List ℕ) (from to : ℕ) (w′ : List ℕ) (c : Shortlist) : Type 0 where
   pub places : PlacesThere lay q w′ (c .from) (c .to)
   pub complete :
       keep (λ s. subset (slice from to w) (rightAt q s)) (slice (c .from) (c .to) w′)
@@ -57,7 +57,7 @@ pub record Narrows (lay : Layout) (q : Query) (w : List ℕ) (from to : ℕ) (w�
       → subset (slice (c .rest) to w) (rightAt q s) ≡ subset (slice from to w) (rightAt q s)
 
 -- and so for every query, with the words below the slots as they were
-pub record Narrowed (lay : Layout) (w : List ℕ) (from to pivot : ℕ) (w′ : List ℕ) (c : Candidates) : Type 0 where
+pub record Shortlisted (lay : Layout) (w : List ℕ) (from to pivot : ℕ) (w′ : List ℕ) (c : Shortlist) : Type 0 where
   pub frame : take (lay .slots) w′ ≡ take (lay .slots) w
   pub low : from ≤ c .rest
-  pub is : (q : Query) → NarrowThere lay q w from to pivot → Narrows lay q w from to w′ c
+  pub is : (q : Query) → FindThere lay q w from to pivot → ShortlistOf lay q w from to w′ c

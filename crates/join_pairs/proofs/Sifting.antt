@@ -1,4 +1,4 @@
--- Candidates narrowed rank by rank. The invariant: no right set that holds all the ranks is missing, and of a candidate the
+-- Candidates cut down rank by rank. The invariant: no right set that holds all the ranks is missing, and of a candidate the
 -- ranks that are left decide. w is the work list before, and v as it is at place i of the ranks.
 use Prim.Native.Nat.{ℕ, suc, _+_, _-_, _≤_, _<_}
 use mathlib.Core.Path.{_≡_, refl, sym, ap, subst, _∙_}
@@ -13,7 +13,7 @@ use Rattle.lists.proofs.Bools.{and-left, and-right}
 use Rattle.lists.proofs.Throughout.{all-elim, all-intro, subset-elim}
 use Rattle.lists.proofs.Filtering.{memb-keep, all-keep, all-kept, keep-through}
 use Rattle.lists.proofs.Rising.{rising-keep, rising-below}
-use Rattle.lists.proofs.Slices.{slice-next, frame-at, length-slice, getD-slice, all-slice}
+use Rattle.lists.proofs.Slices.{slice-next, frame-at, length-slice, all-slice}
 use Rattle.join_spec.specs.Query.{Query}
 use Rattle.join_index.specs.Grouping.{rightAt}
 use Rattle.join_index.specs.declared.Layout.{Layout}
@@ -23,10 +23,10 @@ use Rattle.join_check.specs.Asking.{PlacesThere}
 use Rattle.join_check.proofs.Reading.{index-frame}
 use Rattle.join_pairs.specs.declared.candidates.Span.{Span}
 use Rattle.join_pairs.specs.Containing.{RankThere}
-use Rattle.join_pairs.specs.Narrowing.{Listed, SpanThere, Met, NarrowThere, Narrows}
-use Rattle.join_pairs.proofs.Inverted.{inverted-stored, list-part, list-places, list-rising, slice-memb}
+use Rattle.join_pairs.specs.Shortlists.{Located, SpanThere, RankMet, FindThere, ShortlistOf}
+use Rattle.join_pairs.proofs.Inverted.{inverted-stored, list-part, list-places, list-rising, slice-at, slice-memb}
 
-pub record SoFar (lay : Layout) (q : Query) (w : List ℕ) (from to pivot : ℕ) (v : List ℕ) (a b i : ℕ) : Type 0 where
+pub record Sifting (lay : Layout) (q : Query) (w : List ℕ) (from to pivot : ℕ) (v : List ℕ) (a b i : ℕ) : Type 0 where
   pub places : PlacesThere lay q v a b
   pub order : a ≤ b
   pub rise : rising (slice a b v) ≡ true
@@ -42,7 +42,7 @@ subset-rest : (x : ℕ) (xs ys : List ℕ) → memb x ys ≡ true → subset xs 
 unfolding all
 subset-rest x xs ys h = rw h
 
-module _ {lay : Layout} {q : Query} {w : List ℕ} {from to pivot : ℕ} (there : NarrowThere lay q w from to pivot) where
+module _ {lay : Layout} {q : Query} {w : List ℕ} {from to pivot : ℕ} (there : FindThere lay q w from to pivot) where
   within : to ≤ length w
   within = omega (arith, there .within, there .index .room)
 
@@ -59,29 +59,25 @@ module _ {lay : Layout} {q : Query} {w : List ℕ} {from to pivot : ℕ} (there 
 
   rank-next : (i : ℕ) → from ≤ i → i + 1 < to → getD w i 0 < getD w (i + 1) 0
   rank-next i low high =
-      let here : from + (i - from) ≡ i = omega arith in
-      let next : from + (i + 1 - from) ≡ i + 1 = omega arith in
-      let first = getD-slice 0 from to (i - from) w (omega arith) ∙ ap (λ (n : ℕ). getD w n 0) here in
-      let second = getD-slice 0 from to (i + 1 - from) w (omega arith) ∙ ap (λ (n : ℕ). getD w n 0) next in
       omega (
         arith,
-        first,
-        second,
+        slice-at w from to i low (omega arith),
+        slice-at w from to (i + 1) (omega arith) high,
         rising-below (slice from to w) (there .rise) (i - from) (i + 1 - from) (omega arith)
             (omega (arith, length-slice from to w within)),
       )
 
-  pub so-far-start : (s : Span) → Listed lay w pivot s → SoFar lay q w from to pivot w (s .from) (s .to) from
-  so-far-start s listed =
-      let part = list-part lay q w pivot s listed pivot-there in
-      let stored = inverted-stored lay q w pivot pivot-there in
+  pub sifting-start : {s : Span} → Located lay w pivot s → Sifting lay q w from to pivot w (s .from) (s .to) from
+  sifting-start located =
+      let part = list-part located pivot-there in
+      let stored = inverted-stored pivot-there in
       record {
-        places = list-places lay q w pivot s listed pivot-there;
-        order = omega (arith, listed .from, listed .to, stored .rise);
-        rise = list-rising lay q w pivot s listed pivot-there .rise;
+        places = list-places located pivot-there;
+        order = omega (arith, located .from, located .to, stored .rise);
+        rise = list-rising located pivot-there .rise;
         holding = ap (all (λ (x : ℕ). memb pivot (rightAt q x))) part
             ∙ all-kept (λ (x : ℕ). memb pivot (rightAt q x)) (upto (length (q .rights)));
-        high = λ more. omega (arith, listed .to, stored .low);
+        high = λ more. omega (arith, located .to, stored .low);
         complete = ap (keep (λ (x : ℕ). subset (slice from to w) (rightAt q x))) part
             ∙ keep-through (λ (x : ℕ). subset (slice from to w) (rightAt q x)) (λ (x : ℕ). memb pivot (rightAt q x))
             (λ (x : ℕ). true) (upto (length (q .rights))) (all-true (upto (length (q .rights))))
@@ -93,7 +89,7 @@ module _ {lay : Layout} {q : Query} {w : List ℕ} {from to pivot : ℕ} (there 
       all-true xs = all-intro (λ (x : ℕ). true) xs (λ x m. refl)
 
   module _ {v : List ℕ} {a b i r : ℕ} (frame : take (lay .slots) v ≡ take (lay .slots) w)
-      (so-far : SoFar lay q w from to pivot v a b i)
+      (sifting : Sifting lay q w from to pivot v a b i)
       (low : from ≤ i) (more : i < to) (word : Word v i r)
     where
       rank-is : r ≡ getD w i 0
@@ -103,23 +99,23 @@ module _ {lay : Layout} {q : Query} {w : List ℕ} {from to pivot : ℕ} (there 
       same-offset x h =
           frame-at 0 (lay .offsets + x) (lay .slots) w v (omega (arith, there .index .ground .offsetsWithin)) frame
 
-      pub so-far-span : SpanThere lay q v r pivot a b
-      so-far-span =
+      pub sifting-span : SpanThere lay q v r pivot a b
+      sifting-span =
           let below = rank-low i low more in
           record {
-            rank = record { index = so-far .places .index; below = omega (arith, rank-is) };
-            places = so-far .places;
-            order = so-far .order;
-            rise = so-far .rise;
-            holding = so-far .holding;
+            rank = record { index = sifting .places .index; below = omega (arith, rank-is) };
+            places = sifting .places;
+            order = sifting .order;
+            rise = sifting .rise;
+            holding = sifting .holding;
             high =
                 let here = ap (λ (x : ℕ). getD w (lay .offsets + x) 0) rank-is in
-                omega (arith, so-far .high more, same-offset r (omega (arith, rank-is)));
+                omega (arith, sifting .high more, same-offset r (omega (arith, rank-is)));
           }
 
-      module _ {u : List ℕ} {s : Span} (met : Met lay v r pivot a b u s) (size : length u ≡ length v) where
+      module _ {u : List ℕ} {s : Span} (met : RankMet lay v r pivot a b u s) (size : length u ≡ length v) where
         part : slice (s .from) (s .to) u ≡ keep (λ (x : ℕ). memb r (rightAt q x)) (slice a b v)
-        part = met .is q so-far-span
+        part = met .is q sifting-span
 
         next-high : i + 1 < to → s .to ≤ lay .slots + getD w (lay .offsets + getD w (i + 1) 0) 0
         next-high further =
@@ -136,28 +132,28 @@ module _ {lay : Layout} {q : Query} {w : List ℕ} {from to pivot : ℕ} (there 
               offsets-rise lay q w (there .index .ground) (suc r) (getD w (i + 1) 0) (omega (arith, rank-is)) (omega arith),
             )
 
-        pub so-far-step : SoFar lay q w from to pivot u (s .from) (s .to) (i + 1)
-        so-far-step =
+        pub sifting-step : Sifting lay q w from to pivot u (s .from) (s .to) (i + 1)
+        sifting-step =
             record {
               places =
                   record {
-                    index = index-frame (met .frame) size (so-far .places .index);
-                    within = omega (arith, met .high, inverted-stored lay q v r (so-far-span .rank) .room);
+                    index = index-frame (met .frame) size (sifting .places .index);
+                    within = omega (arith, met .high, inverted-stored (sifting-span .rank) .room);
                     below = ap (all (λ (x : ℕ). ltb x (length (q .rights)))) part
                         ∙ all-keep (λ (x : ℕ). ltb x (length (q .rights))) (λ (x : ℕ). memb r (rightAt q x)) (slice a b v)
-                        (so-far .places .below);
+                        (sifting .places .below);
                   };
               order = met .order;
-              rise = ap rising part ∙ rising-keep (λ (x : ℕ). memb r (rightAt q x)) (slice a b v) (so-far .rise);
+              rise = ap rising part ∙ rising-keep (λ (x : ℕ). memb r (rightAt q x)) (slice a b v) (sifting .rise);
               holding = ap (all (λ (x : ℕ). memb pivot (rightAt q x))) part
                   ∙ all-keep (λ (x : ℕ). memb pivot (rightAt q x)) (λ (x : ℕ). memb r (rightAt q x)) (slice a b v)
-                  (so-far .holding);
+                  (sifting .holding);
               high = next-high;
               complete = ap (keep (λ (x : ℕ). subset (slice from to w) (rightAt q x))) part
                   ∙ keep-through (λ (x : ℕ). subset (slice from to w) (rightAt q x)) (λ (x : ℕ). memb r (rightAt q x))
-                  (λ (x : ℕ). ltb x (length (q .rights))) (slice a b v) (so-far .places .below)
+                  (λ (x : ℕ). ltb x (length (q .rights))) (slice a b v) (sifting .places .below)
                   (λ x good h. subset-elim (slice from to w) (rightAt q x) h r (slice-memb w from to i r low more within rank-is))
-                  ∙ so-far .complete;
+                  ∙ sifting .complete;
               decides = λ x m.
                   let both = sym (memb-keep (λ (y : ℕ). memb r (rightAt q y)) (slice a b v) x) ∙ sym (ap (memb x) part) ∙ m in
                   let holds : memb (getD w i 0) (rightAt q x) ≡ true =
@@ -166,9 +162,9 @@ module _ {lay : Layout} {q : Query} {w : List ℕ} {from to pivot : ℕ} (there 
                   in
                   subset-rest (getD w i 0) (slice (i + 1) to w) (rightAt q x) holds
                   ∙ ap (λ (l : List ℕ). subset l (rightAt q x)) (sym (slice-next i to w more within))
-                  ∙ so-far .decides x (and-left (memb x (slice a b v)) (memb r (rightAt q x)) both);
+                  ∙ sifting .decides x (and-left (memb x (slice a b v)) (memb r (rightAt q x)) both);
             }
 
-  pub so-far-end : {v : List ℕ} {a b i : ℕ} → SoFar lay q w from to pivot v a b i
-      → Narrows lay q w from to v (record { from = a; to = b; rest = i })
-  so-far-end so-far = record { places = so-far .places; complete = so-far .complete; decides = so-far .decides }
+  pub sifting-end : {v : List ℕ} {a b i : ℕ} → Sifting lay q w from to pivot v a b i
+      → ShortlistOf lay q w from to v (record { from = a; to = b; rest = i })
+  sifting-end sifting = record { places = sifting .places; complete = sifting .complete; decides = sifting .decides }
