@@ -66,7 +66,7 @@ positions-end p past item below = p .bits item (omega (arith, p .all, p .size))
 -- one item more
 module _ {start end : ℕ} {items table : List ℕ} (room : ItemsRoom start end items table) (i : ℕ) (low : start ≤ i)
     (below : i < end) where
-  pub bit-is : getD table (getD items i 0) 0 ≡ position (getD items i 0)
+  bit-is : getD table (getD items i 0) 0 ≡ position (getD items i 0)
   bit-is = room .bits (getD items i 0) (room .below i low below)
 
   pub bit-below : getD table (getD items i 0) 0 < 64
