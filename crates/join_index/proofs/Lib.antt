@@ -8,4 +8,6 @@ pub mod BuildLeast
 pub mod SortDepth
 pub mod BuildOrder
 pub mod BuildPlan
+pub mod BuildStages
+pub mod BuildLists
 pub mod BuildGround

@@ -30,7 +30,7 @@ module _ {base T n : ℕ} {ranks : List ℕ} {sets : List (List ℕ)} {w : List 
           ∙ ap (λ (a : ℕ). ranksAt base T n (length sets) + a)
           (frame-at 0 (startsAt base T n + x) (sideEnd base T n (length sets)) w v (omega arith) kept)
 
-  pub side-offset : (r : ℕ) → r ≤ T → getD v (base + r) 0 ≡ getD w (base + r) 0
+  side-offset : (r : ℕ) → r ≤ T → getD v (base + r) 0 ≡ getD w (base + r) 0
   side-offset r low = frame-at 0 (base + r) (sideEnd base T n (length sets)) w v (omega arith) kept
 
   pub side-inverted : (index high : ℕ) → index ≡ sortedAt base T → end ≤ high → (r : ℕ) → r < T

@@ -40,10 +40,10 @@ pub positions-start : (table : List ℕ) → PositionsFilling table table 1 0 (l
 positions-start table =
     record { place = omega arith; all = refl; size = refl; next = refl; bits = λ j below. absurd (omega arith) }
 
-pub positions-step : (was is : List ℕ) (power k end : ℕ) → PositionsFilling was is power k end → k < end
+pub positions-step : {was is : List ℕ} {power k end : ℕ} → PositionsFilling was is power k end → k < end
     → PositionsFilling was (set is k (power % 64)) (power * 3 % 257) (k + 1) end
 unfolding position
-positions-step was is power k end p below =
+positions-step {was} {is} {power} {k} {end} p below =
     record {
       place = omega arith;
       all = p .all;
@@ -60,13 +60,13 @@ positions-step was is power k end p below =
           getD-set-other is k j (power % 64) 0 other ∙ p .bits j (omega arith));
     }
 
-pub positions-end : (was is : List ℕ) (power k end : ℕ) → PositionsFilling was is power k end → end ≤ k → Positions is
-positions-end was is power k end p past item below = p .bits item (omega (arith, p .all, p .size))
+pub positions-end : {was is : List ℕ} {power k end : ℕ} → PositionsFilling was is power k end → end ≤ k → Positions is
+positions-end p past item below = p .bits item (omega (arith, p .all, p .size))
 
 -- one item more
-module _ (start end : ℕ) (items table : List ℕ) (room : ItemsRoom start end items table) (i : ℕ) (low : start ≤ i)
+module _ {start end : ℕ} {items table : List ℕ} (room : ItemsRoom start end items table) (i : ℕ) (low : start ≤ i)
     (below : i < end) where
-  pub bit-is : getD table (getD items i 0) 0 ≡ position (getD items i 0)
+  bit-is : getD table (getD items i 0) 0 ≡ position (getD items i 0)
   bit-is = room .bits (getD items i 0) (room .below i low below)
 
   pub bit-below : getD table (getD items i 0) 0 < 64

@@ -32,9 +32,9 @@ pub record SetsSigning (at : ℕ) (ends items table was is : List ℕ) (start k 
   pub sets : setsFrom start (drop k ends) items ≡ drop k (setsOf ends items)
   pub place : k ≤ length ends
 
-pub signing-start : (at : ℕ) (ends items table w : List ℕ) → SigningRoom at ends items table w
+pub signing-start : {at : ℕ} {ends items table w : List ℕ} → SigningRoom at ends items table w
     → SetsSigning at ends items table w w 0 0
-signing-start at ends items table w room =
+signing-start room =
     record {
       signed = record { frame = refl; size = refl; signatures = λ k below. absurd (omega arith) };
       good = room .good;
@@ -42,7 +42,7 @@ signing-start at ends items table w room =
       place = omega arith;
     }
 
-module _ (at : ℕ) (ends items table was is : List ℕ) (start k : ℕ) (room : SigningRoom at ends items table was)
+module _ {at : ℕ} {ends items table was is : List ℕ} {start k : ℕ} (room : SigningRoom at ends items table was)
     (signing : SetsSigning at ends items table was is start k) (below : k < length ends) where
   pub signing-items : ItemsRoom start (getD ends k 0) items table
   signing-items =
@@ -70,9 +70,9 @@ module _ (at : ℕ) (ends items table was is : List ℕ) (start k : ℕ) (room :
       ∙ sym (ap (λ (l : List (List ℕ)). drop 1 l) sets-here)
       ∙ drop-drop 1 k (setsOf ends items)
 
-  pub signing-step : (next : List ℕ) (mark : ℕ) → mark ≡ signature (between start (getD ends k 0) items)
+  pub signing-step : {next : List ℕ} {mark : ℕ} → mark ≡ signature (between start (getD ends k 0) items)
       → DoubleStored (at + 2 * k) mark is next → SetsSigning at ends items table was next (getD ends k 0) (k + 1)
-  signing-step next mark e stored =
+  signing-step {next} {mark} e stored =
       record {
         signed =
             record {
@@ -94,19 +94,19 @@ module _ (at : ℕ) (ends items table was is : List ℕ) (start k : ℕ) (room :
         place = omega arith;
       }
 
-pub signing-end : (at : ℕ) (ends items table was is : List ℕ) (start k : ℕ) → SetsSigning at ends items table was is start k
+pub signing-end : {at : ℕ} {ends items table was is : List ℕ} {start k : ℕ} → SetsSigning at ends items table was is start k
     → length ends ≤ k → Signed at (length ends) (setsOf ends items) was is
-signing-end at ends items table was is start k signing past =
+signing-end {at} {ends} {items} {table} {was} {is} {start} {k} signing past =
     let here : k ≡ length ends = omega (arith, signing .place) in
     subst (λ (n : ℕ). Signed at n (setsOf ends items) was is) here (signing .signed)
 
 -- the right sets first, the left sets above them
-pub both-signed : (T right left : ℕ) (rightEnds rightItems leftEnds leftItems w v u : List ℕ)
+pub both-signed : {T right left : ℕ} {rightEnds rightItems leftEnds leftItems w v u : List ℕ}
     → BothRoom T right left rightEnds rightItems leftEnds leftItems w
     → Signed right (length rightEnds) (setsOf rightEnds rightItems) w v
     → Signed left (length leftEnds) (setsOf leftEnds leftItems) v u
     → BothSigned right left (setsOf rightEnds rightItems) (setsOf leftEnds leftItems) w u
-both-signed T right left rightEnds rightItems leftEnds leftItems w v u room low high =
+both-signed {T} {right} {left} {rightEnds} {rightItems} {leftEnds} {leftItems} {w} {v} {u} room low high =
     record {
       frame = frame-less right left v u (omega (arith, room .above)) (high .frame) ∙ low .frame;
       size = high .size ∙ low .size;

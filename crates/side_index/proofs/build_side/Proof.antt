@@ -4,21 +4,29 @@ use Rattle.side_index.proofs.SideSorts.{entries-room, first-sortable, t
 use Rattle.side_index.proofs.build_side.Statement.{statement}
 use Rattle.side_index.proofs.build_side.Tie as tie
 
+-- the places before each step
+abbrev start : tie.After-fill-entries → tie.Start
+start c = c .before .before .before .before .before .before
+
+abbrev before-sort : tie.After-sort-by-key → tie.After-fill-entries
+before-sort c = c .before .before .before .before
+
+abbrev before-turn : tie.After-fill-turned → tie.After-sort-by-key
+before-turn c = c .before .before .before .before
+
 fill-entries-requires : tie.Need-fill-entries-requires
 fill-entries-requires c κs = entries-room (c .before .before .before .before .before .pre)
 
 sort-by-key-requires : tie.Need-sort-by-key-requires
 sort-by-key-requires c κs =
     let filled = c .before .before .before in
-    let start = filled .before .before .before .before .before .before in
-    first-sortable (start .pre) (filled .fill-entries .ensures)
+    first-sortable (start filled .pre) (filled .fill-entries .ensures)
 
 fill-turned-requires : tie.Need-fill-turned-requires
 fill-turned-requires c κs =
     let sorted = c .before .before .before in
-    let filled = sorted .before .before .before .before in
-    let start = filled .before .before .before .before .before .before in
-    turned-room (start .pre) (filled .fill-entries .ensures) (sorted .sort-by-key .ensures)
+    let filled = before-sort sorted in
+    turned-room (start filled .pre) (filled .fill-entries .ensures) (sorted .sort-by-key .ensures)
 
 add-sort-by-key : tie.Need-add-sort-by-key
 add-sort-by-key c = search needs
@@ -32,10 +40,9 @@ add-sort-by-key-3 c = search needs
 sort-by-key-requires-2 : tie.Need-sort-by-key-requires-2
 sort-by-key-requires-2 c κs =
     let turned = c .before .before .before in
-    let sorted = turned .before .before .before .before in
-    let filled = sorted .before .before .before .before in
-    let start = filled .before .before .before .before .before .before in
-    second-sortable (start .pre) (filled .fill-entries .ensures) (sorted .sort-by-key .ensures) (turned .fill-turned .ensures)
+    let sorted = before-turn turned in
+    let filled = before-sort sorted in
+    second-sortable (start filled .pre) (filled .fill-entries .ensures) (sorted .sort-by-key .ensures) (turned .fill-turned .ensures)
 
 same-length : tie.Need-same-length
 same-length c = search needs
@@ -44,10 +51,9 @@ returns : tie.Need-returns
 returns c =
     let again = c .before .before in
     let turned = again .before .before .before .before in
-    let sorted = turned .before .before .before .before in
-    let filled = sorted .before .before .before .before in
-    let start = filled .before .before .before .before .before .before in
-    side-built (start .pre) (filled .fill-entries .ensures) (sorted .sort-by-key .ensures) (turned .fill-turned .ensures)
+    let sorted = before-turn turned in
+    let filled = before-sort sorted in
+    side-built (start filled .pre) (filled .fill-entries .ensures) (sorted .sort-by-key .ensures) (turned .fill-turned .ensures)
     (again .sort-by-key2 .ensures)
 
 pub build-side-spec : {M : Type 1} → statement M

@@ -2,7 +2,7 @@
 use native.Mathlib.Omega.{arith}
 use borrow.Author.Needs.{needs}
 use Rattle.join_index.proofs.BuildPlan.{Planned, by-length, sizes, plan-sizes}
-use Rattle.join_index.proofs.BuildPlan.{right-room, left-room, least-room, order-room, sign-room}
+use Rattle.join_index.proofs.BuildStages.{right-room, left-room, least-room, order-room, sign-room}
 use Rattle.join_index.proofs.BuildGround.{ground, ground-items}
 use Rattle.join_index.proofs.build.build.Statement.{statement}
 use Rattle.join_index.proofs.build.build.Tie as tie
