@@ -24,7 +24,7 @@ use Rattle.tag_file.specs.Loading.{endsFrom, join, numbersOf, endsOf, joinedIte
 use Rattle.tag_file.proofs.Tables.{rising-collapse, memb-collapse}
 use Rattle.tag_file.proofs.RecordLaws.{same-side}
 use Rattle.tag_file.proofs.ItemCount.{length-numbersOf, length-endsOf, length-joinedItems}
-use Rattle.tag_writer.specs.Writer.{tagsOf, sideVerdict}
+use Rattle.tag_writer.specs.Writer.{itemTags, sideVerdict}
 use Rattle.tag_round_trip.specs.Rewritten.{sideRecords, recordsOfLists, collapsed, collapsedSide, rewritten}
 use Rattle.tag_round_trip.proofs.Decoding.{between-joined, sets-joined}
 use Rattle.tag_round_trip.proofs.Items.{tags-of-items, items-good}
@@ -56,7 +56,7 @@ module _ (side : Side) (table : List ℕ) (r : rising table ≡ true) where
   sides-records fit (s ∷ rs) own sub =
       let same = and-left (sameSide side (s .side)) (all (λ r. sameSide side (r .side)) rs) own in
       let e : side ≡ s .side = same-side side (s .side) same in
-      let t : tagsOf (tagBytes table) (itemsOf table (s .tags)) ≡ collapse (s .tags) =
+      let t : itemTags (tagBytes table) (itemsOf table (s .tags)) ≡ collapse (s .tags) =
       tags-of-items table (s .tags) r (and-left (subset (s .tags) table) (all (λ r. subset (r .tags) table) rs) sub) fit in
       let rest = sides-records fit rs (and-right (sameSide side (s .side)) (all (λ r. sameSide side (r .side)) rs) own)
       (and-right (subset (s .tags) table) (all (λ r. subset (r .tags) table) rs) sub) in
