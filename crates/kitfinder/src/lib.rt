@@ -14,7 +14,7 @@ ghost use Rattle.join_spec.specs.PairList.{pairList};
 ghost use Rattle.join_spec.specs.Answer.{pairsAfter, workKept, joinWords};
 ghost use Rattle.item_order.specs.Order.{orderAnswer, orderRanks, orderWords};
 ghost use Rattle.tag_file.specs.Loading.{listsOf, loadAnswer, loadWords, LoadCall};
-ghost use Rattle.tag_writer.specs.Writer.{fileBytes, writeAnswer, fileAfter, writeWords};
+ghost use Rattle.tag_writer.specs.Writer.{writeAnswer, writtenFile, writeWords};
 ghost use Rattle.kitfinder.specs.Numbered.{ruleOf, weightsOf, numberedAnswer};
 
 // The rule of a number: 0 Merge, 1 Check, else Weighed.
@@ -215,13 +215,11 @@ pub extern "C" fn kitfinder_write(
     file: &mut [u8],
     answer: &mut [u64; 4],
 )
-    ensures answer { λ _. ⌜ now (answer .exit) ≡ writeWords
-        (writeAnswer t (now (tags .entry)) (now («left_numbers» .entry)) (now («left_ends» .entry)) (now («left_items» .entry))
-        (now («right_numbers» .entry)) (now («right_ends» .entry)) (now («right_items» .entry)) (length (now (file .entry)))) ⌝ }
-    ensures file { λ _. ⌜ now (file .exit) ≡ fileAfter
-        (writeAnswer t (now (tags .entry)) (now («left_numbers» .entry)) (now («left_ends» .entry)) (now («left_items» .entry))
-        (now («right_numbers» .entry)) (now («right_ends» .entry)) (now («right_items» .entry)) (length (now (file .entry))))
-        (fileBytes (now (tags .entry)) (now («left_numbers» .entry)) (now («left_ends» .entry)) (now («left_items» .entry))
+    ensures answer { λ _. ⌜ now (answer .exit) ≡ writeWords (writeAnswer t
+        (listsOf (now (tags .entry)) (now («left_numbers» .entry)) (now («left_ends» .entry)) (now («left_items» .entry))
+        (now («right_numbers» .entry)) (now («right_ends» .entry)) (now («right_items» .entry))) (length (now (file .entry)))) ⌝ }
+    ensures file { λ _. ⌜ now (file .exit) ≡ writtenFile t
+        (listsOf (now (tags .entry)) (now («left_numbers» .entry)) (now («left_ends» .entry)) (now («left_items» .entry))
         (now («right_numbers» .entry)) (now («right_ends» .entry)) (now («right_items» .entry))) (now (file .entry)) ⌝ }
 {
     *answer = tag_writer::write_words(tag_writer::write(

@@ -17,7 +17,7 @@ use Rattle.tag_file.specs.Records.{TagRecord, totalLength, records}
 use Rattle.tag_file.specs.Loading.{Lists}
 use Rattle.tag_file.specs.declared.ReadAnswer.the-variants.{NoMore}
 use Rattle.tag_writer.specs.Writer.{itemTags, recordsOf, fileBytes}
-use Rattle.tag_round_trip.specs.Rewritten.{bytesOfRecords, sideRecords, recordsOfLists, bytesOfLists}
+use Rattle.tag_round_trip.specs.Rewritten.{bytesOfRecords, sideRecords, recordsOfLists}
 use Rattle.tag_round_trip.proofs.Values.{tagsFit, tagAt-bound}
 use Rattle.tag_round_trip.proofs.Printing.{recordsFit, records-bytes, read-past}
 
@@ -49,7 +49,7 @@ side-fit side tags (number ∷ numbers) [] low = refl
 side-fit side tags (number ∷ numbers) (set ∷ sets) low = and-both (itemTags-fit tags low set) (side-fit side tags numbers sets low)
 
 module _ (l : Lists) where
-  pub lists-bytes : bytesOfLists l ≡ bytesOfRecords (recordsOfLists l)
+  pub lists-bytes : fileBytes l ≡ bytesOfRecords (recordsOfLists l)
   unfolding fileBytes
   lists-bytes =
       rw (
@@ -59,7 +59,7 @@ module _ (l : Lists) where
       (sym (bytesOfRecords-append (sideRecords Left (l .tags) (l .leftNumbers) (setsOf (l .leftEnds) (l .leftItems))) _))
 
   -- the reader takes what was written record by record, and then says that there is no more
-  pub written-records : ((i : ℕ) → getD (l .tags) i 0 < 256) → records (bytesOfLists l) ≡ recordsOfLists l
+  pub written-records : ((i : ℕ) → getD (l .tags) i 0 < 256) → records (fileBytes l) ≡ recordsOfLists l
   written-records low =
       ap records lists-bytes
       ∙ records-bytes (recordsOfLists l)
@@ -68,5 +68,5 @@ module _ (l : Lists) where
       (side-fit Right (l .tags) (l .rightNumbers) (setsOf (l .rightEnds) (l .rightItems)) low))
 
   pub written-end : ((i : ℕ) → getD (l .tags) i 0 < 256)
-      → readAt (bytesOfLists l) (totalLength (records (bytesOfLists l))) ≡ NoMore
+      → readAt (fileBytes l) (totalLength (records (fileBytes l))) ≡ NoMore
   written-end low = rw (written-records low, lists-bytes) (read-past (recordsOfLists l))

@@ -10,6 +10,7 @@ use lib.ListN.{length, drop, length-append}
 use Rattle.sets.specs.Limits.{maxSets, maxEntries}
 use Rattle.sets.specs.Collections.{setsOf, entries}
 use Rattle.sets.specs.Refusals.{clears}
+use Rattle.sets.specs.Lent.{afterRefusal}
 use Rattle.sets.specs.declared.Side.{Side}
 use Rattle.sets.specs.declared.Side.the-variants.{Left, Right}
 use Rattle.sets.specs.declared.Refusal.{Refusal}
@@ -69,9 +70,13 @@ within room bytes n e h = rw (e, le-ltb room n h)
 pub short : (room : ℕ) (bytes : List ℕ) (n : ℕ) → length bytes ≡ n → room < n → Refused ShortOutput ≡ writtenWithin room bytes
 short room bytes n e h = rw (e, lt-ltb room n h)
 
+pub answer-passed : (T : ℕ) (l : Lists) (room : ℕ) → listsTest T l ≡ Passed → writtenWithin room (fileBytes l) ≡ writeAnswer T l room
+unfolding writeAnswer
+answer-passed T l room passed = rw passed
+
 -- the call: lists that are refused, and lists that passed their tests
 module _ (T : ℕ) (l : Lists) (file : List ℕ) where
-  kept-after : (why : Refusal) → clears why ≡ false → file ≡ fileAfter (Refused why) (fileBytes l) file
+  kept-after : (why : Refusal) → clears why ≡ false → file ≡ afterRefusal why file
   kept-after why keeps = rw keeps
 
   -- an answer that is right leaves the file that is right
@@ -87,5 +92,4 @@ module _ (T : ℕ) (l : Lists) (file : List ℕ) where
   pub call-passed : (answer : WriteAnswer) (file′ : List ℕ) → listsTest T l ≡ Passed
       → answer ≡ writtenWithin (length file) (fileBytes l) → file′ ≡ fileAfter answer (fileBytes l) file
       → WriteCall T l file file′ answer
-  unfolding writeAnswer
-  call-passed answer file′ passed e f = called answer file′ (rw passed e) f
+  call-passed answer file′ passed e f = called answer file′ (e ∙ answer-passed T l (length file) passed) f

@@ -4,7 +4,7 @@ use mathlib.Core.List.{List}
 use mathlib.Core.Bool.{Bool, true, false, not}
 use Prim.Native.Nat.{ℕ, _*_, _/_, _≤_, _<_, min}
 use native.Mathlib.Omega.{arith}
-use borrow.Author.Tests.{eq-eqb, ne-eqb, eqb-true, lt-ltb, le-ltb, not-false}
+use borrow.Author.Tests.{eq-eqb, ne-eqb, eqb-true, lt-ltb, le-ltb, ltb-false, not-false}
 use lib.Dec.{eqb, ltb}
 use lib.ListN.{length}
 use Rattle.sets.specs.Limits.{maxItems}
@@ -15,13 +15,13 @@ use Rattle.sets.specs.declared.Side.the-variants.{Left, Right}
 use Rattle.sets.specs.declared.Verdict.{Verdict}
 use Rattle.sets.specs.declared.Verdict.the-variants.{Good, Bad}
 use Rattle.sets.specs.declared.Refusal.{Refusal}
-use Rattle.sets.specs.declared.Refusal.the-variants.{BadSet, BadSettings}
+use Rattle.sets.specs.declared.Refusal.the-variants.{ShortOutput, BadSet, BadSettings}
 use Rattle.sets.specs.declared.Tested.{Tested}
 use Rattle.sets.specs.declared.Tested.the-variants.{Passed, Failed}
 use Rattle.tag_file.specs.Format.{tagLength}
 use Rattle.tag_file.specs.Loading.{Lists}
 use Rattle.tag_writer.specs.Room.{GoodSide, GoodLists}
-use Rattle.tag_writer.specs.Writer.{tableTest, numbersTest, sideTest, listsTest}
+use Rattle.tag_writer.specs.Writer.{tableTest, numbersTest, sideTest, listsTest, roomTest}
 
 -- ---- the cases
 
@@ -83,6 +83,10 @@ module _ (T : ℕ) (l : Lists) where
     unfolding listsTest
     lists-right passed = rw (table, passed)
 
+  pub lists-good : T ≤ maxItems → length (l .tags) ≡ tagLength * T → left ≡ Passed → right ≡ Passed → listsTest T l ≡ Passed
+  lists-good few whole good-left good-right =
+      sym (lists-right (sym (table-whole T (l .tags) few whole)) good-left) ∙ good-right
+
 -- ---- what lists have that passed
 
 both-passed : (a b : Tested) → unless Failed a b ≡ Passed → (a ≡ Passed) × (b ≡ Passed)
@@ -96,6 +100,9 @@ refuse-passed false why e = refl
 no-bad : (side : Side) (v : Verdict) → noBadSet side v ≡ Passed → v ≡ Good
 no-bad side Good e = refl
 no-bad side (Bad place) e = let z : _≡_ {A = ℕ} 0 1 = cc in absurd (omega arith)
+
+pub room-passed : (room bytes : ℕ) → roomTest room bytes ≡ Passed → bytes ≤ room
+room-passed room bytes e = ltb-false room bytes (refuse-passed (ltb room bytes) ShortOutput e)
 
 table-passed : (T : ℕ) (tags : List ℕ) → tableTest T tags ≡ Passed → length tags ≡ tagLength * T
 unfolding tableTest

@@ -91,6 +91,10 @@ abbrev pub fileAfter : WriteAnswer → List ℕ → List ℕ → List ℕ
 fileAfter (Written n) bytes file = filledOver bytes file
 fileAfter (Refused why) bytes file = afterRefusal why file
 
+-- the output after a write
+abbrev pub writtenFile : ℕ → Lists → List ℕ → List ℕ
+writtenFile T l before = fileAfter (writeAnswer T l (length before)) (fileBytes l) before
+
 -- the words of an answer: the length
 abbrev pub writeWords : WriteAnswer → List ℕ
 writeWords (Written n) = acceptedWords (n ∷ [])
@@ -99,4 +103,4 @@ writeWords (Refused why) = refusedWords why 1
 -- a call of the writer over seven lists: its answer, and its output list before and after
 pub record WriteCall (T : ℕ) (l : Lists) (before after : List ℕ) (answer : WriteAnswer) : Type 0 where
   pub answered : answer ≡ writeAnswer T l (length before)
-  pub file : after ≡ fileAfter (writeAnswer T l (length before)) (fileBytes l) before
+  pub file : after ≡ writtenFile T l before
