@@ -1,2 +1,3 @@
--- Contents: what an input has that passed the tests before the walk.
+-- Contents: the rule as a number; then what an input has that passed the tests before the walk.
+pub mod Numbered
 pub mod Ready

@@ -5,6 +5,7 @@ use join_pairs::write_pairs;
 use join_spec::Counts;
 use join_spec::JoinAnswer;
 use join_spec::Rule;
+use join_spec::Weights;
 use join_tests::test_join;
 use join_walk::visit::Settings;
 use join_walk::visit::Walked;
@@ -18,8 +19,9 @@ ghost use Rattle.sets.specs.Collections.{setsOf};
 ghost use Rattle.join_spec.specs.PairList.{pairList};
 ghost use Rattle.inputs.specs.Input.{inputOf};
 ghost use Rattle.join_spec.specs.Query.{settingsOf, queryOf};
-ghost use Rattle.join_spec.specs.Answer.{walkAnswer, pairsAfter, RunCall};
+ghost use Rattle.join_spec.specs.Answer.{roomOf, walkAnswer, pairsAfter, JoinCall, RunCall};
 ghost use Rattle.join.specs.Ready.{Accepted};
+ghost use Rattle.join.specs.Numbered.{ruleOf, numberedAnswer};
 
 // The join of an input that passed those tests: the index, the walk, and then 8, 9 or the pair list.
 fn join_ready(
@@ -131,4 +133,57 @@ pub fn run(
             pairs,
         ),
     }
+}
+
+// The rule of a number: 0 Merge, 1 Check, else Weighed.
+fn rule_of(number: u32, weights: Weights) -> Rule
+    ensures { λ r. ⌜ r ≡ ruleOf number weights ⌝ }
+{
+    if number == 0 {
+        return Rule::Merge;
+    }
+    if number == 1 {
+        return Rule::Check;
+    }
+    Rule::Weighed(weights)
+}
+
+// The join with its rule as a number: one above 2 is refused as a bad setting.
+pub fn run_numbered(
+    t: u32,
+    left_ends: &[u32],
+    left_items: &[u16],
+    right_ends: &[u32],
+    right_items: &[u16],
+    limit: u32,
+    ranks: &[u16],
+    budget: u32,
+    number: u32,
+    weights: Weights,
+    work: &mut [u32],
+    pairs: &mut [u16],
+) -> JoinAnswer
+    ensures { λ r. ⌜ JoinCall (numberedAnswer
+        (inputOf t (now («left_ends» .entry)) (now («left_items» .entry)) (now («right_ends» .entry)) (now («right_items» .entry)))
+        limit (now (ranks .entry)) budget number weights (roomOf (now (work .entry)) (now (pairs .entry))))
+        (inputOf t (now («left_ends» .entry)) (now («left_items» .entry)) (now («right_ends» .entry)) (now («right_items» .entry)))
+        (now (work .entry)) (now (pairs .entry)) (now (work .exit)) (now (pairs .exit)) r ⌝ }
+{
+    if 2 < number {
+        return JoinAnswer::Refused(Refusal::BadSettings);
+    }
+    let rule = rule_of(number, weights);
+    run(
+        t,
+        left_ends,
+        left_items,
+        right_ends,
+        right_items,
+        limit,
+        ranks,
+        budget,
+        rule,
+        work,
+        pairs,
+    )
 }

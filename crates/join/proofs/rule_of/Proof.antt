@@ -1,7 +1,7 @@
 -- `rule_of` meets its contract: a case for each number.
-use Rattle.kitfinder.proofs.ByNumber.{rule-merge, rule-check, rule-weighed}
-use Rattle.kitfinder.proofs.rule_of.Statement.{statement}
-use Rattle.kitfinder.proofs.rule_of.Tie as tie
+use Rattle.join.proofs.ByNumber.{rule-merge, rule-check, rule-weighed}
+use Rattle.join.proofs.rule_of.Statement.{statement}
+use Rattle.join.proofs.rule_of.Tie as tie
 
 returns : tie.Need-returns
 returns c = rule-merge _ _ (c .if1 .taken)
