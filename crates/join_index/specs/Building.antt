@@ -1,5 +1,5 @@
--- The build as a whole: where the regions lie, each beginning where the one before it ends, and what an accepted input gives
--- the build.
+-- Inner: the build as a whole. Where the regions lie, each beginning where the one before it ends, and what an accepted input
+-- gives the build.
 use Prim.Native.Nat.{ℕ, _+_, _*_, _≤_}
 use mathlib.Core.Path.{_≡_}
 use mathlib.Core.List.{List}
@@ -11,7 +11,7 @@ use Rattle.sets.specs.Ordered.{isPermutation}
 use Rattle.sets.specs.declared.Verdict.the-variants.{Good}
 use Rattle.join_spec.specs.Answer.{workNeeded}
 use Rattle.counting_sort.specs.Sorting.{sortedAt}
-use Rattle.join_index.specs.Stages.{startsAt, ranksAt, sideEnd}
+use Rattle.side_index.specs.Side.{startsAt, ranksAt, sideEnd}
 use Rattle.join_index.specs.declared.Layout.{Layout}
 
 -- the sizes of an accepted input: items, sets and item entries of each side
