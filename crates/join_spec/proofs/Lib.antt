@@ -3,6 +3,7 @@
 pub mod Examples
 pub mod BorderCases
 pub mod Outcomes
+pub mod KindLaws
 pub mod Demand
 pub mod PairListLaws
 pub mod Inputs
