@@ -9,7 +9,8 @@ ghost use Prim.Native.Nat.{_+_, _-_, _*_, _<_};
 ghost use Rattle.word_lists.specs.Merges.{Rising};
 ghost use Rattle.join_spec.specs.Query.{Query};
 ghost use Rattle.join_check.specs.Asking.{Some, LeftThere, RightThere};
-ghost use Rattle.join_check.specs.Checks.{checksIn, RowThere, RowChecked};
+ghost use Rattle.join_check.specs.Checks.{RowThere, RowChecked};
+ghost use Rattle.join_check.specs.Counters.{checksIn};
 ghost use Rattle.join_check.specs.Probes.{Probed, outcomeOf, probeOutcome, OneChecked};
 
 // What is left of a left set to be checked: its signature, and where its ranks that are not on the merged path lie.
@@ -76,31 +77,31 @@ pub fn check_probe(work: &[u32], lay: Layout, p: Probe, s: usize) -> Checked
 }
 
 // The same, and counts the check.
-fn check_one(work: &[u32], lay: Layout, p: Probe, s: usize, t: Tally) -> Tally
+fn check_one(work: &[u32], lay: Layout, p: Probe, s: usize, tally: Tally) -> Tally
     requires { ⌜ Some (λ q. RightThere lay q (now work) s) ⌝ }
     requires { ⌜ Rising (p .from) (p .to) (now work) ⌝ }
-    requires { ⌜ checksIn t + 1 < 4294967296 ⌝ }
-    ensures { λ r. ⌜ OneChecked lay (now (work .entry)) p s t r ⌝ }
+    requires { ⌜ checksIn tally + 1 < 4294967296 ⌝ }
+    ensures { λ r. ⌜ OneChecked lay (now (work .entry)) p s tally r ⌝ }
 {
     let end = check_probe(work, lay, p, s);
     match end {
         Checked::Dropped => Tally {
-            by_path: t.by_path,
-            confirmed: t.confirmed,
-            dropped: t.dropped + 1,
-            false_drops: t.false_drops,
+            by_path: tally.by_path,
+            confirmed: tally.confirmed,
+            dropped: tally.dropped + 1,
+            false_drops: tally.false_drops,
         },
         Checked::FalseDrop => Tally {
-            by_path: t.by_path,
-            confirmed: t.confirmed,
-            dropped: t.dropped,
-            false_drops: t.false_drops + 1,
+            by_path: tally.by_path,
+            confirmed: tally.confirmed,
+            dropped: tally.dropped,
+            false_drops: tally.false_drops + 1,
         },
         Checked::Confirmed => Tally {
-            by_path: t.by_path,
-            confirmed: t.confirmed + 1,
-            dropped: t.dropped,
-            false_drops: t.false_drops,
+            by_path: tally.by_path,
+            confirmed: tally.confirmed + 1,
+            dropped: tally.dropped,
+            false_drops: tally.false_drops,
         },
     }
 }
@@ -114,14 +115,14 @@ pub fn check_row(
     e: usize,
     from: usize,
     to: usize,
-    t: Tally,
+    tally: Tally,
 ) -> Tally
     requires { ⌜ Some (λ q. RowThere lay q (now work) k e from to) ⌝ }
-    requires { ⌜ checksIn t + (to - from) < 4294967296 ⌝ }
-    ensures { λ r. ⌜ RowChecked lay (now (work .entry)) k e from to t r ⌝ }
+    requires { ⌜ checksIn tally + (to - from) < 4294967296 ⌝ }
+    ensures { λ r. ⌜ RowChecked lay (now (work .entry)) k e from to tally r ⌝ }
 {
     let p = probe_left(work, lay, k, e);
-    let mut r = t;
+    let mut r = tally;
     let mut i = from;
     while i < to {
         let s = word_at(work, i);
