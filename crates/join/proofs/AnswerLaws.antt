@@ -19,6 +19,7 @@ use Rattle.join_spec.specs.PairList.{pairCount}
 use Rattle.join_spec.specs.Query.{Query, query}
 use Rattle.join_spec.specs.Walk.{Outcome}
 use Rattle.join_spec.specs.Counting.{total, checksOf, countsOf, isByPath, isConfirmed, isDropped, isFalse}
+use Rattle.join_spec.specs.Kinds.{pathPair, confirmedCheck, droppedCheck, falseCheck}
 use Rattle.join_spec.specs.Answer.{walkAnswer, workKept}
 use Rattle.join_spec.proofs.Demand.{pairs-met, checks-end, total-small}
 use Rattle.join_spec.proofs.Accepted.{spent-above, within-joined}
@@ -26,7 +27,7 @@ use Rattle.sets.proofs.Between.{length-sets}
 use Rattle.join_index.specs.Ground.{Ground}
 use Rattle.join_index.specs.declared.Layout.{Layout}
 use Rattle.join_check.specs.Asking.{Index}
-use Rattle.join_walk.specs.Partitions.{Ready, WalkDone}
+use Rattle.join_walk.specs.Partitions.{WalkReady, WalkDone}
 use Rattle.join_walk.specs.declared.visit.Walked.{Walked}
 use Rattle.join_walk.proofs.FrameLaws.{index-framed}
 use Rattle.join_pairs.specs.Writing.{PairsRoom}
@@ -86,7 +87,7 @@ module _ {T : ℕ} {leftEnds leftItems rightEnds rightItems : List ℕ} {limit :
     walk-index = record { ground = ground rule; room = room }
 
     pub walk-ready : (budget : ℕ)
-        → Ready lay (record { limit = limit; rule = rule; budget = budget }) q w (length leftEnds) (length rightEnds)
+        → WalkReady lay (record { limit = limit; rule = rule; budget = budget }) q w (length leftEnds) (length rightEnds)
     walk-ready budget =
         record {
           index = walk-index;
@@ -102,7 +103,7 @@ module _ {T : ℕ} {leftEnds leftItems rightEnds rightItems : List ℕ} {limit :
         positive n h = omega arith
 
     pub walk-made : {budget : ℕ} {w′ : List ℕ} {r : Walked}
-        → ((q : Query) → Ready lay (record { limit = limit; rule = rule; budget = budget }) q w (length leftEnds)
+        → ((q : Query) → WalkReady lay (record { limit = limit; rule = rule; budget = budget }) q w (length leftEnds)
         (length rightEnds)
         → WalkDone lay q budget w w′ r)
         → WalkDone lay q budget w w′ r
@@ -120,14 +121,14 @@ module _ {T : ℕ} {leftEnds leftItems rightEnds rightItems : List ℕ} {limit :
 
   module _ (calm : r .spent ≡ false) where
     pub count-is : r .tally .«by_path» + r .tally .confirmed ≡ pairCount (asked .lefts) (asked .rights)
-    count-is = omega (arith, done .counted .byPath calm, done .counted .confirmed calm, all-met ok rule)
+    count-is = omega (arith, done .counted .counts calm pathPair, done .counted .counts calm confirmedCheck, all-met ok rule)
 
     pub count-small : r .tally .«by_path» + r .tally .confirmed < 4294967296
     count-small =
         omega (
           arith,
-          done .counted .byPath calm,
-          done .counted .confirmed calm,
+          done .counted .counts calm pathPair,
+          done .counted .counts calm confirmedCheck,
           small ok rule isByPath,
           small ok rule isConfirmed,
         )
@@ -136,9 +137,9 @@ module _ {T : ℕ} {leftEnds leftItems rightEnds rightItems : List ℕ} {limit :
     checks-small =
         omega (
           arith,
-          done .counted .dropped calm,
-          done .counted .falseDrops calm,
-          done .counted .confirmed calm,
+          done .counted .counts calm droppedCheck,
+          done .counted .counts calm falseCheck,
+          done .counted .counts calm confirmedCheck,
           small ok rule isDropped,
           small ok rule isFalse,
           small ok rule isConfirmed,
@@ -171,7 +172,7 @@ module _ {T : ℕ} {leftEnds leftItems rightEnds rightItems : List ℕ} {limit :
     answer-joined places enough =
         let counted = done .counted in
         ap Joined
-        (counts-same count-is (counted .byPath calm) (counted .confirmed calm)
-        (omega (arith, counted .dropped calm, counted .falseDrops calm, counted .confirmed calm, checks-end asked))
-        (counted .dropped calm) (counted .falseDrops calm))
+        (counts-same count-is (counted .counts calm pathPair) (counted .counts calm confirmedCheck)
+        (omega (arith, counted .counts calm droppedCheck, counted .counts calm falseCheck, counted .counts calm confirmedCheck, checks-end asked))
+        (counted .counts calm droppedCheck) (counted .counts calm falseCheck))
         ∙ sym (within-joined asked budget places (done .counted .within calm) (omega (arith, enough, count-is)))

@@ -3,14 +3,14 @@
 use Prim.Native.Nat.{ℕ, _+_, _*_, _≤_}
 use mathlib.Core.Path.{_≡_, refl, sym, ap₂, subst, _∙_}
 use mathlib.Core.List.{List, [], _∷_}
-use mathlib.Core.Bool.{Bool}
+use mathlib.Core.Bool.{Bool, false}
 use native.Mathlib.Omega.{arith}
 use lib.ListN.{length}
 use Rattle.lists.specs.Lists.{one, count, sum}
 use Rattle.lists.proofs.Summing.{sum-same, sum-add, sum-bound}
 use Rattle.join_spec.specs.Walk.{Outcome, notMet, byPath, dropped, falseDrop, confirmed}
 use Rattle.join_spec.specs.Counting.{isCheck}
-use Rattle.join_spec.specs.Kinds.{Kind, isOf, kinds, checkKinds}
+use Rattle.join_spec.specs.Kinds.{Kind, pathPair, confirmedCheck, droppedCheck, falseCheck, isOf, kinds, checkKinds}
 
 -- the kinds of one outcome
 check-kinds : (o : Outcome) → one (isCheck o) ≡ sum (λ kind. one (isOf kind o)) checkKinds
@@ -29,7 +29,14 @@ one-kind dropped = omega arith
 one-kind falseDrop = omega arith
 one-kind confirmed = omega arith
 
-sum-zero : {A : Type 0} (l : List A) → sum (λ a. 0) l ≡ 0
+-- a pair that is not met is of no kind
+pub kind-met : (kind : Kind) → isOf kind notMet ≡ false
+kind-met pathPair = refl
+kind-met confirmedCheck = refl
+kind-met droppedCheck = refl
+kind-met falseCheck = refl
+
+pub sum-zero : {A : Type 0} (l : List A) → sum (λ a. 0) l ≡ 0
 unfolding sum
 sum-zero [] = refl
 sum-zero (x ∷ xs) = omega (arith, sum-zero xs)
