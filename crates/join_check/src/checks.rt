@@ -4,6 +4,7 @@ use join_index::Layout;
 use signatures::double_at;
 use word_lists::merge::subset_words;
 use word_lists::words::word_at;
+ghost use mathlib.Core.Path.{_≡_};
 ghost use Prim.Native.Nat.{_+_, _-_, _*_, _<_};
 ghost use Rattle.word_lists.specs.Merges.{Rising};
 ghost use Rattle.join_spec.specs.Query.{Query};
