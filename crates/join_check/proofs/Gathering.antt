@@ -10,6 +10,7 @@ use Rattle.lists.specs.Lists.{sum, slice}
 use Rattle.lists.proofs.Throughout.{all-front, all-back}
 use Rattle.lists.proofs.Summing.{sum-append}
 use Rattle.lists.proofs.Slices.{all-slice}
+use Rattle.sets.specs.Limits.{fullWords}
 use Rattle.join_spec.specs.Query.{Query}
 use Rattle.join_spec.specs.Kinds.{isOf}
 use Rattle.join_index.specs.declared.Layout.{Layout}
@@ -104,8 +105,8 @@ module _ (lay : Layout) (w : List ℕ) (e lo hi from to : ℕ) (t : Tally) where
         ap (λ (n : ℕ). n * (to - from)) parts ∙ add-mul (j - i) (hi - j) (to - from)
 
     -- the checks of the next run fit
-    pub runs-room : (j : ℕ) → i ≤ j → j ≤ hi → checksIn t + (hi - lo) * (to - from) < 4294967296
-        → checksIn r + (j - i) * (to - from) < 4294967296
+    pub runs-room : (j : ℕ) → i ≤ j → j ≤ hi → checksIn t + (hi - lo) * (to - from) < fullWords
+        → checksIn r + (j - i) * (to - from) < fullWords
     runs-room j some high fits = omega (arith, cut j some high, so .grown)
 
     pub runs-step : (j : ℕ) (u : Tally) → i ≤ j → j ≤ hi → RunsChecked lay w e i j from to r u

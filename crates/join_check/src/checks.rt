@@ -6,6 +6,7 @@ use word_lists::merge::subset_words;
 use word_lists::words::word_at;
 ghost use mathlib.Core.Path.{_≡_};
 ghost use Prim.Native.Nat.{_+_, _-_, _*_, _<_};
+ghost use Rattle.sets.specs.Limits.{fullWords};
 ghost use Rattle.word_lists.specs.Merges.{Rising};
 ghost use Rattle.join_spec.specs.Query.{Query};
 ghost use Rattle.join_check.specs.Asking.{Some, LeftThere, RightThere};
@@ -80,7 +81,7 @@ pub fn check_probe(work: &[u32], lay: Layout, p: Probe, s: usize) -> Checked
 fn check_one(work: &[u32], lay: Layout, p: Probe, s: usize, tally: Tally) -> Tally
     requires { ⌜ Some (λ q. RightThere lay q (now work) s) ⌝ }
     requires { ⌜ Rising (p .from) (p .to) (now work) ⌝ }
-    requires { ⌜ checksIn tally + 1 < 4294967296 ⌝ }
+    requires { ⌜ checksIn tally + 1 < fullWords ⌝ }
     ensures { λ r. ⌜ OneChecked lay (now (work .entry)) p s tally r ⌝ }
 {
     let end = check_probe(work, lay, p, s);
@@ -118,7 +119,7 @@ pub fn check_row(
     tally: Tally,
 ) -> Tally
     requires { ⌜ Some (λ q. RowThere lay q (now work) k e from to) ⌝ }
-    requires { ⌜ checksIn tally + (to - from) < 4294967296 ⌝ }
+    requires { ⌜ checksIn tally + (to - from) < fullWords ⌝ }
     ensures { λ r. ⌜ RowChecked lay (now (work .entry)) k e from to tally r ⌝ }
 {
     let p = probe_left(work, lay, k, e);

@@ -6,6 +6,7 @@ use crate::keys::run_end;
 use join_index::Layout;
 use word_lists::words::word_at;
 ghost use Prim.Native.Nat.{_+_, _-_, _*_, _<_};
+ghost use Rattle.sets.specs.Limits.{fullWords};
 ghost use Rattle.join_check.specs.Asking.{Some};
 ghost use Rattle.join_check.specs.Checks.{RunsThere, RunsChecked};
 ghost use Rattle.join_check.specs.Counters.{checksIn};
@@ -23,7 +24,7 @@ pub fn check_run(
     tally: Tally,
 ) -> Tally
     requires { ⌜ Some (λ q. RunsThere lay q (now work) e lo hi from to) ⌝ }
-    requires { ⌜ checksIn tally + (hi - lo) * (to - from) < 4294967296 ⌝ }
+    requires { ⌜ checksIn tally + (hi - lo) * (to - from) < fullWords ⌝ }
     ensures { λ r. ⌜ RunsChecked lay (now (work .entry)) e lo hi from to tally r ⌝ }
 {
     let order = lay.order;
@@ -52,7 +53,7 @@ pub fn gather(
     tally: Tally,
 ) -> Tally
     requires { ⌜ Some (λ q. RunsThere lay q (now work) e lo hi from to) ⌝ }
-    requires { ⌜ checksIn tally + (hi - lo) * (to - from) < 4294967296 ⌝ }
+    requires { ⌜ checksIn tally + (hi - lo) * (to - from) < fullWords ⌝ }
     ensures { λ r. ⌜ RunsChecked lay (now (work .entry)) e lo hi from to tally r ⌝ }
 {
     if limit <= d {

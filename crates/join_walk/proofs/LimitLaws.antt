@@ -15,6 +15,7 @@ use Rattle.lists.proofs.Counting.{count-bound}
 use Rattle.lists.proofs.Filtering.{length-keep}
 use Rattle.lists.proofs.Ranges.{length-range}
 use Rattle.lists.proofs.Slices.{length-slice}
+use Rattle.sets.specs.Limits.{maxPairs}
 use Rattle.join_spec.specs.Query.{Query}
 use Rattle.join_spec.specs.Walk.{isCandidate}
 use Rattle.join_spec.specs.Counting.{isByPath}
@@ -30,7 +31,7 @@ use Rattle.join_check.specs.declared.Tally.{Tally}
 use Rattle.join_check.proofs.Orders.{order-within, run-next, run-none, run-key}
 use Rattle.join_walk.specs.Rows.{row, pathPairs}
 use Rattle.join_walk.specs.Narrowing.{candidateList}
-use Rattle.join_walk.specs.Visiting.{maxPairs, Added, Merged, Visited}
+use Rattle.join_walk.specs.Visiting.{Added, Merged, Visited}
 use Rattle.join_walk.specs.Blocks.{Small, Blocked, AtLimit}
 use Rattle.join_walk.specs.declared.visit.Settings.{Settings}
 use Rattle.join_walk.specs.declared.visit.Walked.{Walked}

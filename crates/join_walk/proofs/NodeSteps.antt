@@ -15,6 +15,7 @@ use Rattle.lists.proofs.Throughout.{all-back}
 use Rattle.lists.proofs.Filtering.{all-kept, all-keep}
 use Rattle.lists.proofs.Summing.{sum-same-where}
 use Rattle.lists.proofs.Slices.{length-slice}
+use Rattle.sets.specs.Limits.{maxPairs}
 use Rattle.join_spec.specs.Query.{Query}
 use Rattle.join_spec.specs.Node.{lastOf}
 use Rattle.join_spec.specs.Walk.{Outcome, notMet, isCandidate}
@@ -29,7 +30,7 @@ use Rattle.join_check.specs.Counters.{checksIn}
 use Rattle.join_check.specs.declared.Tally.{Tally}
 use Rattle.join_walk.specs.Rows.{goes, row, pathPairs}
 use Rattle.join_walk.specs.Narrowing.{Candidates, Narrowed, slotOf}
-use Rattle.join_walk.specs.Visiting.{maxPairs, OnPath, Node, ChildrenAt, NodeVisited, ChildrenVisited, Visited, Added, Merged}
+use Rattle.join_walk.specs.Visiting.{OnPath, Node, ChildrenAt, NodeVisited, ChildrenVisited, Visited, Added, Merged}
 use Rattle.join_walk.specs.Visiting.{Framed, beginners}
 use Rattle.join_walk.specs.Blocks.{AtLimit, MergedEnd}
 use Rattle.join_walk.specs.declared.narrow.Part.{Part}

@@ -12,7 +12,7 @@ use lib.ListN.{length}
 use Rattle.lists.specs.Lists.{keep, prefix, range, slice, sum, upto}
 use Rattle.lists.proofs.Bools.{true-false}
 use Rattle.lists.proofs.Summing.{sum-same, sum-append, sum-same-where}
-use Rattle.sets.specs.Limits.{maxSets}
+use Rattle.sets.specs.Limits.{maxSets, maxPairs}
 use Rattle.join_spec.specs.Query.{Query}
 use Rattle.join_spec.specs.Walk.{Outcome}
 use Rattle.join_spec.specs.Counting.{total, isByPath, isCheck}
@@ -25,7 +25,7 @@ use Rattle.join_check.specs.Runs.{run}
 use Rattle.join_check.specs.Counters.{counter, checksIn}
 use Rattle.join_check.specs.declared.Tally.{Tally}
 use Rattle.join_walk.specs.Rows.{row, pathPairs}
-use Rattle.join_walk.specs.Visiting.{maxPairs, Merged, PartVisited, beginners}
+use Rattle.join_walk.specs.Visiting.{Merged, PartVisited, beginners}
 use Rattle.join_walk.specs.Blocks.{MergedEnd}
 use Rattle.join_walk.specs.Partitions.{Partitions, WalkReady, WalkDone}
 use Rattle.join_walk.specs.declared.visit.Settings.{Settings}

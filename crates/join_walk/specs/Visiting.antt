@@ -6,7 +6,7 @@ use mathlib.Core.List.{List}
 use mathlib.Core.Bool.{true, false}
 use lib.ListN.{length, take}
 use Rattle.lists.specs.Lists.{keep, prefix, sum, slice}
-use Rattle.sets.specs.Limits.{maxLimit}
+use Rattle.sets.specs.Limits.{maxLimit, maxPairs}
 use Rattle.join_spec.specs.Query.{Query}
 use Rattle.join_spec.specs.Node.{lastOf}
 use Rattle.join_spec.specs.Counting.{isCheck}
@@ -21,10 +21,6 @@ use Rattle.join_walk.specs.Rows.{row, pathPairs}
 use Rattle.join_walk.specs.Narrowing.{Candidates, candidateList, slotOf}
 use Rattle.join_walk.specs.declared.visit.Settings.{Settings}
 use Rattle.join_walk.specs.declared.visit.Walked.{Walked}
-
--- the greatest number of pairs of a left and a right set
-abbrev pub maxPairs : ℕ
-maxPairs = 4096 * 4096
 
 -- the settings are the query's, the checks so far are within the budget, and there is room to count n further left sets
 pub record Underway (st : Settings) (q : Query) (tally : Tally) (n : ℕ) : Type 0 where

@@ -9,6 +9,7 @@ use join_index::Layout;
 use word_lists::words::word_at;
 ghost use mathlib.Core.List.{List};
 ghost use Prim.Native.Nat.{ℕ, _+_, _≤_};
+ghost use Rattle.sets.specs.Limits.{maxPairs};
 ghost use Rattle.join_spec.specs.Query.{Query};
 ghost use Rattle.join_check.specs.Asking.{Some, RunThere};
 ghost use Rattle.join_spec.specs.Counting.{isByPath};
@@ -16,7 +17,7 @@ ghost use Rattle.join_check.specs.Runs.{run};
 ghost use Rattle.join_check.specs.Checks.{RunsThere};
 ghost use Rattle.join_walk.specs.Rows.{pathPairs};
 ghost use Rattle.join_walk.specs.Narrowing.{SomePath};
-ghost use Rattle.join_walk.specs.Visiting.{maxPairs, Visited, Merged};
+ghost use Rattle.join_walk.specs.Visiting.{Visited, Merged};
 ghost use Rattle.join_walk.specs.Blocks.{Small, Blocked, MergedEnd, AtLimit};
 
 // Checks the left sets at the places lo up to hi, which share their first d ranks, after e ranks against every candidate. No
