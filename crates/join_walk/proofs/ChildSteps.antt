@@ -34,7 +34,7 @@ use Rattle.join_walk.specs.Visiting.{Underway, Node, Child, Children, Af
 use Rattle.join_walk.specs.Visiting.{Visited, Framed, RunVisited, NodeVisited}
 use Rattle.join_walk.specs.declared.visit.Settings.{Settings}
 use Rattle.join_walk.specs.declared.visit.Walked.{Walked}
-use Rattle.join_walk.proofs.Groups.{First}
+use Rattle.join_walk.proofs.Groups.{FirstGroup}
 use Rattle.join_walk.proofs.Prefixes.{keep-further, prefix-take, prefix-length}
 use Rattle.join_walk.proofs.Narrowing.{candidate-path, listing-kept}
 use Rattle.join_walk.proofs.RunLaws.{Cut, begins-first}
@@ -76,7 +76,7 @@ module _ {lay : Layout} {st : Settings} {q : Query} {path w : List ℕ} {d i hi 
   pub kids-run : RunThere lay q w i hi
   kids-run = record { index = kids .index; some = more; within = kids .few }
 
-  first : First (keyAt q d) (kids .x) (kids .n) rest (leftIn lay w i)
+  first : FirstGroup (keyAt q d) (kids .x) (kids .n) rest (leftIn lay w i)
   first = group-first d (kids .x) (kids .n) rest kids-run (kids .lefts)
 
   -- the child's own rank, and its path
