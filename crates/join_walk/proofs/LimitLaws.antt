@@ -28,7 +28,7 @@ use Rattle.word_lists.specs.Words.{Word}
 use Rattle.join_check.specs.Checks.{RunsThere, runCount}
 use Rattle.join_check.specs.Counters.{checksIn}
 use Rattle.join_check.specs.declared.Tally.{Tally}
-use Rattle.join_check.proofs.Orders.{order-within, run-next, run-none, run-key}
+use Rattle.join_check.proofs.Orders.{run-first, run-none, run-key}
 use Rattle.join_walk.specs.Rows.{row, pathPairs}
 use Rattle.join_walk.specs.Narrowing.{candidateList}
 use Rattle.join_walk.specs.Visiting.{Added, Merged, Visited}
@@ -140,7 +140,7 @@ all-one p x l e h = subst (λ (m : List ℕ). all p m ≡ true) (sym e) (and-bot
 module _ {lay : Layout} {st : Settings} {q : Query} {w : List ℕ} {d i from to : ℕ} {t : Tally} where
   one-left : {path : List ℕ} → AtLimit lay st q path w d i (i + 1) from to t → run lay w i (i + 1) ≡ leftIn lay w i ∷ []
   one-left at =
-      run-next lay w i (i + 1) (omega arith) (omega (arith, order-within lay q w (at .index), at .few))
+      run-first (limit-run at (omega arith))
       ∙ ap (λ (l : List ℕ). leftIn lay w i ∷ l) (run-none lay w (i + 1) (i + 1) (omega arith))
 
   pub one-room : {path : List ℕ} → AtLimit lay st q path w d i (i + 1) from to t
@@ -178,7 +178,7 @@ module _ {lay : Layout} {st : Settings} {q : Query} {w : List ℕ} {d i from to 
   -- its key as it was read
   pub one-key : {path : List ℕ} {k r : ℕ} → AtLimit lay st q path w d i (i + 1) from to t → Word w (lay .order + i) k
       → ((q : Query) → LeftThere lay q w k → r ≡ keyAt q d k) → r ≡ keyAt q d (leftIn lay w i)
-  one-key {k = k} {r = r} at word read = run-key (limit-run at (omega arith)) d i k r (omega arith) word read
+  one-key at word read = run-key (limit-run at (omega arith)) d i (omega arith) word read
 
   pub one-there : (path : List ℕ) → AtLimit lay st q path w d i (i + 1) from to t → RunsThere lay q w d i (i + 1) from to
   one-there [] at = absurd (omega (arith, at .depth, at .deep))

@@ -36,7 +36,7 @@ use Rattle.join_walk.proofs.Narrowing.{listing-length}
 -- what is on a path
 module _ {lay : Layout} {q : Query} {path w : List ℕ} {lo i : ℕ} (on : OnPath lay q path w lo i) where
   pub on-left : LeftThere lay q w (leftIn lay w lo)
-  on-left = order-left lay q w (on .index) lo (on .few)
+  on-left = order-left (on .index) lo (on .few)
 
   on-deep : i < length (leftAt q (leftIn lay w lo))
   on-deep = omega (arith, on .deep, prefix-length path (leftAt q (leftIn lay w lo)) (on .begins))

@@ -19,7 +19,7 @@ key-at-requires c κs =
     let there = limit-run (start .pre .holds) (omega arith) in
     record {
       query = start .pre .query;
-      holds = run-left there (start .args .i) (c .word-at .result) (omega arith) (c .word-at .ensures);
+      holds = run-left there (start .args .i) (omega arith) (c .word-at .ensures);
     }
 
 sub-add-paths : tie.Need-sub-add-paths
