@@ -60,8 +60,7 @@ gather-returns t c =
 
 gather-loop-holds : (t : ℕ) → gather-lts.Need-loop-holds (callees t) (gather-at t) gather.Post Inv-loop μ-loop
 gather-loop-holds t c =
-    let a = c .before .before .args in
-    runs-start (a .lay) (a .work .now) (a .e) (a .lo) (a .hi) (a .from) (a .to) (a .tally)
+    runs-start
 
 gather-add-word-at : (t : ℕ) → gather-lts.Need-add-word-at (callees t) (gather-at t) gather.Post Inv-loop μ-loop
 gather-add-word-at t c =
@@ -80,8 +79,7 @@ gather-key-at-requires t c κs =
     let more = c .before .loop-test .taken in
     record {
       query = start .pre .1 .0 .query;
-      holds = run-left (runs-run (start .pre .1 .0 .holds) (at-loop .loop .i) more) (at-loop .loop .i) (c .word-at .result) more
-          (c .word-at .ensures);
+      holds = run-left (runs-run (start .pre .1 .0 .holds) (at-loop .loop .i) more) (at-loop .loop .i) more (c .word-at .ensures);
     }
 
 gather-run-end-requires : (t : ℕ) → gather-lts.Need-run-end-requires (callees t) (gather-at t) gather.Post Inv-loop μ-loop
@@ -98,15 +96,13 @@ gather-check-run-requires-2 : (t : ℕ) → gather-lts.Need-check-run-requires-2
 gather-check-run-requires-2 t c κs =
     let at-loop = c .before .before .before .before .before in
     let start = at-loop .before .before .before in
-    let a = start .args in
     let run = c .before .run-end .ensures in (
       record {
         query = start .pre .1 .0 .query;
         holds = runs-part (start .pre .1 .0 .holds) (at-loop .loop .i) (c .before .run-end .result) (at-loop .loop .inv .low)
             (omega (arith, run .more)) (run .within);
       },
-      runs-room (a .lay) (a .work .now) (a .e) (a .lo) (a .hi) (a .from) (a .to) (a .tally) (at-loop .loop .r) (at-loop .loop .i)
-          (at-loop .loop .inv) (c .before .run-end .result)
+      runs-room (at-loop .loop .inv) (c .before .run-end .result)
           (omega (arith, run .more)) (run .within) (start .pre .1 .1),
     )
 
@@ -120,7 +116,6 @@ gather-gather-requires t c κs =
     let at-loop = c .before .before .before .before .before in
     let at-if1 = at-loop .before in
     let start = at-if1 .before .before in
-    let a = start .args in
     let run = c .before .run-end .ensures in (
       omega (arith, at-if1 .if1 .left, start .pre .0),
       (
@@ -129,8 +124,7 @@ gather-gather-requires t c κs =
           holds = runs-part (start .pre .1 .0 .holds) (at-loop .loop .i) (c .before .run-end .result)
               (at-loop .loop .inv .low) (omega (arith, run .more)) (run .within);
         },
-        runs-room (a .lay) (a .work .now) (a .e) (a .lo) (a .hi) (a .from) (a .to) (a .tally) (at-loop .loop .r)
-            (at-loop .loop .i) (at-loop .loop .inv) (c .before .run-end .result)
+        runs-room (at-loop .loop .inv) (c .before .run-end .result)
             (omega (arith, run .more)) (run .within) (start .pre .1 .1),
       ),
     )
@@ -144,13 +138,8 @@ gather-loop-less t c =
 gather-loop-again : (t : ℕ) → gather-lts.Need-loop-again (callees t) (gather-at t) gather.Post Inv-loop μ-loop
 gather-loop-again t c =
     let at-run-end = c .before .before in
-    let at-loop = at-run-end .before .before .before .before in
-    let start = at-loop .before .before .before in
-    let a = start .args in
     let run = at-run-end .run-end .ensures in
-    runs-step (a .lay) (a .work .now) (a .e) (a .lo) (a .hi) (a .from) (a .to) (a .tally) (at-loop .loop .r) (at-loop .loop .i)
-    (at-loop .loop .inv) (at-run-end .run-end .result)
-    (c .check-run2 .result) (omega (arith, run .more)) (run .within) (c .check-run2 .ensures)
+    runs-step (at-run-end .before .before .before .before .loop .inv) (omega (arith, run .more)) (run .within) (c .check-run2 .ensures)
 
 gather-loop-less-2 : (t : ℕ) → gather-lts.Need-loop-less-2 (callees t) (gather-at t) gather.Post Inv-loop μ-loop
 gather-loop-less-2 t c =
@@ -161,20 +150,12 @@ gather-loop-less-2 t c =
 gather-loop-again-2 : (t : ℕ) → gather-lts.Need-loop-again-2 (callees t) (gather-at t) gather.Post Inv-loop μ-loop
 gather-loop-again-2 t c =
     let at-run-end = c .before .before in
-    let at-loop = at-run-end .before .before .before .before in
-    let start = at-loop .before .before .before in
-    let a = start .args in
     let run = at-run-end .run-end .ensures in
-    runs-step (a .lay) (a .work .now) (a .e) (a .lo) (a .hi) (a .from) (a .to) (a .tally) (at-loop .loop .r) (at-loop .loop .i)
-    (at-loop .loop .inv) (at-run-end .run-end .result)
-    (c .gather .result) (omega (arith, run .more)) (run .within) (c .gather .ensures)
+    runs-step (at-run-end .before .before .before .before .loop .inv) (omega (arith, run .more)) (run .within) (c .gather .ensures)
 
 gather-returns-2 : (t : ℕ) → gather-lts.Need-returns-2 (callees t) (gather-at t) gather.Post Inv-loop μ-loop
 gather-returns-2 t c =
-    let start = c .before .before .before .before in
-    let a = start .args in
-    runs-end (a .lay) (a .work .now) (a .e) (a .lo) (a .hi) (a .from) (a .to) (a .tally) (c .before .loop .r) (c .before .loop .i)
-    (c .before .loop .inv) (c .loop-test .left)
+    runs-end (c .before .loop .inv) (c .loop-test .left)
 
 pub +gather-spec : {M : Type 1} → statement M
 +gather-spec = close μ-gather λ t. gather-lts.spec (callees t) (gather-at t)
