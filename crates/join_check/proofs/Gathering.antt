@@ -16,8 +16,8 @@ use Rattle.join_spec.specs.Kinds.{isOf}
 use Rattle.join_index.specs.declared.Layout.{Layout}
 use Rattle.join_check.specs.declared.Tally.{Tally}
 use Rattle.word_lists.specs.Words.{Word}
-use Rattle.join_check.specs.Asking.{RunThere}
-use Rattle.join_check.specs.Runs.{leftIn, run}
+use Rattle.join_check.specs.Asking.{Some, RunThere}
+use Rattle.join_check.specs.Runs.{leftIn, run, RunEnd}
 use Rattle.join_check.specs.Checks.{rowCount, runCount, holdFirst}
 use Rattle.join_check.specs.Counters.{checksIn}
 use Rattle.join_check.specs.Checks.{RowThere, RunsThere, RowChecked, RunsChecked}
@@ -108,6 +108,18 @@ module _ {lay : Layout} {w : List ℕ} {e lo hi from to : ℕ} {t : Tally} where
     pub runs-room : (j : ℕ) → i ≤ j → j ≤ hi → checksIn t + (hi - lo) * (to - from) < fullWords
         → checksIn r + (j - i) * (to - from) < fullWords
     runs-room j some high fits = omega (arith, cut j some high, so .grown)
+
+    -- the next run as it is asked of its checks: it can be checked, and its checks fit
+    pub runs-next : {d j : ℕ} → Some (λ q. RunsThere lay q w e lo hi from to) → RunEnd lay w d i hi j
+        → checksIn t + (hi - lo) * (to - from) < fullWords
+        → Some (λ q. RunsThere lay q w e i j from to) × (checksIn r + (j - i) * (to - from) < fullWords)
+    runs-next {j = j} some end fits = (
+      record {
+        query = some .query;
+        holds = runs-part (some .holds) i j (so .low) (omega (arith, end .more)) (end .within);
+      },
+      runs-room j (omega (arith, end .more)) (end .within) fits,
+    )
 
     pub runs-step : {j : ℕ} {u : Tally} → i ≤ j → j ≤ hi → RunsChecked lay w e i j from to r u
         → RunsChecking lay w e lo hi from to t u j

@@ -1,5 +1,5 @@
--- `join_check::checks::check_row` meets its contract. The invariant: the counters, with the checks of the places that are
--- left, are what they were with all. The measure is how many places are left.
+-- `join_check::checks::check_row` meets its contract. The invariant: the counters, with the checks of the places still to
+-- come, are what they were with all. The measure is how many places are to come.
 use mathlib.Core.Path.{_≡_, refl, sym, ap, _∙_}
 use mathlib.Core.List.{List}
 use Prim.Native.Nat.{ℕ, _+_, _-_, _≤_, _<_}

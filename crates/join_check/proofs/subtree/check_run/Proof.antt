@@ -1,5 +1,5 @@
 -- `join_check::subtree::check_run` meets its contract. The invariant is `RunsChecking`: the counters, with the checks of the left
--- sets that are left, are what they were with all. The measure is how many are left.
+-- sets still to come, are what they were with all. The measure is how many are to come.
 use Prim.Native.Nat.{ℕ, _+_, _-_, _*_}
 use mathlib.Core.Path.{_≡_, ap, _∙_}
 use native.Mathlib.Omega.{arith}
