@@ -4,6 +4,7 @@ use mathlib.Core.Path.{_≡_, subst}
 use mathlib.Core.List.{List}
 use native.Mathlib.Omega.{arith}
 use lib.ListN.{length}
+use Rattle.sets.specs.Limits.{maxItems}
 use Rattle.sets.specs.declared.Side.the-variants.{Left, Right}
 use Rattle.tag_file.specs.declared.Loaded.{Loaded}
 use Rattle.tag_file.specs.declared.LoadAnswer.the-variants as load
@@ -11,10 +12,10 @@ use Rattle.tag_file.specs.Records.{records, tagTable}
 use Rattle.tag_file.specs.Loading.{Lists, filled, loadAnswer}
 use Rattle.tag_file.proofs.ItemCount.{length-tagBytes, length-numbersOf, length-endsOf}
 use Rattle.tag_file.proofs.AnswerLaws.{accepted, room-each}
-use Rattle.kitlist.specs.Places.{Within}
+use Rattle.kitlist.specs.Places.{tableBytes, Within}
 
 module _ (file : List ℕ) (lent : Lists) (ranks : List ℕ) (loaded : Loaded) (e : loadAnswer file lent ≡ load.Loaded loaded) where
-  pub loaded-within : length (lent .tags) ≤ 49152 → 4096 ≤ length ranks
+  pub loaded-within : length (lent .tags) ≤ tableBytes → maxItems ≤ length ranks
       → Within loaded (lent .leftNumbers) (lent .leftEnds) (lent .rightNumbers) (lent .rightEnds) ranks
   loaded-within few many =
       let rs = records file in
