@@ -1,6 +1,6 @@
 -- The places of the pair list lie within the two collections, and one step through such a list.
 use Prim.Native.Nat.{ℕ, zero, suc, _+_, _*_, _<_, _≤_}
-use mathlib.Core.Path.{_≡_, refl, sym, ap, subst, _∙_}
+use mathlib.Core.Path.{_≡_, refl, sym, subst, _∙_}
 use mathlib.Core.List.{List, [], _∷_, _++_}
 use mathlib.Core.Bool.{Bool, true, false, _&&_}
 use native.Mathlib.Omega.{arith}
@@ -14,11 +14,12 @@ use Rattle.sets.proofs.Between.{length-sets}
 use Rattle.join_spec.specs.declared.Counts.{Counts}
 use Rattle.join_spec.specs.declared.JoinAnswer.{JoinAnswer}
 use Rattle.join_spec.specs.declared.JoinAnswer.the-variants.{Joined}
-use Rattle.join_spec.specs.PairList.{ontoPair, rowFrom, pairsFrom, pairCount}
+use Rattle.join_spec.specs.PairList.{ontoPair, rowFrom, pairsFrom}
 use Rattle.join_spec.specs.Query.{Settings}
-use Rattle.join_spec.specs.Answer.{Room, joinAnswer, pairsAfter}
+use Rattle.join_spec.specs.Answer.{roomOf, RunCall}
 use Rattle.join_spec.proofs.Accepted.{accepted}
-use Rattle.join_spec.proofs.AcceptedRuns.{pairsOf, pairs-counted, filled-part}
+use Rattle.join_spec.proofs.AcceptedRuns.{pairs-counted}
+use Rattle.join_spec.proofs.Calls.{call-filled}
 use Rattle.kitlist.specs.Places.{pairsWithin}
 
 module _ (m n : ℕ) where
@@ -42,22 +43,20 @@ module _ (m n : ℕ) where
       row-within l 0 (contained left) rights (pairsFrom contained (suc l) lefts rights) (omega arith) (omega arith)
       (pairs-within (suc l) lefts rights (omega arith) in-n)
 
--- the filled part of an accepted join's pair list
-module _ (i : Input) (s : Settings) (room : Room) (counts : Counts) (joins : joinAnswer i s room ≡ Joined counts) where
-  pub places-enough : 2 * counts .pairs ≤ room .places
+-- the filled part of an accepted call's pair list
+module _ (i : Input) (s : Settings) {work before work′ after : List ℕ} {answer : JoinAnswer} {counts : Counts}
+    (call : RunCall i s work before work′ after answer) (joins : answer ≡ Joined counts) where
+  pub places-enough : 2 * counts .pairs ≤ length before
   places-enough =
-      let places : 2 * pairCount (leftSets i) (rightSets i) ≤ room .places = accepted i s room counts joins .places in
-      let counted = pairs-counted i s room counts joins in
-      omega arith
+      let room = roomOf work before in
+      let right = sym (call .answer) ∙ joins in
+      omega (arith, accepted i s room counts right .places, pairs-counted i s room counts right)
 
-  pub places-within : (m n : ℕ) (before after : List ℕ) (answer : JoinAnswer) → length (i .left .ends) ≡ m
-      → length (i .right .ends) ≡ n
-      → answer ≡ joinAnswer i s room → after ≡ pairsAfter answer (pairsOf i) before
+  pub places-within : (m n : ℕ) → length (i .left .ends) ≡ m → length (i .right .ends) ≡ n
       → pairsWithin m n (take (2 * counts .pairs) after) ≡ true
-  places-within m n before after answer left right same is =
-      let exit = is ∙ ap (λ (a : JoinAnswer). pairsAfter a (pairsOf i) before) same in
-      subst (λ (l : List ℕ). pairsWithin m n l ≡ true)
-      (sym (ap (take (2 * counts .pairs)) exit ∙ filled-part i s room counts joins before))
+  places-within m n left right =
+      let joined = subst (λ (a : JoinAnswer). RunCall i s work before work′ after a) joins call in
+      subst (λ (l : List ℕ). pairsWithin m n l ≡ true) (sym (call-filled i s joined))
       (pairs-within m n 0 (leftSets i) (rightSets i)
       (omega (arith, length-sets 0 (i .left .ends) (i .left .items)))
       (omega (arith, length-sets 0 (i .right .ends) (i .right .items))))

@@ -4,6 +4,8 @@ use item_order::OrderAnswer;
 use join_spec::Counts;
 use join_spec::JoinAnswer;
 use join_spec::Rule;
+use sets::MAX_ITEMS;
+use sets::MAX_SETS;
 use sets::Refusal;
 use tag_file::LoadAnswer;
 use tag_file::Loaded;
@@ -11,15 +13,28 @@ ghost use mathlib.Core.Path.{_≡_};
 ghost use mathlib.Core.Bool.{true};
 ghost use Prim.Native.Nat.{_<_};
 ghost use lib.ListN.{length};
-ghost use Rattle.kitlist.specs.Places.{pairsWithin, Within};
+ghost use Rattle.sets.specs.Limits.{maxSets};
+ghost use Rattle.kitlist.specs.Places.{workWords, pairPlaces, tableBytes, sideItems, pairsWithin, Within};
 
 const STDIN: i32 = 0;
 
 const STDOUT: i32 = 1;
-// The longest file that is read.
+// The longest file that is read, and a byte more to tell that it is longer.
 const MAX_FILE: usize = 65536;
-// The depth limit of the join.
+
+const BUFFER: usize = MAX_FILE + 1;
+// The depth limit and the budget of the join.
 const LIMIT: u32 = 2;
+
+const BUDGET: u32 = 0xFFFFFFFF;
+// The words of the work list, and the places of the pair list, two a pair.
+const WORDS: usize = 16384;
+
+const PLACES: usize = 16384;
+// The bytes of the tag table, and the items of a side: a tag has 12 bytes.
+const TABLE: usize = 12 * (MAX_ITEMS as usize);
+
+const ITEMS: usize = MAX_FILE / 12;
 
 fn wide(x: u16) -> usize
     ensures { λ r. ⌜ r ≡ x ⌝ }
@@ -31,6 +46,11 @@ fn wide(x: u16) -> usize
 fn print_count(word: &[u8], n: u64) {
     io::write_all(STDOUT, word);
     io::print_decimal(STDOUT, n);
+}
+
+// A record number.
+fn print_number(number: u16) {
+    io::print_decimal(STDOUT, number as u64);
 }
 
 // The number of a refusal and what returns with it: two numbers for a bad set, else one.
@@ -58,8 +78,9 @@ fn print_counts(counts: Counts) {
 fn print_pair(left_numbers: &[u16], left: usize, right_numbers: &[u16], right: usize)
     requires { ⌜ (left < length (now «left_numbers»)) × (right < length (now «right_numbers»)) ⌝ }
 {
-    io::print_decimal(STDOUT, left_numbers[left] as u64);
-    print_count(b" ", right_numbers[right] as u64);
+    print_number(left_numbers[left]);
+    io::write_all(STDOUT, b" ");
+    print_number(right_numbers[right]);
     io::write_all(STDOUT, b"\n");
 }
 
@@ -79,16 +100,16 @@ fn print_pairs(pairs: &[u16], left_numbers: &[u16], right_numbers: &[u16])
     }
 }
 
-fn new_work() -> [u32; 16384]
-    ensures { λ r. ⌜ 16384 ≡ length r ⌝ }
+fn new_work() -> [u32; WORDS]
+    ensures { λ r. ⌜ workWords ≡ length r ⌝ }
 {
-    [0; 16384]
+    [0; WORDS]
 }
 
-fn new_pairs() -> [u16; 16384]
-    ensures { λ r. ⌜ 16384 ≡ length r ⌝ }
+fn new_pairs() -> [u16; PLACES]
+    ensures { λ r. ⌜ pairPlaces ≡ length r ⌝ }
 {
-    [0; 16384]
+    [0; PLACES]
 }
 
 // Joins ordered collections and prints the list, or why there is none.
@@ -115,7 +136,7 @@ fn list_ordered(
         right_items,
         LIMIT,
         ranks,
-        0xFFFFFFFF,
+        BUDGET,
         Rule::Merge,
         &mut work,
         &mut pairs,
@@ -196,28 +217,28 @@ fn list_counted(
     );
 }
 
-fn new_tags() -> [u8; 49152]
-    ensures { λ r. ⌜ 49152 ≡ length r ⌝ }
+fn new_tags() -> [u8; TABLE]
+    ensures { λ r. ⌜ tableBytes ≡ length r ⌝ }
 {
-    [0; 49152]
+    [0; TABLE]
 }
 
-fn new_places() -> [u16; 4096]
-    ensures { λ r. ⌜ 4096 ≡ length r ⌝ }
+fn new_places() -> [u16; MAX_SETS]
+    ensures { λ r. ⌜ maxSets ≡ length r ⌝ }
 {
-    [0; 4096]
+    [0; MAX_SETS]
 }
 
-fn new_ends() -> [u32; 4096]
-    ensures { λ r. ⌜ 4096 ≡ length r ⌝ }
+fn new_ends() -> [u32; MAX_SETS]
+    ensures { λ r. ⌜ maxSets ≡ length r ⌝ }
 {
-    [0; 4096]
+    [0; MAX_SETS]
 }
 
-fn new_items() -> [u16; 5461]
-    ensures { λ r. ⌜ 5461 ≡ length r ⌝ }
+fn new_items() -> [u16; ITEMS]
+    ensures { λ r. ⌜ sideItems ≡ length r ⌝ }
 {
-    [0; 5461]
+    [0; ITEMS]
 }
 
 // Loads a file and lists, or says why there is no list. The lists hold every file of at most 65,536 bytes: such a file has fewer
@@ -257,7 +278,7 @@ fn list_file(file: &[u8]) {
 }
 
 fn main() {
-    let mut file = [0u8; 65537];
+    let mut file = [0u8; BUFFER];
     let length = io::read_full(STDIN, &mut file);
     if MAX_FILE < length {
         print_refusal(Refusal::ShortWork);

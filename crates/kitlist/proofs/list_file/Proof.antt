@@ -1,5 +1,4 @@
 -- `list_file` is safe: what was loaded lies within the lists.
-use mathlib.Core.Path.{sym, _∙_}
 use native.Mathlib.Omega.{arith}
 use Rattle.tag_file.specs.Loading.{listsOf}
 use Rattle.kitlist.proofs.LoadedRoom.{loaded-within, within-kept}
@@ -97,7 +96,7 @@ list-counted-requires c κs =
     (loaded-within _
     (listsOf (tags .result) (left-numbers .result) (left-ends .result) (left-items .result)
     (right-numbers .result) (right-ends .result) (right-items .result))
-    (ranks .result) _ (sym (load .ensures .answered) ∙ told .answer .given .1)
+    (ranks .result) (load .ensures) (told .answer .given .1)
     (omega (arith, tags .ensures)) (omega (arith, ranks .ensures)))
     (load .kept .1 .1 .0) (load .kept .1 .1 .1 .0) (load .kept .1 .1 .1 .1 .1 .0) (load .kept .1 .1 .1 .1 .1 .1 .0)
 

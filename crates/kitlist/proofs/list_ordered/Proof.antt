@@ -1,21 +1,36 @@
 -- `list_ordered` is safe: the filled part of the pair list has whole pairs of places within the two collections.
-use mathlib.Core.Path.{sym, _∙_}
-use mathlib.Core.List.{List}
-use Prim.Native.Nat.{ℕ}
+use mathlib.Core.Path.{_≡_, sym}
+use mathlib.Core.Bool.{true}
+use Prim.Native.Nat.{_*_, _≤_}
 use native.Mathlib.Omega.{arith}
+use lib.ListN.{length}
 use lib.Seq.{length-take-le}
+use Rattle.inputs.specs.Input.{Input, inputOf}
+use Rattle.join_spec.specs.declared.Counts.{Counts}
 use Rattle.join_spec.specs.declared.Rule.the-variants.{Merge}
-use Rattle.inputs.specs.Input.{inputOf}
+use Rattle.join_spec.specs.declared.JoinAnswer.the-variants.{Joined}
 use Rattle.join_spec.specs.Query.{Settings, settingsOf}
-use Rattle.join_spec.specs.Answer.{roomOf}
 use Rattle.kitlist.proofs.PairPlaces.{places-enough, places-within}
 use borrow.Author.Needs.{needs}
 use Rattle.kitlist.proofs.list_ordered.Statement.{statement}
 use Rattle.kitlist.proofs.list_ordered.Tie as tie
 
--- the join that is asked for
-abbrev asked : List ℕ → Settings
-asked ranks = settingsOf 2 ranks 4294967295 Merge
+-- the call that a join belongs to, what it joins, and how
+abbrev start : tie.After-run → tie.Start
+start p = p .before .before .before .before .before .before .before .before .before .before .before .before
+
+abbrev input : tie.After-run → Input
+input p =
+    let a = start p .args in
+    inputOf (a .t) (a .left-ends .now) (a .left-items .now) (a .right-ends .now) (a .right-items .now)
+
+abbrev asked : tie.After-run → Settings
+asked p = settingsOf 2 (start p .args .ranks .now) 4294967295 Merge
+
+-- an accepted join's pairs lie within the pair list
+enough : (p : tie.After-run) (counts : Counts) → p .run .result ≡ Joined counts
+    → 2 * counts .pairs ≤ length (p .before .before .before .new-pairs .result)
+enough p counts joins = places-enough (input p) (asked p) (p .run .ensures) joins
 
 new-work-requires : tie.Need-new-work-requires
 new-work-requires c κs = search needs
@@ -47,43 +62,21 @@ mul-places c = search needs
 array-share-prefix-pairs : tie.Need-array-share-prefix-pairs
 array-share-prefix-pairs c =
     let told = c .before .before .before in
-    let run = told .before .before .before .before in
-    let lent = run .before .before .before in
-    let work = lent .before in
-    let start = work .before .before .before .before .before .before .before .before in
-    let a = start .args in
-    let input = inputOf (a .t) (a .left-ends .now) (a .left-items .now) (a .right-ends .now) (a .right-items .now) in
-    let room = roomOf (work .new-work .result) (lent .new-pairs .result) in
-    let joins = sym (run .run .ensures .answer) ∙ told .answer .given .1 in
-    omega (arith, places-enough input (asked (a .ranks .now)) room _ joins, run .run .kept .1 .1 .1 .1 .1 .1 .1 .1 .1 .1 .0)
+    let p = told .before .before .before .before in
+    omega (arith, enough p _ (told .answer .given .1), p .run .kept .1 .1 .1 .1 .1 .1 .1 .1 .1 .1 .0)
 
 slice-aggregate-print-pairs : tie.Need-slice-aggregate-print-pairs
 slice-aggregate-print-pairs c =
     let told = c .before .before .before .before in
-    let run = told .before .before .before .before in
-    let lent = run .before .before .before in
-    let work = lent .before in
-    let start = work .before .before .before .before .before .before .before .before in
-    let a = start .args in
-    let input = inputOf (a .t) (a .left-ends .now) (a .left-items .now) (a .right-ends .now) (a .right-items .now) in
-    let room = roomOf (work .new-work .result) (lent .new-pairs .result) in
-    let joins = sym (run .run .ensures .answer) ∙ told .answer .given .1 in
-    let enough = places-enough input (asked (a .ranks .now)) room _ joins in
-    sym (length-take-le _ _ (omega (arith, enough, run .run .kept .1 .1 .1 .1 .1 .1 .1 .1 .1 .1 .0)))
+    let p = told .before .before .before .before in
+    let most = enough p _ (told .answer .given .1) in
+    sym (length-take-le _ _ (omega (arith, most, p .run .kept .1 .1 .1 .1 .1 .1 .1 .1 .1 .1 .0)))
 
 print-pairs-requires : tie.Need-print-pairs-requires
 print-pairs-requires c κs =
     let told = c .before .before .before .before in
-    let run = told .before .before .before .before in
-    let lent = run .before .before .before in
-    let work = lent .before in
-    let start = work .before .before .before .before .before .before .before .before in
-    let a = start .args in
-    let input = inputOf (a .t) (a .left-ends .now) (a .left-items .now) (a .right-ends .now) (a .right-items .now) in
-    let room = roomOf (work .new-work .result) (lent .new-pairs .result) in
-    let joins = sym (run .run .ensures .answer) ∙ told .answer .given .1 in
-    places-within input (asked (a .ranks .now)) room _ joins _ _ (lent .new-pairs .result) _ _ (start .pre .0) (start .pre .1)
-    (run .run .ensures .answer) (run .run .ensures .pairs)
+    let p = told .before .before .before .before in
+    places-within (input p) (asked p) (p .run .ensures) (told .answer .given .1) _ _ (start p .pre .0) (start p .pre .1)
 
 enum-known-answer-2 : tie.Need-enum-known-answer-2
 enum-known-answer-2 c = search needs
