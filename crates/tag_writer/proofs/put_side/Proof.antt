@@ -103,6 +103,19 @@ Inv-loop side tags numbers ends items file₀ at k₀ start₀ to₀ file k star
 abbrev μ-loop : tie.MeasureT-loop
 μ-loop side tags numbers ends items file₀ at k₀ start₀ to₀ file k start to = length ends - k
 
+-- the call that a turn belongs to, and what the turn has
+abbrev begin : tie.In-loop Inv-loop μ-loop → tie.Start Inv-loop μ-loop
+begin p = p .before .before .before .before .before .before .before
+
+now-turn : (p : tie.In-loop Inv-loop μ-loop)
+    → Turn (begin p .args .tags .now) (begin p .args .items .now) (p .before .loop .file) (p .before .loop .k) (p .before .loop .start)
+    (getD (begin p .args .ends .now) (p .before .loop .k) 0) (p .before .loop .to)
+now-turn p = turn _ _ _ _ _ _ _ _ _ _ _ (begin p .pre .0) (begin p .pre .1) (p .loop-test .taken) (p .before .loop .inv)
+
+-- the turn after its record was put
+abbrev within : tie.After-slice-known2 Inv-loop μ-loop → tie.In-loop Inv-loop μ-loop
+within c = c .before .before .before .before .before .before
+
 loop-holds : tie.Need-loop-holds Inv-loop μ-loop
 loop-holds c = putting-start _ _ _ _ _ _ _ (c .before .before .before .before .before .pre .0)
 
@@ -123,38 +136,20 @@ shared-slice-read-number c = omega arith
 
 put-record-requires : tie.Need-put-record-requires Inv-loop μ-loop
 put-record-requires c κs =
-    let test = c .before .before .before in
-    let entry = test .before .before .before .before .before .before .before in
-    let now = turn _ _ _ _ _ _ _ _ _ _ _ (entry .pre .0) (entry .pre .1) (test .loop-test .taken) (test .before .loop .inv) in
+    let now = now-turn (c .before .before .before) in
     (now .fit, (now .set .short, now .room))
 
 sub-to : tie.Need-sub-to Inv-loop μ-loop
-sub-to c =
-    let test = c .before .before .before .before .before .before in
-    let entry = test .before .before .before .before .before .before .before in
-    let now = turn _ _ _ _ _ _ _ _ _ _ _ (entry .pre .0) (entry .pre .1) (test .loop-test .taken) (test .before .loop .inv) in
-    omega (arith, now .set .ordered, now .room, entry .good)
+sub-to c = omega (arith, now-turn (within c) .set .ordered)
 
 mul-to : tie.Need-mul-to Inv-loop μ-loop
-mul-to c =
-    let test = c .before .before .before .before .before .before in
-    let entry = test .before .before .before .before .before .before .before in
-    let now = turn _ _ _ _ _ _ _ _ _ _ _ (entry .pre .0) (entry .pre .1) (test .loop-test .taken) (test .before .loop .inv) in
-    omega (arith, now .set .ordered, now .room, entry .good)
+mul-to c = omega (arith, now-turn (within c) .room, begin (within c) .good)
 
 add-to : tie.Need-add-to Inv-loop μ-loop
-add-to c =
-    let test = c .before .before .before .before .before .before in
-    let entry = test .before .before .before .before .before .before .before in
-    let now = turn _ _ _ _ _ _ _ _ _ _ _ (entry .pre .0) (entry .pre .1) (test .loop-test .taken) (test .before .loop .inv) in
-    omega (arith, now .set .ordered, now .room, entry .good)
+add-to c = omega (arith, now-turn (within c) .room, begin (within c) .good)
 
 add-to-2 : tie.Need-add-to-2 Inv-loop μ-loop
-add-to-2 c =
-    let test = c .before .before .before .before .before .before in
-    let entry = test .before .before .before .before .before .before .before in
-    let now = turn _ _ _ _ _ _ _ _ _ _ _ (entry .pre .0) (entry .pre .1) (test .loop-test .taken) (test .before .loop .inv) in
-    omega (arith, now .set .ordered, now .room, entry .good)
+add-to-2 c = omega (arith, now-turn (within c) .room, begin (within c) .good)
 
 add-k : tie.Need-add-k Inv-loop μ-loop
 add-k c = omega arith
@@ -164,9 +159,8 @@ loop-less c = omega arith
 
 loop-again : tie.Need-loop-again Inv-loop μ-loop
 loop-again c =
-    let test = c .before .before .before .before .before .before in
-    let entry = test .before .before .before .before .before .before .before in
-    putting-step _ _ _ _ _ _ _ _ _ _ _ (entry .pre .0) (entry .pre .1) (test .loop-test .taken) (test .before .loop .inv) _
+    let p = within c in
+    putting-step _ _ _ _ _ _ _ _ _ _ _ (begin p .pre .0) (begin p .pre .1) (p .loop-test .taken) (p .before .loop .inv) _
     (c .before .before .put-record .ensures)
 
 same-length : tie.Need-same-length Inv-loop μ-loop
