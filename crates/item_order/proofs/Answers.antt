@@ -38,7 +38,7 @@ module _ (i : Input) (places : ℕ) where
     test-sets long e = rw (few, eq-eqb places (i .T) long) e
 
   -- its refusals change nothing
-  pub test-keep : (why : Refusal) → orderTest i places ≡ Failed why → clears why ≡ false
+  test-keep : (why : Refusal) → orderTest i places ≡ Failed why → clears why ≡ false
   unfolding orderTest
   test-keep why e = go (ltb maxItems (i .T)) (not (eqb places (i .T))) e
     where

@@ -23,7 +23,7 @@ use Rattle.tag_writer.proofs.Records.{headOf, length-head}
 use Rattle.tag_round_trip.specs.Rewritten.{bytesOfRecords}
 use Rattle.tag_round_trip.proofs.Values.{tagsFit, first-fits, rest-fits, tagAt-here, drop-tag}
 
-pub tagsAt-here : (file : List ℕ) (at : ℕ) (tags rest : List ℕ) → tagsFit tags ≡ true → drop at file ≡ tagBytes tags ++ rest
+tagsAt-here : (file : List ℕ) (at : ℕ) (tags rest : List ℕ) → tagsFit tags ≡ true → drop at file ≡ tagBytes tags ++ rest
     → tagsAt (length tags) file at ≡ tags
 unfolding tagsAt tagBytes
 tagsAt-here file at [] rest fit here = refl
@@ -63,7 +63,7 @@ module _ (file : List ℕ) (at number count : ℕ) (rest : List ℕ) (room : tag
       let both : getD file (at + 2) 0 * 256 + getD file (at + 3) 0 ≡ number = omega arith in
       whole-record file at side (omega arith) (omega arith) ∙ rw (both, tags)
 
-  pub read-head : (side : Side) → drop at file ≡ headOf side number count ++ rest
+  read-head : (side : Side) → drop at file ≡ headOf side number count ++ rest
       → readAt file at ≡ Record side number count (at + headLength) (at + headLength + tagLength * count)
   unfolding readAt prefix
   read-head Left here =
@@ -82,7 +82,7 @@ module _ (file : List ℕ) (at number count : ℕ) (rest : List ℕ) (room : tag
 abbrev pub recordsFit : List TagRecord → Bool
 recordsFit rs = all (λ r. tagsFit (r .tags)) rs
 
-pub length-bytesOfRecords : (rs : List TagRecord) → length (bytesOfRecords rs) ≡ totalLength rs
+length-bytesOfRecords : (rs : List TagRecord) → length (bytesOfRecords rs) ≡ totalLength rs
 unfolding bytesOfRecords sum
 length-bytesOfRecords [] = refl
 length-bytesOfRecords (r ∷ rs) =
@@ -95,7 +95,7 @@ length-bytesOfRecords (r ∷ rs) =
     )
 
 -- the records from a place on, where their bytes stand from there to the end
-pub recordsAt-bytes : (file : List ℕ) (at : ℕ) (rs : List TagRecord) → recordsFit rs ≡ true → at ≤ length file
+recordsAt-bytes : (file : List ℕ) (at : ℕ) (rs : List TagRecord) → recordsFit rs ≡ true → at ≤ length file
     → drop at file ≡ bytesOfRecords rs → recordsAt file at ≡ rs
 unfolding bytesOfRecords all
 recordsAt-bytes file at [] fit within here =
