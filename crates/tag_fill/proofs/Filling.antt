@@ -26,7 +26,7 @@ use Rattle.tag_file.proofs.RecordLaws.{read-whole, records-next}
 use Rattle.tag_file.proofs.Tables.{memb-collapse}
 use Rattle.tag_index.specs.Index.{tableOf, Sorted, Ranked}
 use Rattle.tag_index.proofs.Ids.{sorted-size}
-use Rattle.tag_fill.specs.Fill.{Unmarked, Marking, Known, RoomForOne, OneFilled, FillReady}
+use Rattle.tag_fill.specs.Fill.{Unmarked, Marking, TagsKnown, RoomForOne, OneFilled, FillReady}
 use Rattle.tag_fill.specs.declared.Filled.{Filled}
 use Rattle.tag_fill.proofs.Marks.{unmarked-zeros, marked-items}
 use Rattle.tag_fill.proofs.Runs.{join-one, numbers-cons, sets-cons, join-onto, ends-onto}
@@ -131,7 +131,7 @@ module _ {file : List ℕ} {side : Side} {numbers₀ ends₀ items₀ marks numb
         omega (arith, w .place, w .past, w .within)
 
     pub filling-known : {heads tails : List ℕ} {m : ℕ} {order ranks : List ℕ} → Sorted heads tails m order → Ranked m order ranks
-        → tableOf heads tails m order ≡ table → m ≤ 4096 → Known file heads tails m order ranks p c
+        → tableOf heads tails m order ≡ table → m ≤ 4096 → TagsKnown file heads tails m order ranks p c
     filling-known sorted ranked same small =
         let w = read-whole file at kind n c p next e in
         record {

@@ -54,10 +54,10 @@ module _ {was : List ℕ} {at width number : ℕ} {is : List ℕ} {rest left : �
       }
 
 -- the bytes of a tag are those of its head and its tail
-pub tag-parts : (head tail : ℕ) → tail < 4294967296 → bytesOf 12 (head * 4294967296 + tail) ≡ bytesOf 8 head ++ bytesOf 4 tail
+pub tag-parts : (head tail : ℕ) → tail < wordSpan → bytesOf 12 (head * wordSpan + tail) ≡ bytesOf 8 head ++ bytesOf 4 tail
 unfolding bytesOf
 tag-parts head tail small =
-    let v = head * 4294967296 + tail in
+    let v = head * wordSpan + tail in
     let high : v / 256 / 256 / 256 / 256 ≡ head = omega arith in
     let a : v / 256 / 256 / 256 % 256 ≡ tail / 256 / 256 / 256 % 256 = omega arith in
     let b : v / 256 / 256 % 256 ≡ tail / 256 / 256 % 256 = omega arith in

@@ -96,10 +96,10 @@ fn has_room(
 // The second pass: fills the seven lists.
 fn fill_lists(
     file: &[u8],
-    heads: &[usize; 4352],
-    tails: &[u32; 4352],
-    order: &[u16; 4352],
-    hints: &[u16; 16384],
+    heads: &[usize; INDEX_ROOM],
+    tails: &[u32; INDEX_ROOM],
+    order: &[u16; INDEX_ROOM],
+    hints: &[u16; HINT_SLOTS],
     n: usize,
     tags: &mut [u8],
     left_numbers: &mut [u16],
@@ -120,7 +120,7 @@ fn fill_lists(
         (now («left_numbers» .exit)) (now («left_ends» .exit)) (now («left_items» .exit))
         (now («right_numbers» .exit)) (now («right_ends» .exit)) (now («right_items» .exit))) ⌝ }
 {
-    let mut ranks = [0u16; 4352];
+    let mut ranks = [0u16; INDEX_ROOM];
     rank_ids(order, n, &mut ranks);
     fill_tags(heads, tails, order, n, tags);
     fill_side(
@@ -170,10 +170,10 @@ pub fn load(
         (now («left_numbers» .exit)) (now («left_ends» .exit)) (now («left_items» .exit))
         (now («right_numbers» .exit)) (now («right_ends» .exit)) (now («right_items» .exit))) r ⌝ }
 {
-    let mut heads = [0usize; 4352];
-    let mut tails = [0u32; 4352];
-    let mut order = [0u16; 4352];
-    let mut hints = [65535u16; 16384];
+    let mut heads = [0usize; INDEX_ROOM];
+    let mut tails = [0u32; INDEX_ROOM];
+    let mut order = [0u16; INDEX_ROOM];
+    let mut hints = [65535u16; HINT_SLOTS];
     let answer = scan(file, &mut heads, &mut tails, &mut order, &mut hints);
     let LoadAnswer::Loaded(total) = answer else {
         clear_lists(

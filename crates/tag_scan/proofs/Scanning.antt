@@ -23,7 +23,7 @@ use Rattle.tag_file.specs.declared.ReadAnswer.the-variants.{Record, Refused}
 use Rattle.tag_file.proofs.FaultLaws.{fault-used, fault-past, fault-none}
 use Rattle.tag_file.proofs.Tables.{length-insertAll-bound}
 use Rattle.tag_file.proofs.RecordLaws.{length-tagsAt, read-whole, records-next, totalLength-last}
-use Rattle.tag_index.specs.Index.{tableOf, Sorted, Ready, AllAdded}
+use Rattle.tag_index.specs.Index.{tableOf, Sorted, AddReady, AllAdded}
 use Rattle.tag_index.proofs.Ids.{sorted-size}
 use Rattle.tag_scan.specs.Scan.{keyOf, grownBy, isOver, Limited, Lengths, Scanned}
 use Rattle.tag_scan.proofs.Numbers.{Noted, noted-step, noted-tells}
@@ -41,14 +41,14 @@ pub record Scanning (file used heads tails order places : List ℕ) (total : Loa
   pub fault : fileFault file ≡ firstFault seen (recordsAt file at) (lastRefusal file)
   pub noted : Noted used seen
   pub sorted : Sorted heads tails (total .tags) order
-  pub wide : length places ≡ 4352
+  pub wide : length places ≡ indexRoom
   pub before : (id : ℕ) → id < total .tags → getD places id 0 < at
   pub table : tableOf heads tails (total .tags) order ≡ tagTable seen
   pub counts : total ≡ totalsOf seen
   pub limited : Limited total
 
 pub scanning-start : (file used heads tails order places : List ℕ) (total : Loaded) → Lengths heads tails order
-    → length places ≡ 4352 → Noted used [] → total ≡ totalsOf [] → Scanning file used heads tails order places total 0
+    → length places ≡ indexRoom → Noted used [] → total ≡ totalsOf [] → Scanning file used heads tails order places total 0
 unfolding fileFault sum tableOf rising insertAll allTags keep
 scanning-start file used heads tails order places total l wide noted e =
     let zero-tags : total .tags ≡ 0 = ap (λ (t : Loaded). t .tags) e in
@@ -61,7 +61,7 @@ scanning-start file used heads tails order places total l wide noted e =
       fault = refl;
       noted = noted;
       sorted = record {
-        holds = record { heads-full = l .heads-full; tails-full = l .tails-full; room = omega arith };
+        kept = record { heads-full = l .heads-full; tails-full = l .tails-full; room = omega arith };
         listed = record {
           full = l .order-full;
           room = omega arith;
@@ -158,7 +158,7 @@ module _ {file used heads tails order places : List ℕ} {total : Loaded} {at : 
         → fileFault file ≡ Failed (TooMany at)
     scanning-past f t = here ∙ rw (fault-past (s .seen) this f t, ← s .place)
 
-    pub scanning-ready : c < 256 → Ready file p c (total .tags) heads tails order places
+    pub scanning-ready : c < 256 → AddReady file p c (total .tags) heads tails order places
     scanning-ready byte =
         let w = read-whole file at side n c p next e in
         record {

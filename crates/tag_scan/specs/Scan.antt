@@ -66,9 +66,9 @@ pub record Limited (t : Loaded) : Type 0 where
 
 -- the lengths of the index's arrays
 pub record Lengths (heads tails order : List ℕ) : Type 0 where
-  pub heads-full : length heads ≡ 4352
-  pub tails-full : length tails ≡ 4352
-  pub order-full : length order ≡ 4352
+  pub heads-full : length heads ≡ indexRoom
+  pub tails-full : length tails ≡ indexRoom
+  pub order-full : length order ≡ indexRoom
 
 -- the index of all tags of a file
 pub record Indexed (file heads tails order : List ℕ) : Type 0 where

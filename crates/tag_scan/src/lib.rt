@@ -100,16 +100,16 @@ fn stopped(answer: ReadAnswer, total: Loaded) -> LoadAnswer
 // The first pass: the first record at fault, or the counts of the file and the index of its tags.
 pub fn scan(
     file: &[u8],
-    heads: &mut [usize; 4352],
-    tails: &mut [u32; 4352],
-    order: &mut [u16; 4352],
-    hints: &mut [u16; 16384],
+    heads: &mut [usize; INDEX_ROOM],
+    tails: &mut [u32; INDEX_ROOM],
+    order: &mut [u16; INDEX_ROOM],
+    hints: &mut [u16; HINT_SLOTS],
 ) -> LoadAnswer
     requires { ⌜ Lengths (now heads) (now tails) (now order) ⌝ }
     ensures { λ r. ⌜ Scanned (now (file .entry)) (now (heads .exit)) (now (tails .exit)) (now (order .exit)) r ⌝ }
 {
     let mut used = [0u64; 2048];
-    let mut seen = [0usize; 4352];
+    let mut seen = [0usize; INDEX_ROOM];
     let mut total = Loaded {
         left_sets: 0,
         right_sets: 0,

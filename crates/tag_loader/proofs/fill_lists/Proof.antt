@@ -13,7 +13,7 @@ use Rattle.tag_loader.proofs.fill_lists.Tie as tie
 rank-ids-requires : tie.Need-rank-ids-requires
 rank-ids-requires c κs =
     let start = c .before .before .before .before .before .before .before .before .before in
-    (sorted-here (start .pre) .listed, length-replicate {A = ℕ} 4352 0)
+    (sorted-here (start .pre) .listed, length-replicate {A = ℕ} indexRoom 0)
 
 fill-tags-requires : tie.Need-fill-tags-requires
 fill-tags-requires c κs =

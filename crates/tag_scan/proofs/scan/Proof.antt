@@ -30,7 +30,7 @@ unfolding keep sum insertAll allTags
 loop-holds c =
     let a = c .before .args in
     scanning-start (a .file .now) _ (a .heads .now) (a .tails .now) (a .order .now) _ _ (c .before .pre)
-    (length-replicate {A = ℕ} 4352 0) noted-start refl
+    (length-replicate {A = ℕ} indexRoom 0) noted-start refl
 
 read-record-requires : tie.Need-read-record-requires Inv-loop μ-loop
 read-record-requires c κs =
