@@ -12,9 +12,10 @@ use lib.Seq.{drop-cons}
 use Rattle.lists.specs.Lists.{prefix}
 use Rattle.sets.specs.declared.Side.{Side}
 use Rattle.sets.specs.declared.Side.the-variants.{Left, Right}
+use Rattle.sets.specs.declared.Refusal.{Refusal}
 use Rattle.sets.specs.declared.Refusal.the-variants.{Malformed}
 use Rattle.tag_file.specs.Format.{tagLength, headLength, mark}
-use Rattle.tag_file.specs.Reading.{marked, numberAt, countAt, pastTags, recordAt, readAt}
+use Rattle.tag_file.specs.Reading.{marked, numberAt, countAt, pastTags, wholeAt, recordAt, readAt}
 use Rattle.tag_file.specs.declared.ReadAnswer.the-variants.{Record, NoMore, Refused}
 
 cond-same : {A : Type 0} (b : Bool) (x : A) → cond b x x ≡ x
@@ -111,3 +112,38 @@ module _ (file : List ℕ) (at : ℕ) where
           marked-bytes Right head,
           bytes-other 0x53 0x4B (getD file at 0) (getD file (at + 1) 0) first second r,
         )
+
+-- ---- the reader refuses with the place that it was asked for
+
+module _ (file : List ℕ) (at : ℕ) (why : Refusal) where
+  record-refused : (side : Side) → recordAt side file at ≡ Refused why → why ≡ Malformed at
+  record-refused side e = pick (wholeAt file at) e
+    where
+      pick : (b : Bool) → cond b (Record side (numberAt file at) (countAt file at) (at + headLength) (past file at))
+          (Refused (Malformed at)) ≡ Refused why → why ≡ Malformed at
+      pick true e = let z : _≡_ {A = ℕ} 0 1 = cc in absurd (omega arith)
+      pick false e = cc
+
+  pub read-refused : readAt file at ≡ Refused why → why ≡ Malformed at
+  unfolding readAt
+  read-refused e = at-end (eqb at (length file)) e
+    where
+      right : (b : Bool) → cond b (recordAt Right file at) (Refused (Malformed at)) ≡ Refused why → why ≡ Malformed at
+      right true e = record-refused Right e
+      right false e = cc
+
+      left : (b : Bool)
+          → cond b (recordAt Left file at) (cond (marked Right file at) (recordAt Right file at) (Refused (Malformed at)))
+          ≡ Refused why
+          → why ≡ Malformed at
+      left true e = record-refused Left e
+      left false e = right (marked Right file at) e
+
+      at-end : (b : Bool)
+          → cond b NoMore
+          (cond (marked Left file at) (recordAt Left file at)
+          (cond (marked Right file at) (recordAt Right file at) (Refused (Malformed at))))
+          ≡ Refused why
+          → why ≡ Malformed at
+      at-end true e = let z : _≡_ {A = ℕ} 0 1 = cc in absurd (omega arith)
+      at-end false e = left (marked Left file at) e
