@@ -48,10 +48,10 @@ module _ {file heads tails order : List ℕ} {n : ℕ} {lent : Lists} (f : Filla
   each = room-each (filled (records file)) lent (f .room)
 
   pub sorted-here : Sorted heads tails n order
-  sorted-here = subst (λ (k : ℕ). Sorted heads tails k order) (sym (f .count)) (f .index .sorted)
+  sorted-here = subst (λ (k : ℕ). Sorted heads tails k order) (sym (f .count)) (f .taken .sorted)
 
   pub table-here : tableOf heads tails n order ≡ tagTable (records file)
-  table-here = ap (λ (k : ℕ). tableOf heads tails k order) (f .count) ∙ f .index .table
+  table-here = ap (λ (k : ℕ). tableOf heads tails k order) (f .count) ∙ f .taken .table
 
   pub tags-room : length (tagBytes (tableOf heads tails n order)) ≤ length (lent .tags)
   tags-room = subst (λ (l : List ℕ). length (tagBytes l) ≤ length (lent .tags)) (sym table-here) (each .tags)
@@ -63,8 +63,8 @@ module _ {file heads tails order : List ℕ} {n : ℕ} {lent : Lists} (f : Filla
           sorted = sorted-here;
           ranked = ranked;
           table = table-here;
-          small = omega (arith, f .count, f .limited .tags);
-          few = omega (arith, length-joinedItems Left (records file), f .limited .left-entries);
+          small = omega (arith, f .count, f .taken .limited .tags);
+          few = omega (arith, length-joinedItems Left (records file), f .taken .limited .left-entries);
           for-numbers = each .leftNumbers;
           for-ends = each .leftEnds;
           for-items = each .leftItems;
@@ -76,8 +76,8 @@ module _ {file heads tails order : List ℕ} {n : ℕ} {lent : Lists} (f : Filla
           sorted = sorted-here;
           ranked = ranked;
           table = table-here;
-          small = omega (arith, f .count, f .limited .tags);
-          few = omega (arith, length-joinedItems Right (records file), f .limited .right-entries);
+          small = omega (arith, f .count, f .taken .limited .tags);
+          few = omega (arith, length-joinedItems Right (records file), f .taken .limited .right-entries);
           for-numbers = each .rightNumbers;
           for-ends = each .rightEnds;
           for-items = each .rightItems;

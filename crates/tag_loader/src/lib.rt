@@ -7,8 +7,11 @@ use sets::Refusal;
 use sets::Side;
 use tag_file::LoadAnswer;
 use tag_file::Loaded;
+use tag_file::TAG_LENGTH;
 use tag_fill::fill_side;
 use tag_fill::fill_tags;
+use tag_index::HINT_SLOTS;
+use tag_index::INDEX_ROOM;
 use tag_index::rank_ids;
 use tag_scan::scan;
 ghost use mathlib.Core.Path.{_≡_};
@@ -16,6 +19,9 @@ ghost use Rattle.tag_file.specs.Records.{records};
 ghost use Rattle.tag_file.specs.Loading.{listsOf, LoadCall};
 ghost use Rattle.tag_scan.specs.Scan.{Limited};
 ghost use Rattle.tag_loader.specs.Passes.{sideFits, SideCleared, AllCleared, hasRoom, AllFilled, Fillable};
+
+// A hint that leads to no id.
+const NO_ID: u16 = 65535;
 
 // Whether lists of these lengths hold the numbers, ends and items of a side.
 fn side_fits(sets: usize, entries: usize, numbers: usize, ends: usize, items: usize) -> bool
@@ -71,7 +77,7 @@ fn has_room(
     requires { ⌜ Limited total ⌝ }
     ensures { λ r. ⌜ r ≡ hasRoom total tags «left_numbers» «left_ends» «left_items» «right_numbers» «right_ends» «right_items» ⌝ }
 {
-    if tags < 12 * total.tags {
+    if tags < TAG_LENGTH * total.tags {
         return false;
     }
     let left = side_fits(
@@ -173,7 +179,7 @@ pub fn load(
     let mut heads = [0usize; INDEX_ROOM];
     let mut tails = [0u32; INDEX_ROOM];
     let mut order = [0u16; INDEX_ROOM];
-    let mut hints = [65535u16; HINT_SLOTS];
+    let mut hints = [NO_ID; HINT_SLOTS];
     let answer = scan(file, &mut heads, &mut tails, &mut order, &mut hints);
     let LoadAnswer::Loaded(total) = answer else {
         clear_lists(

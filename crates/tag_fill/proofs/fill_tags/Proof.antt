@@ -5,7 +5,7 @@ use Prim.Native.Nat.{_+_, _-_, _≤_}
 use native.Mathlib.Omega.{arith}
 use lib.ListN.{getD, drop}
 use Rattle.lists.proofs.Writing.{Writing, writing-start, writing-room, writing-step, writing-end, written-whole}
-use Rattle.tag_file.specs.Format.{bytesOf, tagBytes}
+use Rattle.tag_file.specs.Format.{bytesOf, tagBytes, tagLength}
 use Rattle.tag_file.proofs.ItemCount.{length-bytesOf}
 use Rattle.tag_index.specs.Index.{tableOf}
 use Rattle.tag_index.proofs.Ids.{sorted-size, sorted-at}
@@ -75,8 +75,8 @@ put-tag-requires c κs =
     let table = tableOf (a .heads .now) (a .tails .now) (a .n) (a .order .now) in
     let i = at-loop .loop .i in
     let next = table-next table i (omega (arith, sorted-size s, test .loop-test .taken)) in
-    let room = writing-room (at-loop .loop .inv .0) (bytesOf 12 (getD table i 0)) (tagBytes (drop (i + 1) table)) next in
-    omega (arith, room, length-bytesOf 12 (getD table i 0))
+    let room = writing-room (at-loop .loop .inv .0) (bytesOf tagLength (getD table i 0)) (tagBytes (drop (i + 1) table)) next in
+    omega (arith, room, length-bytesOf tagLength (getD table i 0))
 
 add-i : tie.Need-add-i Inv-loop μ-loop
 add-i c =
@@ -97,7 +97,7 @@ loop-again c =
     let i = at-loop .loop .i in
     let inside = test .loop-test .taken in
     let next = table-next table i (omega (arith, sorted-size s)) in
-    let here = ap (bytesOf 12) (sym (sorted-at s i inside)) in
+    let here = ap (bytesOf tagLength) (sym (sorted-at s i inside)) in
     (writing-step (at-loop .loop .inv .0) next (rw here at (c .before .before .put-tag .ensures)), omega arith)
 
 same-length : tie.Need-same-length Inv-loop μ-loop

@@ -5,6 +5,7 @@ use Prim.Native.Nat.{ℕ}
 use lib.ListN.{length-replicate}
 use Rattle.tag_file.specs.Format.{tagBytes}
 use Rattle.sets.specs.Lent.{filledOver}
+use Rattle.tag_index.specs.Index.{indexRoom}
 use Rattle.tag_loader.proofs.Rooms.{sorted-here, table-here, tags-room, left-ready, right-ready}
 use borrow.Author.Needs.{needs}
 use Rattle.tag_loader.proofs.fill_lists.Statement.{statement}

@@ -2,6 +2,7 @@
 use mathlib.Core.Path.{sym, _∙_}
 use Prim.Native.Nat.{_*_}
 use borrow.Author.Tests.{le-leb, lt-leb, not-true, not-false}
+use Rattle.tag_file.specs.Format.{tagLength}
 use borrow.Author.Needs.{needs}
 use Rattle.tag_loader.proofs.has_room.Statement.{statement}
 use Rattle.tag_loader.proofs.has_room.Tie as tie
@@ -12,7 +13,7 @@ mul-if1 c = search needs
 returns : tie.Need-returns
 returns c =
     let a = c .before .before .args in
-    rw (lt-leb (12 * a .total .tags) (a .tags) (c .if1 .taken))
+    rw (lt-leb (tagLength * a .total .tags) (a .tags) (c .if1 .taken))
 
 side-fits-requires : tie.Need-side-fits-requires
 side-fits-requires c κs = search needs
@@ -22,7 +23,7 @@ returns-2 c =
     let a = c .before .before .before .before .args in
     let fits = c .before .side-fits in
     rw (
-      le-leb (12 * a .total .tags) (a .tags) (c .before .before .if1 .left),
+      le-leb (tagLength * a .total .tags) (a .tags) (c .before .before .if1 .left),
       sym (fits .ensures) ∙ not-true (fits .result) (c .if2 .taken),
     )
 
@@ -35,7 +36,7 @@ returns-3 c =
     let a = at-if1 .before .before .args in
     let fits = c .before .before .side-fits in
     rw (
-      le-leb (12 * a .total .tags) (a .tags) (at-if1 .if1 .left),
+      le-leb (tagLength * a .total .tags) (a .tags) (at-if1 .if1 .left),
       sym (fits .ensures) ∙ not-false (fits .result) (c .before .if2 .left),
     ) (c .side-fits2 .ensures)
 
