@@ -12,11 +12,11 @@ use lib.Seq.{slice-cons}
 use Rattle.lists.specs.Lists.{range, upto, slice}
 use Rattle.lists.proofs.Slices.{slice-none, length-slice}
 use Rattle.sets.specs.Collections.{lastEnd, entries}
-use Rattle.counting_sort.specs.Sorting.{Sorted, pick, sortedAt}
+use Rattle.counting_sort.specs.Sorting.{SortedByKey, pick, sortedAt}
 use Rattle.counting_sort.proofs.SortGroups.{offset-rise, offset-zero}
 use Rattle.index_keys.specs.Entries.{climbs, endPlaces, placesFrom}
 
-module _ {base k n : ℕ} {keys values w v : List ℕ} (s : Sorted base k n keys values w v)
+module _ {base k n : ℕ} {keys values w v : List ℕ} (s : SortedByKey base k n keys values w v)
     (within : sortedAt base k + n ≤ length v) where
   -- the offsets behind the first, as the ends of the groups
   module _ (x m : ℕ) (h : x + suc m ≤ k) where

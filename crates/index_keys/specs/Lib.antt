@@ -1,2 +1,4 @@
--- Contents: the keys and values that are written before a counting sort, and what the loops that write them need.
+-- Contents: lists written into the work list, and the keys and values of the sorts: of item entries, and of sets.
+pub mod Writing
 pub mod Entries
+pub mod SetKeys

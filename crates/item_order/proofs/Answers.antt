@@ -12,7 +12,7 @@ use Rattle.sets.specs.declared.Side.the-variants.{Left, Right}
 use Rattle.sets.specs.declared.Refusal.{Refusal}
 use Rattle.sets.specs.declared.Refusal.the-variants.{BadSet, BadSettings}
 use Rattle.item_order.specs.declared.OrderAnswer.the-variants.{Ordered, Refused}
-use Rattle.item_order.specs.Order.{orderAnswer, orderRanks, ranksOf}
+use Rattle.item_order.specs.Order.{orderAnswer, orderRanks, rankTable}
 
 module _ (T : ℕ) (leftEnds leftItems rightEnds rightItems : List ℕ) (falling : Bool) (ranks : List ℕ) where
   -- what the contract asks of a refusal, and of an order
@@ -41,7 +41,7 @@ module _ (T : ℕ) (leftEnds leftItems rightEnds rightItems : List ℕ) (falling
 
     pub accepted : firstBad T leftEnds leftItems ≡ Good → firstBad T rightEnds rightItems ≡ Good
         → (Ordered ≡ orderAnswer T leftEnds leftItems rightEnds rightItems ranks)
-        × (ranksOf falling T (setsOf leftEnds leftItems) (setsOf rightEnds rightItems)
+        × (rankTable falling T (setsOf leftEnds leftItems) (setsOf rightEnds rightItems)
         ≡ orderRanks T leftEnds leftItems rightEnds rightItems falling ranks)
     unfolding orderAnswer orderRanks
     accepted left right = rw (le-ltb maxItems T few, eq-eqb (length ranks) T long, left, right) (refl, refl)

@@ -20,7 +20,7 @@ use Rattle.sets.proofs.Between.{length-sets}
 use Rattle.sets.proofs.Good.{good-places, good-entries}
 use Rattle.sets.proofs.Entries.{entries-below, count-sets}
 use Rattle.item_order.specs.Order.{frequency}
-use Rattle.item_order.specs.Steps.{CanTally, Tallied, CanCount, CanCountBoth}
+use Rattle.item_order.specs.Steps.{CanTally, TalliedInto, CanCount, CanCountBoth}
 
 -- the entries of one side
 module _ {ends items frequencies : List ℕ} (pre : CanCount ends items frequencies) {n : ℕ} (whole : n ≡ entries ends) where
@@ -35,7 +35,7 @@ module _ {ends items frequencies : List ℕ} (pre : CanCount ends items frequenc
         room = λ k. rw (whole, ← count-sets (length frequencies) k ends items (pre .good)) (pre .room k);
       }
 
-  pub side-counted : (is : List ℕ) → Tallied (take n items) frequencies is → (i : ℕ) → i < length frequencies
+  pub side-counted : (is : List ℕ) → TalliedInto (take n items) frequencies is → (i : ℕ) → i < length frequencies
       → getD is i 0 ≡ getD frequencies i 0 + count (memb i) (setsOf ends items)
   side-counted is done i below =
       rw (count-sets (length frequencies) i ends items (pre .good), ← whole) (done i below)

@@ -16,14 +16,14 @@ use Rattle.sets.specs.Ordered.{isPermutation}
 use Rattle.sets.specs.Collections.{setsOf}
 use Rattle.item_order.specs.declared.OrderAnswer.the-variants.{Ordered}
 use Rattle.sets.proofs.Permutation.{permutation-make}
-use Rattle.item_order.specs.Order.{frequency, comesBefore, rankOf, ranksOf, orderAnswer, orderRanks}
-use Rattle.item_order.specs.Steps.{keyOf}
+use Rattle.item_order.specs.Order.{frequency, comesBefore, rankOf, rankTable, orderAnswer, orderRanks}
+use Rattle.item_order.specs.Steps.{sortKey}
 use Rattle.item_order.proofs.Keys.{key-before}
 
 module _ (falling : Bool) (T : ℕ) (left right : List (List ℕ)) where
   -- the rank of an item is its rank by key
   abbrev frequencyKey : ℕ → ℕ
-  frequencyKey i = keyOf falling (length left + length right) (frequency left right i)
+  frequencyKey i = sortKey falling (length left + length right) (frequency left right i)
 
   few : (i : ℕ) → frequency left right i ≤ length left + length right
   few i = omega (arith, count-bound (memb i) left, count-bound (memb i) right)
@@ -35,17 +35,17 @@ module _ (falling : Bool) (T : ℕ) (left right : List (List ℕ)) where
   same-rank i =
       count-same (keyBefore frequencyKey i) (comesBefore falling (frequency left right) i) (upto T) (same-order i)
 
-  pub rank-at : (i : ℕ) → i < T → getD (ranksOf falling T left right) i 0 ≡ rankOf falling (frequency left right) T i
-  unfolding ranksOf
+  pub rank-at : (i : ℕ) → i < T → getD (rankTable falling T left right) i 0 ≡ rankOf falling (frequency left right) T i
+  unfolding rankTable
   rank-at i below = getD-table (rankOf falling (frequency left right) T) T i 0 below
 
-  pub length-ranks : length (ranksOf falling T left right) ≡ T
-  unfolding ranksOf
+  pub length-ranks : length (rankTable falling T left right) ≡ T
+  unfolding rankTable
   length-ranks = length-table (rankOf falling (frequency left right) T) T
 
-  pub ranks-permutation : isPermutation T (ranksOf falling T left right) ≡ true
+  pub ranks-permutation : isPermutation T (rankTable falling T left right) ≡ true
   ranks-permutation =
-      permutation-make T (ranksOf falling T left right) length-ranks
+      permutation-make T (rankTable falling T left right) length-ranks
       (λ i below. omega (arith, rank-at i below, same-rank i, rank-below frequencyKey T i below))
       (λ i j less below same.
       rank-apart frequencyKey T i j less below
@@ -53,7 +53,7 @@ module _ (falling : Bool) (T : ℕ) (left right : List (List ℕ)) where
 
   -- an item that comes before another has the lower rank
   pub ranks-ordered : (i j : ℕ) → i < T → j < T → comesBefore falling (frequency left right) i j ≡ true
-      → getD (ranksOf falling T left right) j 0 < getD (ranksOf falling T left right) i 0
+      → getD (rankTable falling T left right) j 0 < getD (rankTable falling T left right) i 0
   ranks-ordered i j here there e =
       omega (
         arith,
@@ -67,17 +67,17 @@ module _ (falling : Bool) (T : ℕ) (left right : List (List ℕ)) where
 -- rank rises with frequency, or falls with it, and equal frequencies go by item
 module _ (T : ℕ) (left right : List (List ℕ)) (i j : ℕ) (here : i < T) (there : j < T) where
   pub rank-rises : frequency left right j < frequency left right i
-      → getD (ranksOf false T left right) j 0 < getD (ranksOf false T left right) i 0
+      → getD (rankTable false T left right) j 0 < getD (rankTable false T left right) i 0
   rank-rises less =
       ranks-ordered false T left right i j here there (rw (lt-ltb (frequency left right j) (frequency left right i) less))
 
   pub rank-falls : frequency left right i < frequency left right j
-      → getD (ranksOf true T left right) j 0 < getD (ranksOf true T left right) i 0
+      → getD (rankTable true T left right) j 0 < getD (rankTable true T left right) i 0
   rank-falls less =
       ranks-ordered true T left right i j here there (rw (lt-ltb (frequency left right i) (frequency left right j) less))
 
   pub rank-tie : (falling : Bool) → frequency left right j ≡ frequency left right i → j < i
-      → getD (ranksOf falling T left right) j 0 < getD (ranksOf falling T left right) i 0
+      → getD (rankTable falling T left right) j 0 < getD (rankTable falling T left right) i 0
   rank-tie falling same less =
       let a = frequency left right j in
       let b = frequency left right i in

@@ -10,30 +10,30 @@ use Rattle.lists.specs.Lists.{one, count}
 use Rattle.lists.proofs.Throughout.{all-at}
 use Rattle.lists.proofs.Counting.{count-drop, count-drop-end, tally-set}
 use Rattle.sets.specs.Limits.{halfWords}
-use Rattle.item_order.specs.Steps.{CanTally, Tallied}
+use Rattle.item_order.specs.Steps.{CanTally, TalliedInto}
 
-pub record TallyLeft (xs was is : List ℕ) (i n : ℕ) : Type 0 where
+pub record CountingOccurrences (xs was is : List ℕ) (i n : ℕ) : Type 0 where
   pub same : length is ≡ length was
   pub whole : n ≡ length xs
   pub within : i ≤ n
-  pub left : (k : ℕ) → getD is k 0 + count (eqb k) (drop i xs) ≡ getD was k 0 + count (eqb k) xs
+  pub together : (k : ℕ) → getD is k 0 + count (eqb k) (drop i xs) ≡ getD was k 0 + count (eqb k) xs
 
-pub tally-start : (xs was : List ℕ) → TallyLeft xs was was 0 (length xs)
-tally-start xs was = record { same = refl; whole = refl; within = omega arith; left = λ k. refl }
+pub tally-start : (xs was : List ℕ) → CountingOccurrences xs was was 0 (length xs)
+tally-start xs was = record { same = refl; whole = refl; within = omega arith; together = λ k. refl }
 
-pub tally-index : {xs was is : List ℕ} {i n : ℕ} → CanTally xs was → TallyLeft xs was is i n → i < n → getD xs i 0 < length is
+pub tally-index : {xs was is : List ℕ} {i n : ℕ} → CanTally xs was → CountingOccurrences xs was is i n → i < n → getD xs i 0 < length is
 tally-index {xs} {was} {is} {i} pre inv below =
     omega (arith, ltb-true (getD xs i 0) (length was) (all-at (λ x. ltb x (length was)) 0 xs (pre .below) i (omega arith)))
 
-pub tally-room : {xs was is : List ℕ} {i n : ℕ} → CanTally xs was → TallyLeft xs was is i n → i < n
+pub tally-room : {xs was is : List ℕ} {i n : ℕ} → CanTally xs was → CountingOccurrences xs was is i n → i < n
     → getD is (getD xs i 0) 0 + 1 < halfWords
 tally-room {xs} {was} {is} {i} pre inv below =
     let x = getD xs i 0 in
     let once : one (eqb x x) ≡ 1 = rw (eq-eqb x x refl) in
-    omega (arith, once, inv .left x, count-drop (eqb x) 0 xs i (omega arith), pre .room x)
+    omega (arith, once, inv .together x, count-drop (eqb x) 0 xs i (omega arith), pre .room x)
 
-pub tally-step : {xs was is : List ℕ} {i n : ℕ} → CanTally xs was → TallyLeft xs was is i n → i < n
-    → TallyLeft xs was (set is (getD xs i 0) (getD is (getD xs i 0) 0 + 1)) (i + 1) n
+pub tally-step : {xs was is : List ℕ} {i n : ℕ} → CanTally xs was → CountingOccurrences xs was is i n → i < n
+    → CountingOccurrences xs was (set is (getD xs i 0) (getD is (getD xs i 0) 0 + 1)) (i + 1) n
 tally-step {xs} {was} {is} {i} pre inv below =
     let x = getD xs i 0 in
     let inside : x < length is = tally-index pre inv below in
@@ -41,8 +41,8 @@ tally-step {xs} {was} {is} {i} pre inv below =
       same = length-set is x (getD is x 0 + 1) ∙ inv .same;
       whole = inv .whole;
       within = omega arith;
-      left = λ k. omega (arith, tally-set is x k inside, inv .left k, count-drop (eqb k) 0 xs i (omega arith));
+      together = λ k. omega (arith, tally-set is x k inside, inv .together k, count-drop (eqb k) 0 xs i (omega arith));
     }
 
-pub tally-end : {xs was is : List ℕ} {i n : ℕ} → TallyLeft xs was is i n → n ≤ i → Tallied xs was is
-tally-end {xs} {was} {is} {i} inv past k below = omega (arith, inv .left k, count-drop-end (eqb k) xs i (omega arith))
+pub tally-end : {xs was is : List ℕ} {i n : ℕ} → CountingOccurrences xs was is i n → n ≤ i → TalliedInto xs was is
+tally-end {xs} {was} {is} {i} inv past k below = omega (arith, inv .together k, count-drop-end (eqb k) xs i (omega arith))

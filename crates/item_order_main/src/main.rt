@@ -3,7 +3,6 @@
 use item_order::OrderAnswer;
 use libc::STDOUT_FILENO;
 use sets::Refusal;
-use sets::Side;
 
 fn show_number(n: u64) {
     io::write_all(STDOUT_FILENO, b" ");
@@ -22,32 +21,13 @@ fn show_list(ranks: &[u16]) {
     io::write_all(STDOUT_FILENO, b"\n");
 }
 
-fn side_number(side: Side) -> u64 {
-    match side {
-        Side::Left => 0,
-        Side::Right => 1,
-    }
-}
-
-fn show_pair(number: u64, detail: u64) {
-    show_number(number);
-    show_number(detail);
-}
-
+// The number of a refusal and what returns with it: two numbers for a bad set, else one.
 fn show_refusal(why: Refusal) {
-    match why {
-        Refusal::Malformed(place) => show_pair(1, place as u64),
-        Refusal::NumberUsed(place) => show_pair(2, place as u64),
-        Refusal::TooMany(place) => show_pair(3, place as u64),
-        Refusal::ShortOutput => show_pair(4, 0),
-        Refusal::BadSet(side, place) => {
-            show_pair(5, side_number(side));
-            show_number(place as u64);
-        }
-        Refusal::BadSettings => show_pair(6, 0),
-        Refusal::ShortWork => show_pair(7, 0),
-        Refusal::Spent => show_pair(8, 0),
-        Refusal::ShortPairs => show_pair(9, 0),
+    let head = sets::head_of(why);
+    show_number(head.number);
+    show_number(head.first);
+    if let Refusal::BadSet(_side, _place) = why {
+        show_number(head.second);
     }
 }
 

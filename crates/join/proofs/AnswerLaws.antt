@@ -1,6 +1,6 @@
 -- After the walk: it can begin over the index that was built, the pairs are those by path and those confirmed, and its counters
 -- make the answer.
-use Prim.Native.Nat.{ℕ, _+_, _*_, _≤_, _<_}
+use Prim.Native.Nat.{ℕ, _+_, _*_, _^_, _≤_, _<_}
 use mathlib.Core.Path.{_≡_, refl, sym, ap, _∙_}
 use mathlib.Core.List.{List}
 use mathlib.Core.Bool.{Bool, true, false, cond}
@@ -16,21 +16,30 @@ use Rattle.sets.specs.declared.Refusal.the-variants.{Spent, ShortPairs}
 use Rattle.join_spec.specs.declared.JoinAnswer.{JoinAnswer}
 use Rattle.join_spec.specs.declared.JoinAnswer.the-variants.{Joined, Refused}
 use Rattle.join_spec.specs.PairList.{pairCount}
+use Rattle.inputs.specs.Input.{Input}
 use Rattle.join_spec.specs.Query.{Query, query}
 use Rattle.join_spec.specs.Walk.{Outcome}
 use Rattle.join_spec.specs.Counting.{total, checksOf, countsOf, isByPath, isConfirmed, isDropped, isFalse}
+use Rattle.join_spec.specs.Kinds.{pathPair, confirmedCheck, droppedCheck, falseCheck}
 use Rattle.join_spec.specs.Answer.{walkAnswer, workKept}
 use Rattle.join_spec.proofs.Demand.{pairs-met, checks-end, total-small}
-use Rattle.join_spec.proofs.Accepted.{spent-above, within-joined}
+use Rattle.join_spec.proofs.Accepted.{Tests, spent-above, within-joined}
 use Rattle.sets.proofs.Between.{length-sets}
+use Rattle.inputs.proofs.TestLaws.{words-for}
+use Rattle.join_index.specs.Building.{BuildRoom}
 use Rattle.join_index.specs.Ground.{Ground}
 use Rattle.join_index.specs.declared.Layout.{Layout}
 use Rattle.join_check.specs.Asking.{Index}
-use Rattle.join_walk.specs.Partitions.{Ready, WalkDone}
+use Rattle.join_walk.specs.Partitions.{WalkReady, WalkDone}
 use Rattle.join_walk.specs.declared.visit.Walked.{Walked}
 use Rattle.join_walk.proofs.FrameLaws.{index-framed}
 use Rattle.join_pairs.specs.Writing.{PairsRoom}
-use Rattle.join.specs.Early.{Accepted}
+use Rattle.join.specs.Ready.{Accepted}
+
+-- the query of an input and the settings that bear on the walk
+abbrev pub queryBy : Input → ℕ → List ℕ → Rule → Query
+queryBy i limit ranks rule =
+    query (i .T) (i .left .ends) (i .left .items) (i .right .ends) (i .right .items) limit ranks rule
 
 counts-same : {a a′ b b′ c c′ d d′ e e′ f f′ : ℕ} → a ≡ a′ → b ≡ b′ → c ≡ c′ → d ≡ d′ → e ≡ e′ → f ≡ f′
     → _≡_ {A = Counts}
@@ -56,37 +65,36 @@ walk-uses q budget room is = ap workKept is ∙ go (ltb budget (checksOf q)) (lt
     go false true = refl
     go false false = refl
 
-module _ {T : ℕ} {leftEnds leftItems rightEnds rightItems : List ℕ} {limit : ℕ} {ranks w₀ : List ℕ}
-    (ok : Accepted T leftEnds leftItems rightEnds rightItems limit ranks w₀) (rule : Rule) where
+module _ {i : Input} {limit : ℕ} {ranks : List ℕ} {words : ℕ} (ok : Tests i limit ranks words) (rule : Rule) where
   abbrev q : Query
-  q = query T leftEnds leftItems rightEnds rightItems limit ranks rule
+  q = queryBy i limit ranks rule
 
-  lefts-count : length (q .lefts) ≡ length leftEnds
-  lefts-count = length-sets 0 leftEnds leftItems
+  lefts-count : length (q .lefts) ≡ length (i .left .ends)
+  lefts-count = length-sets 0 (i .left .ends) (i .left .items)
 
-  rights-count : length (q .rights) ≡ length rightEnds
-  rights-count = length-sets 0 rightEnds rightItems
+  rights-count : length (q .rights) ≡ length (i .right .ends)
+  rights-count = length-sets 0 (i .right .ends) (i .right .items)
 
   pub all-met : pairCount (q .lefts) (q .rights) ≡ total isByPath q + total isConfirmed q
   all-met =
-      pairs-met q (ok .settings .permutation) (items-below T leftEnds leftItems (ok .leftGood))
-      (items-below T rightEnds rightItems (ok .rightGood))
+      pairs-met q (ok .settings .permutation) (items-below (i .T) (i .left .ends) (i .left .items) (ok .good .left))
+      (items-below (i .T) (i .right .ends) (i .right .items) (ok .good .right))
 
-  small : (is : Outcome → Bool) → total is q ≤ 16777216
+  small : (is : Outcome → Bool) → total is q ≤ 2 ^ 24
   small is =
       total-small is q
-      (omega (arith, lefts-count, good-places T leftEnds leftItems (ok .leftGood)))
-      (omega (arith, rights-count, good-places T rightEnds rightItems (ok .rightGood)))
+      (omega (arith, lefts-count, good-places (i .T) (i .left .ends) (i .left .items) (ok .good .left)))
+      (omega (arith, rights-count, good-places (i .T) (i .right .ends) (i .right .items) (ok .good .right)))
 
   -- the walk over the index that was built
   module _ {lay : Layout} {w : List ℕ}
-      (ground : (r : Rule) → Ground lay (query T leftEnds leftItems rightEnds rightItems limit ranks r) w)
+      (ground : (r : Rule) → Ground lay (queryBy i limit ranks r) w)
       (room : lay .slots ≤ length w) where
     pub walk-index : Index lay q w
     walk-index = record { ground = ground rule; room = room }
 
     pub walk-ready : (budget : ℕ)
-        → Ready lay (record { limit = limit; rule = rule; budget = budget }) q w (length leftEnds) (length rightEnds)
+        → WalkReady lay (record { limit = limit; rule = rule; budget = budget }) q w (length (i .left .ends)) (length (i .right .ends))
     walk-ready budget =
         record {
           index = walk-index;
@@ -102,32 +110,31 @@ module _ {T : ℕ} {leftEnds leftItems rightEnds rightItems : List ℕ} {limit :
         positive n h = omega arith
 
     pub walk-made : {budget : ℕ} {w′ : List ℕ} {r : Walked}
-        → ((q : Query) → Ready lay (record { limit = limit; rule = rule; budget = budget }) q w (length leftEnds)
-        (length rightEnds)
+        → ((q : Query) → WalkReady lay (record { limit = limit; rule = rule; budget = budget }) q w (length (i .left .ends))
+        (length (i .right .ends))
         → WalkDone lay q budget w w′ r)
         → WalkDone lay q budget w w′ r
     walk-made {budget} made = made q (walk-ready budget)
 
 -- what the walk's counters give
-module _ {T : ℕ} {leftEnds leftItems rightEnds rightItems : List ℕ} {limit : ℕ} {ranks w₀ : List ℕ} {rule : Rule} {lay : Layout}
-    {budget : ℕ} {w w′ : List ℕ} {r : Walked} (ok : Accepted T leftEnds leftItems rightEnds rightItems limit ranks w₀)
-    (done : WalkDone lay (query T leftEnds leftItems rightEnds rightItems limit ranks rule) budget w w′ r) where
+module _ {i : Input} {limit : ℕ} {ranks : List ℕ} {words : ℕ} {rule : Rule} {lay : Layout} {budget : ℕ} {w w′ : List ℕ}
+    {r : Walked} (ok : Tests i limit ranks words) (done : WalkDone lay (queryBy i limit ranks rule) budget w w′ r) where
   abbrev asked : Query
-  asked = query T leftEnds leftItems rightEnds rightItems limit ranks rule
+  asked = queryBy i limit ranks rule
 
   pub answer-spent : (places : ℕ) → r .spent ≡ true → Refused Spent ≡ walkAnswer asked budget places
   answer-spent places spent = sym (spent-above asked budget places (done .counted .beyond spent))
 
   module _ (calm : r .spent ≡ false) where
     pub count-is : r .tally .«by_path» + r .tally .confirmed ≡ pairCount (asked .lefts) (asked .rights)
-    count-is = omega (arith, done .counted .byPath calm, done .counted .confirmed calm, all-met ok rule)
+    count-is = omega (arith, done .counted .counts calm pathPair, done .counted .counts calm confirmedCheck, all-met ok rule)
 
     pub count-small : r .tally .«by_path» + r .tally .confirmed < 4294967296
     count-small =
         omega (
           arith,
-          done .counted .byPath calm,
-          done .counted .confirmed calm,
+          done .counted .counts calm pathPair,
+          done .counted .counts calm confirmedCheck,
           small ok rule isByPath,
           small ok rule isConfirmed,
         )
@@ -136,9 +143,9 @@ module _ {T : ℕ} {leftEnds leftItems rightEnds rightItems : List ℕ} {limit :
     checks-small =
         omega (
           arith,
-          done .counted .dropped calm,
-          done .counted .falseDrops calm,
-          done .counted .confirmed calm,
+          done .counted .counts calm droppedCheck,
+          done .counted .counts calm falseCheck,
+          done .counted .counts calm confirmedCheck,
           small ok rule isDropped,
           small ok rule isFalse,
           small ok rule isConfirmed,
@@ -149,7 +156,7 @@ module _ {T : ℕ} {leftEnds leftItems rightEnds rightItems : List ℕ} {limit :
     answer-short places short = short-places asked budget places (done .counted .within calm) (omega (arith, short, count-is))
 
     pub pairs-room : Index lay asked w → (pairs : List ℕ) → 2 * (r .tally .«by_path» + r .tally .confirmed) ≤ length pairs
-        → PairsRoom lay asked w′ (length leftEnds) (length rightEnds) pairs
+        → PairsRoom lay asked w′ (length (i .left .ends)) (length (i .right .ends)) pairs
     pairs-room index pairs enough =
         record {
           index = index-framed index (done .framed) (omega arith);
@@ -171,7 +178,25 @@ module _ {T : ℕ} {leftEnds leftItems rightEnds rightItems : List ℕ} {limit :
     answer-joined places enough =
         let counted = done .counted in
         ap Joined
-        (counts-same count-is (counted .byPath calm) (counted .confirmed calm)
-        (omega (arith, counted .dropped calm, counted .falseDrops calm, counted .confirmed calm, checks-end asked))
-        (counted .dropped calm) (counted .falseDrops calm))
+        (counts-same count-is (counted .counts calm pathPair) (counted .counts calm confirmedCheck)
+        (omega (
+          arith,
+          counted .counts calm droppedCheck,
+          counted .counts calm falseCheck,
+          counted .counts calm confirmedCheck,
+          checks-end asked,
+        ))
+        (counted .counts calm droppedCheck) (counted .counts calm falseCheck))
         ∙ sym (within-joined asked budget places (done .counted .within calm) (omega (arith, enough, count-is)))
+
+-- what the index asks of an input that passed the tests
+pub build-room : {i : Input} {limit : ℕ} {ranks w : List ℕ} → Accepted i limit ranks w
+    → BuildRoom (i .T) (i .left .ends) (i .left .items) (i .right .ends) (i .right .items) ranks w
+build-room {i} ok =
+    record {
+      items = ok .settings .few-items;
+      permutation = ok .settings .permutation;
+      leftGood = ok .good .left;
+      rightGood = ok .good .right;
+      room = rw (words-for i) at (ok .work);
+    }

@@ -1,4 +1,4 @@
--- Laws of the tests before the walk, and of the answer after it.
-pub mod EarlyLaws
+-- Laws of the answer after the walk, of a call as a whole, and of a rule that is a number.
 pub mod AnswerLaws
-pub mod Calls
+pub mod CallLaws
+pub mod ByNumber

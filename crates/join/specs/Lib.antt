@@ -1,2 +1,3 @@
--- Contents: the tests of a join before its walk, and what an input that passed them has.
-pub mod Early
+-- Contents: the rule as a number; then what an input has that passed the tests before the walk.
+pub mod Numbered
+pub mod Ready

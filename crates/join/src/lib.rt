@@ -1,87 +1,27 @@
-// The set containment join: its tests in the table's order, the walk, and the pair list. Document 01 calls it the run.
+// The set containment join: its tests, the walk, and the pair list. Document 01 calls it the run.
 use join_index::Layout;
 use join_index::build::build;
 use join_pairs::write_pairs;
 use join_spec::Counts;
 use join_spec::JoinAnswer;
 use join_spec::Rule;
+use join_spec::Weights;
+use join_tests::test_join;
 use join_walk::visit::Settings;
 use join_walk::visit::Walked;
 use join_walk::walk::walk;
 use lists::zero_u16;
-use sets::MAX_ITEMS;
-use sets::MAX_LIMIT;
 use sets::Refusal;
-use sets::Side;
-use sets::Verdict;
-use sets::count_entries;
-use sets::first_bad;
-use sets::is_permutation;
+use sets::Tested;
 ghost use mathlib.Core.Path.{_≡_};
-ghost use mathlib.Core.Bool.{true};
 ghost use lib.ListN.{length};
 ghost use Rattle.sets.specs.Collections.{setsOf};
 ghost use Rattle.join_spec.specs.PairList.{pairList};
-ghost use Rattle.join_spec.specs.Query.{query};
-ghost use Rattle.join_spec.specs.Answer.{badSettings, workNeeded, joinAnswer, walkAnswer, pairsAfter, workKept};
-ghost use Rattle.join.specs.Early.{earlyAnswer, Accepted};
-
-// What the tests before the walk find.
-pub enum Early {
-    Refused(Refusal),
-    Ready,
-}
-
-// Whether a limit or a rank table is refused.
-fn bad_settings(t: u32, limit: u32, ranks: &[u16]) -> bool
-    ensures { λ r. ⌜ r ≡ badSettings t limit (now (ranks .entry)) ⌝ }
-{
-    if MAX_ITEMS < t {
-        return true;
-    }
-    if limit == 0 {
-        return true;
-    }
-    if MAX_LIMIT < limit {
-        return true;
-    }
-    !is_permutation(t, ranks)
-}
-
-// The tests before the walk, in the table's order.
-fn test_input(
-    t: u32,
-    left_ends: &[u32],
-    left_items: &[u16],
-    right_ends: &[u32],
-    right_items: &[u16],
-    limit: u32,
-    ranks: &[u16],
-    words: usize,
-) -> Early
-    ensures { λ r. ⌜ r ≡ earlyAnswer t (now («left_ends» .entry)) (now («left_items» .entry)) (now («right_ends» .entry))
-        (now («right_items» .entry)) limit (now (ranks .entry)) words ⌝ }
-{
-    if bad_settings(t, limit, ranks) {
-        return Early::Refused(Refusal::BadSettings);
-    }
-    let left = first_bad(t, left_ends, left_items);
-    if let Verdict::Bad(place) = left {
-        return Early::Refused(Refusal::BadSet(Side::Left, place));
-    }
-    let right = first_bad(t, right_ends, right_items);
-    if let Verdict::Bad(place) = right {
-        return Early::Refused(Refusal::BadSet(Side::Right, place));
-    }
-    let size = left_ends.len()
-        + right_ends.len()
-        + (count_entries(left_ends) + count_entries(right_ends))
-        + (t as usize);
-    if words < 16 * size + 64 {
-        return Early::Refused(Refusal::ShortWork);
-    }
-    Early::Ready
-}
+ghost use Rattle.inputs.specs.Input.{inputOf};
+ghost use Rattle.join_spec.specs.Query.{settingsOf, queryOf};
+ghost use Rattle.join_spec.specs.Answer.{roomOf, walkAnswer, pairsAfter, JoinCall, RunCall};
+ghost use Rattle.join.specs.Ready.{Accepted};
+ghost use Rattle.join.specs.Numbered.{ruleOf, numberedAnswer};
 
 // The join of an input that passed those tests: the index, the walk, and then 8, 9 or the pair list.
 fn join_ready(
@@ -97,11 +37,12 @@ fn join_ready(
     work: &mut [u32],
     pairs: &mut [u16],
 ) -> JoinAnswer
-    requires { ⌜ Accepted t (now «left_ends») (now «left_items») (now «right_ends») (now «right_items») limit (now ranks)
-        (now work) ⌝ }
+    requires { ⌜ Accepted (inputOf t (now «left_ends») (now «left_items») (now «right_ends») (now «right_items»))
+        limit (now ranks) (now work) ⌝ }
     ensures answer { λ r. ⌜ r ≡ walkAnswer
-        (query t (now («left_ends» .entry)) (now («left_items» .entry)) (now («right_ends» .entry)) (now («right_items» .entry))
-        limit (now (ranks .entry)) rule) budget (length (now (pairs .entry))) ⌝ }
+        (queryOf (inputOf t (now («left_ends» .entry)) (now («left_items» .entry))
+        (now («right_ends» .entry)) (now («right_items» .entry)))
+        (settingsOf limit (now (ranks .entry)) budget rule)) budget (length (now (pairs .entry))) ⌝ }
     ensures pairs { λ r. ⌜ now (pairs .exit) ≡ pairsAfter r
         (pairList (setsOf (now («left_ends» .entry)) (now («left_items» .entry)))
         (setsOf (now («right_ends» .entry)) (now («right_items» .entry)))) (now (pairs .entry)) ⌝ }
@@ -160,17 +101,13 @@ pub fn run(
     work: &mut [u32],
     pairs: &mut [u16],
 ) -> JoinAnswer
-    ensures answer { λ r. ⌜ r ≡ joinAnswer t (now («left_ends» .entry)) (now («left_items» .entry)) (now («right_ends» .entry))
-        (now («right_items» .entry)) limit (now (ranks .entry)) budget rule (length (now (work .entry)))
-        (length (now (pairs .entry))) ⌝ }
-    ensures pairs { λ r. ⌜ now (pairs .exit) ≡ pairsAfter r
-        (pairList (setsOf (now («left_ends» .entry)) (now («left_items» .entry)))
-        (setsOf (now («right_ends» .entry)) (now («right_items» .entry)))) (now (pairs .entry)) ⌝ }
-    ensures work_size { λ r. ⌜ length (now (work .exit)) ≡ length (now (work .entry)) ⌝ }
-    ensures work_kept { λ r. ⌜ (workKept r ≡ true → now (work .exit) ≡ now (work .entry)) ⌝ }
+    ensures { λ r. ⌜ RunCall
+        (inputOf t (now («left_ends» .entry)) (now («left_items» .entry)) (now («right_ends» .entry)) (now («right_items» .entry)))
+        (settingsOf limit (now (ranks .entry)) budget rule)
+        (now (work .entry)) (now (pairs .entry)) (now (work .exit)) (now (pairs .exit)) r ⌝ }
 {
     let words = work.len();
-    let early = test_input(
+    let tested = test_join(
         t,
         left_ends,
         left_items,
@@ -180,9 +117,9 @@ pub fn run(
         ranks,
         words,
     );
-    match early {
-        Early::Refused(why) => JoinAnswer::Refused(why),
-        Early::Ready => join_ready(
+    match tested {
+        Tested::Failed(why) => JoinAnswer::Refused(why),
+        Tested::Passed => join_ready(
             t,
             left_ends,
             left_items,
@@ -196,4 +133,57 @@ pub fn run(
             pairs,
         ),
     }
+}
+
+// The rule of a number: 0 Merge, 1 Check, else Weighed.
+fn rule_of(number: u32, weights: Weights) -> Rule
+    ensures { λ r. ⌜ r ≡ ruleOf number weights ⌝ }
+{
+    if number == 0 {
+        return Rule::Merge;
+    }
+    if number == 1 {
+        return Rule::Check;
+    }
+    Rule::Weighed(weights)
+}
+
+// The join with its rule as a number: one above 2 is refused as a bad setting.
+pub fn run_numbered(
+    t: u32,
+    left_ends: &[u32],
+    left_items: &[u16],
+    right_ends: &[u32],
+    right_items: &[u16],
+    limit: u32,
+    ranks: &[u16],
+    budget: u32,
+    number: u32,
+    weights: Weights,
+    work: &mut [u32],
+    pairs: &mut [u16],
+) -> JoinAnswer
+    ensures { λ r. ⌜ JoinCall (numberedAnswer
+        (inputOf t (now («left_ends» .entry)) (now («left_items» .entry)) (now («right_ends» .entry)) (now («right_items» .entry)))
+        limit (now (ranks .entry)) budget number weights (roomOf (now (work .entry)) (now (pairs .entry))))
+        (inputOf t (now («left_ends» .entry)) (now («left_items» .entry)) (now («right_ends» .entry)) (now («right_items» .entry)))
+        (now (work .entry)) (now (pairs .entry)) (now (work .exit)) (now (pairs .exit)) r ⌝ }
+{
+    if 2 < number {
+        return JoinAnswer::Refused(Refusal::BadSettings);
+    }
+    let rule = rule_of(number, weights);
+    run(
+        t,
+        left_ends,
+        left_items,
+        right_ends,
+        right_items,
+        limit,
+        ranks,
+        budget,
+        rule,
+        work,
+        pairs,
+    )
 }

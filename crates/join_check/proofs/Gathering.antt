@@ -3,7 +3,6 @@
 use Prim.Native.Nat.{ℕ, _+_, _-_, _*_, _≤_, _<_}
 use mathlib.Core.Path.{_≡_, refl, sym, ap, _∙_}
 use mathlib.Core.List.{List, [], _∷_}
-use mathlib.Core.Bool.{Bool}
 use native.Mathlib.Omega.{arith}
 use native.Mathlib.Nat.{add-mul, one-mul, zero-mul}
 use lib.ListN.{length}
@@ -11,18 +10,19 @@ use Rattle.lists.specs.Lists.{sum, slice}
 use Rattle.lists.proofs.Throughout.{all-front, all-back}
 use Rattle.lists.proofs.Summing.{sum-append}
 use Rattle.lists.proofs.Slices.{all-slice}
+use Rattle.sets.specs.Limits.{fullWords}
 use Rattle.join_spec.specs.Query.{Query}
-use Rattle.join_spec.specs.Walk.{Outcome}
-use Rattle.join_spec.specs.Counting.{isConfirmed, isDropped, isFalse}
+use Rattle.join_spec.specs.Kinds.{isOf}
 use Rattle.join_index.specs.declared.Layout.{Layout}
 use Rattle.join_check.specs.declared.Tally.{Tally}
 use Rattle.word_lists.specs.Words.{Word}
 use Rattle.join_check.specs.Asking.{RunThere}
 use Rattle.join_check.specs.Runs.{leftIn, run}
-use Rattle.join_check.specs.Checks.{rowCount, runCount, checksIn, Tallied, holdFirst}
+use Rattle.join_check.specs.Checks.{rowCount, runCount, holdFirst}
+use Rattle.join_check.specs.Counters.{checksIn}
 use Rattle.join_check.specs.Checks.{RowThere, RunsThere, RowChecked, RunsChecked}
 use Rattle.join_check.proofs.Orders.{order-within, run-left, run-none, run-next, run-split}
-use Rattle.join_check.proofs.Tallying.{Leaving, leaving-start, leaving-step, leaving-end}
+use Rattle.join_check.proofs.Tallying.{tallied-same, Leaving, leaving-start, leaving-step, leaving-end}
 
 module _ {lay : Layout} {q : Query} {w : List ℕ} {e lo hi from to : ℕ} (there : RunsThere lay q w e lo hi from to) where
   pub runs-within : lay .order + hi ≤ length w
@@ -55,15 +55,6 @@ module _ {lay : Layout} {q : Query} {w : List ℕ} {e lo hi from to : ℕ} (ther
         holding = all-front (holdFirst q e (slice from to w)) (run lay w i j) (run lay w j hi) (rw then at back);
       }
 
-tallied-same : {a b : (Outcome → Bool) → ℕ} {t r : Tally} → ((is : Outcome → Bool) → a is ≡ b is) → Tallied a t r → Tallied b t r
-tallied-same same tally =
-    record {
-      byPath = tally .byPath;
-      confirmed = omega (arith, same isConfirmed, tally .confirmed);
-      dropped = omega (arith, same isDropped, tally .dropped);
-      falseDrops = omega (arith, same isFalse, tally .falseDrops);
-    }
-
 sum-one : {A : Type 0} (f : A → ℕ) (x : A) → f x ≡ sum f (x ∷ [])
 unfolding sum
 sum-one f x = omega arith
@@ -83,14 +74,14 @@ row-runs lay w k e i from to t r word row =
           ∙ ap (λ (l : List ℕ). leftIn lay w i ∷ l) (run-none lay w (i + 1) (i + 1) (omega arith))
           in
           tallied-same
-          (λ is.
-          ap (rowCount q is (slice from to w)) (word .is)
-          ∙ sum-one (rowCount q is (slice from to w)) (leftIn lay w i)
-          ∙ ap (runCount q is (slice from to w)) (sym one-left))
+          (λ kind.
+          ap (rowCount q (isOf kind) (slice from to w)) (word .is)
+          ∙ sum-one (rowCount q (isOf kind) (slice from to w)) (leftIn lay w i)
+          ∙ ap (runCount q (isOf kind) (slice from to w)) (sym one-left))
           (row .tallied q (runs-row there i k (omega arith) (omega arith) word));
     }
 
-pub record RunsLeft (lay : Layout) (w : List ℕ) (e lo hi from to : ℕ) (t r : Tally) (i : ℕ) : Type 0 where
+pub record RunsChecking (lay : Layout) (w : List ℕ) (e lo hi from to : ℕ) (t r : Tally) (i : ℕ) : Type 0 where
   pub low : lo ≤ i
   pub grown : checksIn r + (hi - i) * (to - from) ≡ checksIn t + (hi - lo) * (to - from)
   pub tallied :
@@ -99,7 +90,7 @@ pub record RunsLeft (lay : Layout) (w : List ℕ) (e lo hi from to : ℕ) (t r :
       (λ is. runCount q is (slice from to w) (run lay w lo hi)) t r
 
 module _ (lay : Layout) (w : List ℕ) (e lo hi from to : ℕ) (t : Tally) where
-  pub runs-start : RunsLeft lay w e lo hi from to t t lo
+  pub runs-start : RunsChecking lay w e lo hi from to t t lo
   runs-start =
       record {
         low = omega arith;
@@ -107,27 +98,27 @@ module _ (lay : Layout) (w : List ℕ) (e lo hi from to : ℕ) (t : Tally) where
         tallied = λ q there. leaving-start (λ is. runCount q is (slice from to w) (run lay w lo hi)) t;
       }
 
-  module _ (r : Tally) (i : ℕ) (left : RunsLeft lay w e lo hi from to t r i) where
+  module _ (r : Tally) (i : ℕ) (so : RunsChecking lay w e lo hi from to t r i) where
     cut : (j : ℕ) → i ≤ j → j ≤ hi → (hi - i) * (to - from) ≡ (j - i) * (to - from) + (hi - j) * (to - from)
     cut j some high =
         let parts : hi - i ≡ j - i + (hi - j) = omega arith in
         ap (λ (n : ℕ). n * (to - from)) parts ∙ add-mul (j - i) (hi - j) (to - from)
 
     -- the checks of the next run fit
-    pub runs-room : (j : ℕ) → i ≤ j → j ≤ hi → checksIn t + (hi - lo) * (to - from) < 4294967296
-        → checksIn r + (j - i) * (to - from) < 4294967296
-    runs-room j some high fits = omega (arith, cut j some high, left .grown)
+    pub runs-room : (j : ℕ) → i ≤ j → j ≤ hi → checksIn t + (hi - lo) * (to - from) < fullWords
+        → checksIn r + (j - i) * (to - from) < fullWords
+    runs-room j some high fits = omega (arith, cut j some high, so .grown)
 
     pub runs-step : (j : ℕ) (u : Tally) → i ≤ j → j ≤ hi → RunsChecked lay w e i j from to r u
-        → RunsLeft lay w e lo hi from to t u j
+        → RunsChecking lay w e lo hi from to t u j
     runs-step j u some high more =
         record {
-          low = omega (arith, left .low);
-          grown = omega (arith, cut j some high, left .grown, more .grown);
+          low = omega (arith, so .low);
+          grown = omega (arith, cut j some high, so .grown, more .grown);
           tallied = λ q there.
               let split = run-split lay w i j hi some high (runs-within there) in
-              leaving-step (left .tallied q there) {later = λ is. runCount q is (slice from to w) (run lay w j hi)}
-              (more .tallied q (runs-part there i j (left .low) some high))
+              leaving-step (so .tallied q there) {later = λ is. runCount q is (slice from to w) (run lay w j hi)}
+              (more .tallied q (runs-part there i j (so .low) some high))
               (λ is.
               ap (runCount q is (slice from to w)) split
               ∙ sum-append (rowCount q is (slice from to w)) (run lay w i j) (run lay w j hi));
@@ -140,7 +131,7 @@ module _ (lay : Layout) (w : List ℕ) (e lo hi from to : ℕ) (t : Tally) where
           grown =
               let none : hi - i ≡ 0 = omega arith in
               let gone : (hi - i) * (to - from) ≡ 0 = ap (λ (n : ℕ). n * (to - from)) none ∙ zero-mul (to - from) in
-              omega (arith, left .grown);
+              omega (arith, so .grown);
           tallied = λ q there.
-              leaving-end (left .tallied q there) (λ is. ap (runCount q is (slice from to w)) (run-none lay w i hi past));
+              leaving-end (so .tallied q there) (λ is. ap (runCount q is (slice from to w)) (run-none lay w i hi past));
         }

@@ -2,6 +2,6 @@
 pub mod Reading
 pub mod Orders
 pub mod Places
-pub mod Probing
 pub mod Tallying
+pub mod Probing
 pub mod Gathering

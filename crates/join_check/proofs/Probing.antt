@@ -1,4 +1,4 @@
--- One check: what is left of a left set as it is stored, a right set as it is stored, and a counter that one check raises.
+-- One check: what remains of a left set as it is stored, a right set as it is stored, and a counter that one check raises.
 use Prim.Native.Nat.{ℕ, _+_, _-_, _*_, _≤_}
 use mathlib.Core.Path.{_≡_, refl, sym, ap, ap₂, _∙_}
 use mathlib.Core.List.{List, []}
@@ -22,11 +22,12 @@ use Rattle.join_check.specs.declared.checks.Probe.{Probe}
 use Rattle.word_lists.specs.Words.{Word}
 use Rattle.word_lists.specs.Merges.{Rising}
 use Rattle.join_check.specs.Asking.{LeftThere, RightThere}
-use Rattle.join_check.specs.Checks.{Tallied}
+use Rattle.join_check.specs.Counters.{Tallied}
 use Rattle.join_check.specs.Probes.{ProbeOf, probeOutcome}
 use Rattle.join_check.proofs.Reading.{left-stored, right-stored}
+use Rattle.join_check.proofs.Tallying.{tallied-each}
 
--- what is left of a left set whose starts were read
+-- what remains of a left set whose starts were read
 module _ (lay : Layout) (q : Query) (w : List ℕ) (k e start next sign : ℕ)
     (first : Word w (lay .«left_starts» + k) start) (second : Word w (lay .«left_starts» + k + 1) next)
     (signed : sign ≡ double w (lay .«left_signatures» + 2 * k)) (there : LeftThere lay q w k)
@@ -88,26 +89,28 @@ module _ (lay : Layout) (q : Query) (w : List ℕ) (p : Probe) (s sign : ℕ)
     pub outcome-dropped : (bitAnd (p .signature) sign ≡ p .signature → ⊥) → probeOutcome q w p s ≡ dropped
     outcome-dropped other = rw (missing false (ne-eqb (bitAnd (p .signature) sign) (p .signature) other))
 
-    pub outcome-checked : bitAnd (p .signature) sign ≡ p .signature
-        → probeOutcome q w p s ≡ cond (subset (slice (p .from) (p .to) w) (rightAt q s)) confirmed falseDrop
-    outcome-checked same = rw (missing true (eq-eqb (bitAnd (p .signature) sign) (p .signature) same))
+    pub outcome-checked : (start next : ℕ) → Word w (lay .«right_starts» + s) start → Word w (lay .«right_starts» + s + 1) next
+        → bitAnd (p .signature) sign ≡ p .signature → (b : Bool)
+        → b ≡ subset (slice (p .from) (p .to) w) (slice (lay .«right_ranks» + start) (lay .«right_ranks» + next) w)
+        → cond b confirmed falseDrop ≡ probeOutcome q w p s
+    outcome-checked start next first second same b test =
+        let part = right-part lay q w s start next first second there in
+        rw (missing true (eq-eqb (bitAnd (p .signature) sign) (p .signature) same), ← part)
+        (ap (λ (x : Bool). cond x confirmed falseDrop) test)
 
 -- a check raises one counter
 module _ (t : Tally) (o : Outcome) where
   pub raise-dropped : o ≡ dropped
       → Tallied (λ is. one (is o)) t
       (record { «by_path» = t .«by_path»; confirmed = t .confirmed; dropped = t .dropped + 1; «false_drops» = t .«false_drops» })
-  raise-dropped e =
-      rw e (record { byPath = refl; confirmed = omega arith; dropped = refl; falseDrops = omega arith })
+  raise-dropped e = rw e (tallied-each (omega arith) (omega arith) refl (omega arith))
 
   pub raise-confirmed : o ≡ confirmed
       → Tallied (λ is. one (is o)) t
       (record { «by_path» = t .«by_path»; confirmed = t .confirmed + 1; dropped = t .dropped; «false_drops» = t .«false_drops» })
-  raise-confirmed e =
-      rw e (record { byPath = refl; confirmed = refl; dropped = omega arith; falseDrops = omega arith })
+  raise-confirmed e = rw e (tallied-each (omega arith) refl (omega arith) (omega arith))
 
   pub raise-false : o ≡ falseDrop
       → Tallied (λ is. one (is o)) t
       (record { «by_path» = t .«by_path»; confirmed = t .confirmed; dropped = t .dropped; «false_drops» = t .«false_drops» + 1 })
-  raise-false e =
-      rw e (record { byPath = refl; confirmed = omega arith; dropped = omega arith; falseDrops = refl })
+  raise-false e = rw e (tallied-each (omega arith) (omega arith) (omega arith) refl)

@@ -7,8 +7,8 @@ use native.Mathlib.Omega.{arith}
 use lib.ListN.{length, getD, take, drop}
 use lib.Seq.{length-slice, getD-drop, getD-take, drop-drop}
 use Rattle.lists.specs.Lists.{slice}
-use Rattle.counting_sort.specs.Holding.{Holds}
-use Rattle.index_keys.specs.Entries.{startOf}
+use Rattle.counting_sort.specs.Holding.{RegionHolds}
+use Rattle.index_keys.specs.SetKeys.{startOf}
 use Rattle.join_index.specs.Grouping.{leftAt, rightAt, keyAt}
 use Rattle.join_index.specs.declared.Layout.{Layout}
 use Rattle.join_index.proofs.GroundLaws.{ground-frame}
@@ -23,7 +23,7 @@ index-frame {lay} {q} {w} {v} frame size index =
     record { ground = ground-frame lay q w v frame size (index .ground); room = omega (arith, index .room) }
 
 -- a region that holds a list: how long it is, its elements, and what is left of it
-module _ {w : List ℕ} {top lo hi : ℕ} {l : List ℕ} (h : Holds w top lo hi l) (room : top ≤ length w) where
+module _ {w : List ℕ} {top lo hi : ℕ} {l : List ℕ} (h : RegionHolds w top lo hi l) (room : top ≤ length w) where
   pub holds-length : length l ≡ hi - lo
   unfolding slice
   holds-length = ap length (sym (h .is)) ∙ length-slice lo hi w (omega arith)
@@ -46,7 +46,7 @@ pub record Stored (w : List ℕ) (starts ranks k : ℕ) (l : List ℕ) : Type 0 
   pub rest : (e : ℕ) → slice (ranks + getD w (starts + k) 0 + e) (ranks + getD w (starts + k + 1) 0) w ≡ drop e l
 
 stored : (w : List ℕ) (top starts ranks k : ℕ) (l : List ℕ) → top ≤ length w
-    → Holds w top (startOf w starts ranks k) (startOf w starts ranks (suc k)) l → Stored w starts ranks k l
+    → RegionHolds w top (startOf w starts ranks k) (startOf w starts ranks (suc k)) l → Stored w starts ranks k l
 stored w top starts ranks k l room h =
     let here : starts + k + 1 ≡ starts + suc k = omega arith in
     let next : getD w (starts + k + 1) 0 ≡ getD w (starts + suc k) 0 = ap (λ (i : ℕ). getD w i 0) here in

@@ -1,20 +1,22 @@
--- Counters that are raised step by step: what they have, with what is left, is what they had with all. One text for the checks
--- of a row and of a run. And what is left of a left set decides its check.
+-- Counters that are raised step by step: what they have, with what remains, is what they had with all. One text for the checks
+-- of a row and of a run. And what remains of a left set decides its check.
 use Prim.Native.Nat.{ℕ, _+_, _-_, _≤_, _<_}
 use mathlib.Core.Path.{_≡_, refl, sym, ap, ap₂, _∙_}
 use mathlib.Core.List.{List, []}
 use mathlib.Core.Bool.{Bool, true, cond}
 use native.Mathlib.Omega.{arith}
 use lib.ListN.{getD, take}
-use Rattle.lists.specs.Lists.{all, memb, subset, slice, rising}
+use Rattle.lists.specs.Lists.{all, memb, subset, sum, slice, rising}
 use Rattle.lists.proofs.Throughout.{all-after}
 use Rattle.lists.proofs.Rising.{rising-drop}
+use Rattle.lists.proofs.Summing.{sum-same, sum-add}
 use Rattle.lists.proofs.Slices.{all-slice}
 use Rattle.sets.specs.Collections.{contained}
 use Rattle.sets.specs.Signatures.{signature, drops}
 use Rattle.join_spec.specs.Query.{Query}
 use Rattle.join_spec.specs.Walk.{Outcome, dropped, falseDrop, confirmed}
-use Rattle.join_spec.specs.Counting.{isConfirmed, isDropped, isFalse}
+use Rattle.join_spec.specs.Counting.{isByPath, isConfirmed, isDropped, isFalse}
+use Rattle.join_spec.specs.Kinds.{Kind, pathPair, confirmedCheck, droppedCheck, falseCheck, isOf}
 use Rattle.join_index.specs.Grouping.{leftAt, rightAt}
 use Rattle.join_index.specs.declared.Layout.{Layout}
 use Rattle.join_index.proofs.Ordering.{left-rising}
@@ -23,40 +25,51 @@ use Rattle.join_check.specs.declared.checks.Probe.{Probe}
 use Rattle.word_lists.specs.Words.{Word}
 use Rattle.word_lists.specs.Merges.{Rising}
 use Rattle.join_check.specs.Asking.{LeftThere}
-use Rattle.join_check.specs.Checks.{checkAt, Tallied, RowThere}
+use Rattle.join_check.specs.Checks.{checkAt, RowThere}
+use Rattle.join_check.specs.Counters.{counter, Tallied}
 use Rattle.join_check.specs.Probes.{ProbeOf, Probed, probeOutcome}
 use Rattle.join_check.proofs.Places.{place-right}
 
+-- counters that grew by the same amounts, said in another way
+pub tallied-same : {a b : (Outcome → Bool) → ℕ} {t r : Tally} → ((kind : Kind) → a (isOf kind) ≡ b (isOf kind)) → Tallied a t r
+    → Tallied b t r
+tallied-same same tallied = record { grows = λ kind. omega (arith, same kind, tallied .grows kind) }
+
+-- counter by counter
+pub tallied-each : {amount : (Outcome → Bool) → ℕ} {t r : Tally} → r .«by_path» ≡ t .«by_path» + amount isByPath
+    → r .confirmed ≡ t .confirmed + amount isConfirmed → r .dropped ≡ t .dropped + amount isDropped
+    → r .«false_drops» ≡ t .«false_drops» + amount isFalse → Tallied amount t r
+tallied-each {amount} {t} {r} path check drop false = record { grows = each }
+  where
+    each : (kind : Kind) → counter kind r ≡ counter kind t + amount (isOf kind)
+    each pathPair = path
+    each confirmedCheck = check
+    each droppedCheck = drop
+    each falseCheck = false
+
+-- some kinds together
+pub tallied-sum : {amount : (Outcome → Bool) → ℕ} {t r : Tally} (ks : List Kind) → Tallied amount t r
+    → sum (λ kind. counter kind r) ks ≡ sum (λ kind. counter kind t) ks + sum (λ kind. amount (isOf kind)) ks
+tallied-sum {amount} {t} {r} ks tallied =
+    sum-same (λ kind. counter kind r) (λ kind. counter kind t + amount (isOf kind)) ks (tallied .grows)
+    ∙ sum-add (λ kind. counter kind t) (λ kind. amount (isOf kind)) ks
+
+-- what the counters have, with the amounts of the rest, is what they had with all
 pub record Leaving (rest all : (Outcome → Bool) → ℕ) (t r : Tally) : Type 0 where
-  pub byPath : r .«by_path» ≡ t .«by_path»
-  pub confirmed : r .confirmed + rest isConfirmed ≡ t .confirmed + all isConfirmed
-  pub dropped : r .dropped + rest isDropped ≡ t .dropped + all isDropped
-  pub falseDrops : r .«false_drops» + rest isFalse ≡ t .«false_drops» + all isFalse
+  pub same : (kind : Kind) → counter kind r + rest (isOf kind) ≡ counter kind t + all (isOf kind)
 
 pub leaving-start : (all : (Outcome → Bool) → ℕ) (t : Tally) → Leaving all all t t
-leaving-start all t = record { byPath = refl; confirmed = refl; dropped = refl; falseDrops = refl }
+leaving-start all t = record { same = λ kind. refl }
 
-module _ {rest all : (Outcome → Bool) → ℕ} {t r : Tally} (left : Leaving rest all t r) where
+module _ {rest all : (Outcome → Bool) → ℕ} {t r : Tally} (so : Leaving rest all t r) where
   pub leaving-step : {step later : (Outcome → Bool) → ℕ} {u : Tally} → Tallied step r u
       → ((is : Outcome → Bool) → rest is ≡ step is + later is) → Leaving later all t u
-  leaving-step more split =
-      record {
-        byPath = more .byPath ∙ left .byPath;
-        confirmed = omega (arith, split isConfirmed, more .confirmed, left .confirmed);
-        dropped = omega (arith, split isDropped, more .dropped, left .dropped);
-        falseDrops = omega (arith, split isFalse, more .falseDrops, left .falseDrops);
-      }
+  leaving-step more split = record { same = λ kind. omega (arith, split (isOf kind), more .grows kind, so .same kind) }
 
   pub leaving-end : ((is : Outcome → Bool) → rest is ≡ 0) → Tallied all t r
-  leaving-end none =
-      record {
-        byPath = left .byPath;
-        confirmed = omega (arith, none isConfirmed, left .confirmed);
-        dropped = omega (arith, none isDropped, left .dropped);
-        falseDrops = omega (arith, none isFalse, left .falseDrops);
-      }
+  leaving-end none = record { grows = λ kind. omega (arith, none (isOf kind), so .same kind) }
 
--- what is left of a left set rises
+-- what remains of a left set rises
 pub probe-rising : {lay : Layout} {q : Query} {w : List ℕ} {k e : ℕ} {p : Probe} → Probed lay w k e p → LeftThere lay q w k
     → Rising (p .from) (p .to) w
 probe-rising {lay} {q} {w} {k} {e} {p} probed there =

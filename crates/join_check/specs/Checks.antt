@@ -8,11 +8,11 @@ use lib.ListN.{length, getD, take}
 use Rattle.lists.specs.Lists.{all, count, sum, subset, slice}
 use Rattle.join_spec.specs.Query.{Query}
 use Rattle.join_spec.specs.Walk.{Outcome, check}
-use Rattle.join_spec.specs.Counting.{isConfirmed, isDropped, isFalse}
 use Rattle.join_index.specs.Grouping.{leftAt, rightAt}
 use Rattle.join_index.specs.declared.Layout.{Layout}
 use Rattle.join_check.specs.declared.Tally.{Tally}
 use Rattle.join_check.specs.Asking.{LeftThere, PlacesThere}
+use Rattle.join_check.specs.Counters.{checksIn, Tallied}
 use Rattle.join_check.specs.Runs.{run}
 
 -- the check of the left set k and the right set s
@@ -26,17 +26,6 @@ rowCount q is places k = count (λ s. is (checkAt q k s)) places
 -- how many checks of the left sets against the places end so
 abbrev pub runCount : Query → (Outcome → Bool) → List ℕ → List ℕ → ℕ
 runCount q is places lefts = sum (rowCount q is places) lefts
-
--- how many checks the counters have
-abbrev pub checksIn : Tally → ℕ
-checksIn t = t .confirmed + t .dropped + t .«false_drops»
-
--- the counters t became r: each grew by the number of checks that end so, and no pair came by path
-pub record Tallied (amount : (Outcome → Bool) → ℕ) (t r : Tally) : Type 0 where
-  pub byPath : r .«by_path» ≡ t .«by_path»
-  pub confirmed : r .confirmed ≡ t .confirmed + amount isConfirmed
-  pub dropped : r .dropped ≡ t .dropped + amount isDropped
-  pub falseDrops : r .«false_drops» ≡ t .«false_drops» + amount isFalse
 
 -- whether each of the right sets holds the first e ranks of the left set k
 abbrev pub holdFirst : Query → ℕ → List ℕ → ℕ → Bool
@@ -55,13 +44,13 @@ pub record RunsThere (lay : Layout) (q : Query) (w : List ℕ) (e lo hi from to 
   pub holding : all (holdFirst q e (slice from to w)) (run lay w lo hi) ≡ true
 
 -- one left set was checked against each of the places
-pub record RowChecked (lay : Layout) (w : List ℕ) (k e from to : ℕ) (t r : Tally) : Type 0 where
-  pub grown : checksIn r ≡ checksIn t + (to - from)
-  pub tallied : (q : Query) → RowThere lay q w k e from to → Tallied (λ is. rowCount q is (slice from to w) k) t r
+pub record RowChecked (lay : Layout) (w : List ℕ) (k e from to : ℕ) (tally r : Tally) : Type 0 where
+  pub grown : checksIn r ≡ checksIn tally + (to - from)
+  pub tallied : (q : Query) → RowThere lay q w k e from to → Tallied (λ is. rowCount q is (slice from to w) k) tally r
 
 -- each left set of a run was checked against each of the places
-pub record RunsChecked (lay : Layout) (w : List ℕ) (e lo hi from to : ℕ) (t r : Tally) : Type 0 where
-  pub grown : checksIn r ≡ checksIn t + (hi - lo) * (to - from)
+pub record RunsChecked (lay : Layout) (w : List ℕ) (e lo hi from to : ℕ) (tally r : Tally) : Type 0 where
+  pub grown : checksIn r ≡ checksIn tally + (hi - lo) * (to - from)
   pub tallied :
       (q : Query) → RunsThere lay q w e lo hi from to
-      → Tallied (λ is. runCount q is (slice from to w) (run lay w lo hi)) t r
+      → Tallied (λ is. runCount q is (slice from to w) (run lay w lo hi)) tally r

@@ -1,5 +1,6 @@
 -- Contents: what the functions of this crate ask and answer.
 pub mod Asking
 pub mod Runs
+pub mod Counters
 pub mod Checks
 pub mod Probes

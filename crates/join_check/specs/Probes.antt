@@ -12,8 +12,10 @@ use Rattle.join_index.specs.Grouping.{leftAt, rightAt}
 use Rattle.join_index.specs.declared.Layout.{Layout}
 use Rattle.join_check.specs.declared.Tally.{Tally}
 use Rattle.join_check.specs.declared.checks.Probe.{Probe}
+use Rattle.join_check.specs.declared.checks.Checked.{Checked}
+use Rattle.join_check.specs.declared.checks.Checked.the-variants.{Dropped, FalseDrop, Confirmed}
 use Rattle.join_check.specs.Asking.{LeftThere, RightThere}
-use Rattle.join_check.specs.Checks.{checksIn, Tallied}
+use Rattle.join_check.specs.Counters.{checksIn, Tallied}
 
 -- p has the signature of the left set k, and where its ranks from e on lie
 pub record ProbeOf (q : Query) (w : List ℕ) (k e : ℕ) (p : Probe) : Type 0 where
@@ -31,7 +33,13 @@ probeOutcome q w p s =
     cond (drops (p .signature) (signature (getD (q .rights) s []))) dropped
     (cond (subset (slice (p .from) (p .to) w) (rightAt q s)) confirmed falseDrop)
 
+-- the outcome that the end of a check stands for
+abbrev pub outcomeOf : Checked → Outcome
+outcomeOf Dropped = dropped
+outcomeOf FalseDrop = falseDrop
+outcomeOf Confirmed = confirmed
+
 -- one check was made
-pub record OneChecked (lay : Layout) (w : List ℕ) (p : Probe) (s : ℕ) (t r : Tally) : Type 0 where
-  pub grown : checksIn r ≡ checksIn t + 1
-  pub tallied : (q : Query) → RightThere lay q w s → Tallied (λ is. one (is (probeOutcome q w p s))) t r
+pub record OneChecked (lay : Layout) (w : List ℕ) (p : Probe) (s : ℕ) (tally r : Tally) : Type 0 where
+  pub grown : checksIn r ≡ checksIn tally + 1
+  pub tallied : (q : Query) → RightThere lay q w s → Tallied (λ is. one (is (probeOutcome q w p s))) tally r

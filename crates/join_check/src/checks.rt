@@ -6,16 +6,26 @@ use word_lists::merge::subset_words;
 use word_lists::words::word_at;
 ghost use mathlib.Core.Path.{_≡_};
 ghost use Prim.Native.Nat.{_+_, _-_, _*_, _<_};
+ghost use Rattle.sets.specs.Limits.{fullWords};
 ghost use Rattle.word_lists.specs.Merges.{Rising};
+ghost use Rattle.join_spec.specs.Query.{Query};
 ghost use Rattle.join_check.specs.Asking.{Some, LeftThere, RightThere};
-ghost use Rattle.join_check.specs.Checks.{checksIn, RowThere, RowChecked};
-ghost use Rattle.join_check.specs.Probes.{Probed, OneChecked};
+ghost use Rattle.join_check.specs.Checks.{RowThere, RowChecked};
+ghost use Rattle.join_check.specs.Counters.{checksIn};
+ghost use Rattle.join_check.specs.Probes.{Probed, outcomeOf, probeOutcome, OneChecked};
 
 // What is left of a left set to be checked: its signature, and where its ranks that are not on the merged path lie.
 pub struct Probe {
     pub signature: u64,
     pub from: usize,
     pub to: usize,
+}
+
+// How a check ends: by the signatures, or by the ranks.
+pub enum Checked {
+    Dropped,
+    FalseDrop,
+    Confirmed,
 }
 
 // What is left of the left set k after its first e ranks; no rank where it has fewer.
@@ -43,12 +53,12 @@ pub fn probe_left(work: &[u32], lay: Layout, k: usize, e: usize) -> Probe
     }
 }
 
-// Checks what is left of a left set against the right set s, and counts the check.
-fn check_one(work: &[u32], lay: Layout, p: Probe, s: usize, t: Tally) -> Tally
+// Checks what is left of a left set against the right set s: signatures first, then ranks.
+pub fn check_probe(work: &[u32], lay: Layout, p: Probe, s: usize) -> Checked
     requires { ⌜ Some (λ q. RightThere lay q (now work) s) ⌝ }
     requires { ⌜ Rising (p .from) (p .to) (now work) ⌝ }
-    requires { ⌜ checksIn t + 1 < 4294967296 ⌝ }
-    ensures { λ r. ⌜ OneChecked lay (now (work .entry)) p s t r ⌝ }
+    ensures { λ r. ⌜ ((q : Query) → RightThere lay q (now (work .entry)) s
+        → outcomeOf r ≡ probeOutcome q (now (work .entry)) p s) ⌝ }
 {
     let starts = lay.right_starts;
     let ranks = lay.right_ranks;
@@ -57,28 +67,43 @@ fn check_one(work: &[u32], lay: Layout, p: Probe, s: usize, t: Tally) -> Tally
     let right = double_at(work, signatures + 2 * s);
     let common = left & right;
     if common != left {
-        return Tally {
-            by_path: t.by_path,
-            confirmed: t.confirmed,
-            dropped: t.dropped + 1,
-            false_drops: t.false_drops,
-        };
+        return Checked::Dropped;
     }
     let from = ranks + word_at(work, starts + s);
     let to = ranks + word_at(work, starts + s + 1);
     if subset_words(work, p.from, p.to, from, to) {
-        return Tally {
-            by_path: t.by_path,
-            confirmed: t.confirmed + 1,
-            dropped: t.dropped,
-            false_drops: t.false_drops,
-        };
+        return Checked::Confirmed;
     }
-    Tally {
-        by_path: t.by_path,
-        confirmed: t.confirmed,
-        dropped: t.dropped,
-        false_drops: t.false_drops + 1,
+    Checked::FalseDrop
+}
+
+// The same, and counts the check.
+fn check_one(work: &[u32], lay: Layout, p: Probe, s: usize, tally: Tally) -> Tally
+    requires { ⌜ Some (λ q. RightThere lay q (now work) s) ⌝ }
+    requires { ⌜ Rising (p .from) (p .to) (now work) ⌝ }
+    requires { ⌜ checksIn tally + 1 < fullWords ⌝ }
+    ensures { λ r. ⌜ OneChecked lay (now (work .entry)) p s tally r ⌝ }
+{
+    let end = check_probe(work, lay, p, s);
+    match end {
+        Checked::Dropped => Tally {
+            by_path: tally.by_path,
+            confirmed: tally.confirmed,
+            dropped: tally.dropped + 1,
+            false_drops: tally.false_drops,
+        },
+        Checked::FalseDrop => Tally {
+            by_path: tally.by_path,
+            confirmed: tally.confirmed,
+            dropped: tally.dropped,
+            false_drops: tally.false_drops + 1,
+        },
+        Checked::Confirmed => Tally {
+            by_path: tally.by_path,
+            confirmed: tally.confirmed + 1,
+            dropped: tally.dropped,
+            false_drops: tally.false_drops,
+        },
     }
 }
 
@@ -91,14 +116,14 @@ pub fn check_row(
     e: usize,
     from: usize,
     to: usize,
-    t: Tally,
+    tally: Tally,
 ) -> Tally
     requires { ⌜ Some (λ q. RowThere lay q (now work) k e from to) ⌝ }
-    requires { ⌜ checksIn t + (to - from) < 4294967296 ⌝ }
-    ensures { λ r. ⌜ RowChecked lay (now (work .entry)) k e from to t r ⌝ }
+    requires { ⌜ checksIn tally + (to - from) < fullWords ⌝ }
+    ensures { λ r. ⌜ RowChecked lay (now (work .entry)) k e from to tally r ⌝ }
 {
     let p = probe_left(work, lay, k, e);
-    let mut r = t;
+    let mut r = tally;
     let mut i = from;
     while i < to {
         let s = word_at(work, i);

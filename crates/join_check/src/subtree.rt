@@ -6,8 +6,10 @@ use crate::keys::run_end;
 use join_index::Layout;
 use word_lists::words::word_at;
 ghost use Prim.Native.Nat.{_+_, _-_, _*_, _<_};
+ghost use Rattle.sets.specs.Limits.{fullWords};
 ghost use Rattle.join_check.specs.Asking.{Some};
-ghost use Rattle.join_check.specs.Checks.{checksIn, RunsThere, RunsChecked};
+ghost use Rattle.join_check.specs.Checks.{RunsThere, RunsChecked};
+ghost use Rattle.join_check.specs.Counters.{checksIn};
 
 // Checks the left sets at the places lo up to hi of the order, after their first e ranks, against each right set whose place
 // stands from one place of the work list up to another.
@@ -19,14 +21,14 @@ pub fn check_run(
     hi: usize,
     from: usize,
     to: usize,
-    t: Tally,
+    tally: Tally,
 ) -> Tally
     requires { ⌜ Some (λ q. RunsThere lay q (now work) e lo hi from to) ⌝ }
-    requires { ⌜ checksIn t + (hi - lo) * (to - from) < 4294967296 ⌝ }
-    ensures { λ r. ⌜ RunsChecked lay (now (work .entry)) e lo hi from to t r ⌝ }
+    requires { ⌜ checksIn tally + (hi - lo) * (to - from) < fullWords ⌝ }
+    ensures { λ r. ⌜ RunsChecked lay (now (work .entry)) e lo hi from to tally r ⌝ }
 {
     let order = lay.order;
-    let mut r = t;
+    let mut r = tally;
     let mut i = lo;
     while i < hi {
         let k = word_at(work, order + i);
@@ -48,17 +50,17 @@ pub fn gather(
     hi: usize,
     from: usize,
     to: usize,
-    t: Tally,
+    tally: Tally,
 ) -> Tally
     requires { ⌜ Some (λ q. RunsThere lay q (now work) e lo hi from to) ⌝ }
-    requires { ⌜ checksIn t + (hi - lo) * (to - from) < 4294967296 ⌝ }
-    ensures { λ r. ⌜ RunsChecked lay (now (work .entry)) e lo hi from to t r ⌝ }
+    requires { ⌜ checksIn tally + (hi - lo) * (to - from) < fullWords ⌝ }
+    ensures { λ r. ⌜ RunsChecked lay (now (work .entry)) e lo hi from to tally r ⌝ }
 {
     if limit <= d {
-        return check_run(work, lay, e, lo, hi, from, to, t);
+        return check_run(work, lay, e, lo, hi, from, to, tally);
     }
     let order = lay.order;
-    let mut r = t;
+    let mut r = tally;
     let mut i = lo;
     while i < hi {
         let k = word_at(work, order + i);

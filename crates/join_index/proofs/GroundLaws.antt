@@ -1,7 +1,7 @@
 -- What the regions of the work list keep while only words from the slots on change; and that the offsets of the inverted lists
 -- rise.
 use Prim.Native.Nat.{ℕ, zero, suc, _+_, _-_, _*_, _≤_, _<_}
-use mathlib.Core.Path.{_≡_, refl, ap, ap₂, _∙_}
+use mathlib.Core.Path.{_≡_, refl, ap, _∙_}
 use mathlib.Core.List.{List}
 use native.Mathlib.Nat.{add-zero, add-suc}
 use native.Mathlib.Omega.{arith}
@@ -9,22 +9,11 @@ use lib.ListN.{length, take, getD}
 use Rattle.lists.specs.Lists.{count, slice}
 use Rattle.lists.proofs.Slices.{frame-at, frame-slice}
 use Rattle.join_spec.specs.Query.{Query}
-use Rattle.counting_sort.specs.Holding.{Holds}
+use Rattle.counting_sort.proofs.Regions.{holds-frame}
 use Rattle.signatures.proofs.SigningSets.{double-stays}
-use Rattle.index_keys.specs.Entries.{startOf}
+use Rattle.index_keys.specs.SetKeys.{startOf}
 use Rattle.join_index.specs.Ground.{Ground, offsetOf, seenCount}
 use Rattle.join_index.specs.declared.Layout.{Layout}
-
--- a run whose bounds are the same in a list that is the same up to the top
-pub holds-frame : {w v : List ℕ} {top lo hi from to : ℕ} {list : List ℕ} → take top v ≡ take top w → from ≡ lo → to ≡ hi
-    → Holds w top lo hi list → Holds v top from to list
-holds-frame {w} {v} {top} {lo} {hi} {from} {to} kept same-lo same-hi h =
-    record {
-      rise = omega (arith, h .rise);
-      within = omega (arith, h .within);
-      is =
-          ap₂ (λ (f t : ℕ). slice f t v) same-lo same-hi ∙ frame-slice lo hi top w v (h .within) kept ∙ h .is;
-    }
 
 module _ (w v : List ℕ) (top : ℕ) (kept : take top v ≡ take top w) where
   same-at : (i : ℕ) → i < top → getD v i 0 ≡ getD w i 0

@@ -1,12 +1,13 @@
--- Laws of the index: what its regions keep while only the slots change, what the groups of its sorts are, and the stages of the
--- build; each function that needs a proof file has its folder beside them.
+-- Laws of the index: what its regions keep while only the slots change, grouping by key, the stages of the build, and that the
+-- build as a whole is the ground of the walk; each function that needs a proof file has its folder beside them.
 pub mod GroundLaws
-pub mod Inverting
 pub mod GroupLaws
 pub mod Ordering
-pub mod BuildSort
-pub mod BuildSide
+pub mod HeldSets
 pub mod BuildLeast
+pub mod SortDepth
 pub mod BuildOrder
-pub mod BuildHeld
-pub mod BuildWhole
+pub mod BuildPlan
+pub mod BuildStages
+pub mod BuildLists
+pub mod BuildGround

@@ -1,5 +1,5 @@
--- The build as a whole: where the regions lie, each beginning where the one before it ends, and what an accepted input gives
--- the build.
+-- Inner: the build as a whole. Where the regions lie, each beginning where the one before it ends, and what an accepted input
+-- gives the build.
 use Prim.Native.Nat.{ℕ, _+_, _*_, _≤_}
 use mathlib.Core.Path.{_≡_}
 use mathlib.Core.List.{List}
@@ -9,9 +9,9 @@ use Rattle.sets.specs.Limits.{maxItems, maxSets, maxEntries}
 use Rattle.sets.specs.Collections.{firstBad}
 use Rattle.sets.specs.Ordered.{isPermutation}
 use Rattle.sets.specs.declared.Verdict.the-variants.{Good}
-use Rattle.join_spec.specs.Answer.{workNeeded}
+use Rattle.inputs.specs.Tests.{wordsFor}
 use Rattle.counting_sort.specs.Sorting.{sortedAt}
-use Rattle.join_index.specs.Stages.{startsAt, ranksAt, sideEnd}
+use Rattle.side_index.specs.Side.{startsAt, ranksAt, sideEnd}
 use Rattle.join_index.specs.declared.Layout.{Layout}
 
 -- the sizes of an accepted input: items, sets and item entries of each side
@@ -51,4 +51,4 @@ pub record BuildRoom (T : ℕ) (leftEnds leftItems rightEnds rightItems ranks w 
   pub permutation : isPermutation T ranks ≡ true
   pub leftGood : firstBad T leftEnds leftItems ≡ Good
   pub rightGood : firstBad T rightEnds rightItems ≡ Good
-  pub room : workNeeded T leftEnds rightEnds ≤ length w
+  pub room : wordsFor T leftEnds rightEnds ≤ length w

@@ -1,5 +1,5 @@
--- What the regions of the work list hold while the walk goes on: the facts that every step of the walk may use. All of it lies
--- below the candidate slots, which alone change.
+-- Inner: what the regions of the work list hold while the walk goes on, the facts that every step of the walk may use. All of it
+-- lies below the candidate slots, which alone change.
 use Prim.Native.Nat.{ℕ, suc, _+_, _*_, _≤_, _<_}
 use mathlib.Core.Path.{_≡_}
 use mathlib.Core.List.{List, []}
@@ -12,9 +12,9 @@ use Rattle.sets.specs.Signatures.{signature}
 use Rattle.join_spec.specs.Query.{Query}
 use Rattle.join_spec.specs.Node.{seen}
 use Rattle.join_index.specs.Grouping.{leftAt, rightAt, orderOf}
-use Rattle.counting_sort.specs.Holding.{Holds}
+use Rattle.counting_sort.specs.Holding.{RegionHolds}
 use Rattle.signatures.specs.Signing.{double}
-use Rattle.index_keys.specs.Entries.{startOf}
+use Rattle.index_keys.specs.SetKeys.{startOf}
 use Rattle.join_index.specs.declared.Layout.{Layout}
 
 -- the list holds, in some order and each once, the places below n that pass the test
@@ -37,11 +37,11 @@ seenCount lay w r = getD w (lay .«least_offsets» + suc r) 0
 pub record Ground (lay : Layout) (q : Query) (w : List ℕ) : Type 0 where
   pub left :
       (k : ℕ) → k < length (q .lefts)
-      → Holds w (lay .slots) (startOf w (lay .«left_starts») (lay .«left_ranks») k)
+      → RegionHolds w (lay .slots) (startOf w (lay .«left_starts») (lay .«left_ranks») k)
       (startOf w (lay .«left_starts») (lay .«left_ranks») (suc k)) (leftAt q k)
   pub right :
       (s : ℕ) → s < length (q .rights)
-      → Holds w (lay .slots) (startOf w (lay .«right_starts») (lay .«right_ranks») s)
+      → RegionHolds w (lay .slots) (startOf w (lay .«right_starts») (lay .«right_ranks») s)
       (startOf w (lay .«right_starts») (lay .«right_ranks») (suc s)) (rightAt q s)
   pub leftSignature :
       (k : ℕ) → k < length (q .lefts) → double w (lay .«left_signatures» + 2 * k) ≡ signature (getD (q .lefts) k [])
@@ -49,11 +49,11 @@ pub record Ground (lay : Layout) (q : Query) (w : List ℕ) : Type 0 where
       → double w (lay .«right_signatures» + 2 * s) ≡ signature (getD (q .rights) s [])
   pub inverted :
       (r : ℕ) → r < q .T
-      → Holds w (lay .slots) (lay .index + offsetOf lay w r) (lay .index + offsetOf lay w (suc r)) (invertedList q r)
+      → RegionHolds w (lay .slots) (lay .index + offsetOf lay w r) (lay .index + offsetOf lay w (suc r)) (invertedList q r)
   pub seenFirst :
       (r : ℕ) → r < q .T
       → Listing (length (q .rights)) (λ s. seen r (rightAt q s)) (slice (lay .«by_least») (lay .«by_least» + seenCount lay w r) w)
-  pub ordered : Holds w (lay .slots) (lay .order) (lay .order + length (q .lefts)) (orderOf q)
+  pub ordered : RegionHolds w (lay .slots) (lay .order) (lay .order + length (q .lefts)) (orderOf q)
   -- the regions that are read by place lie below the slots
   pub leftStartsWithin : lay .«left_starts» + suc (length (q .lefts)) ≤ lay .slots
   pub rightStartsWithin : lay .«right_starts» + suc (length (q .rights)) ≤ lay .slots

@@ -12,7 +12,6 @@ use join_spec::Weights;
 use libc::STDIN_FILENO;
 use libc::STDOUT_FILENO;
 use sets::Refusal;
-use sets::Side;
 ghost use Prim.Native.Nat.{_≤_};
 ghost use lib.ListN.{length};
 
@@ -26,34 +25,12 @@ fn show_pair(a: u64, b: u64) {
     show_number(b);
 }
 
-// Document 01's number of a refusal.
-fn refusal_number(why: Refusal) -> u64 {
-    match why {
-        Refusal::Malformed(_place) => 1,
-        Refusal::NumberUsed(_place) => 2,
-        Refusal::TooMany(_place) => 3,
-        Refusal::ShortOutput => 4,
-        Refusal::BadSet(_side, _place) => 5,
-        Refusal::BadSettings => 6,
-        Refusal::ShortWork => 7,
-        Refusal::Spent => 8,
-        Refusal::ShortPairs => 9,
-    }
-}
-
-fn side_number(side: Side) -> u64 {
-    match side {
-        Side::Left => 0,
-        Side::Right => 1,
-    }
-}
-
-// What returns with a refusal of the join.
-fn show_detail(why: Refusal) {
-    if let Refusal::BadSet(side, place) = why {
-        show_pair(side_number(side), place as u64);
-    } else {
-        show_number(0);
+// The number of a refusal and what returns with it: two numbers for a bad set, else one.
+fn show_refusal(why: Refusal) {
+    let head = sets::head_of(why);
+    show_pair(head.number, head.first);
+    if let Refusal::BadSet(_side, _place) = why {
+        show_number(head.second);
     }
 }
 
@@ -69,10 +46,7 @@ fn show_answer(answer: JoinAnswer) {
             io::write_all(STDOUT_FILENO, b" 0 0 counts");
             show_counts(counts);
         }
-        JoinAnswer::Refused(why) => {
-            show_number(refusal_number(why));
-            show_detail(why);
-        }
+        JoinAnswer::Refused(why) => show_refusal(why),
     }
 }
 

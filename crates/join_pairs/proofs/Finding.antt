@@ -23,11 +23,11 @@ use Rattle.join_check.specs.declared.checks.Probe.{Probe}
 use Rattle.join_check.specs.Asking.{LeftThere}
 use Rattle.join_check.specs.Probes.{Probed}
 use Rattle.join_check.proofs.Reading.{index-frame}
-use Rattle.join_pairs.specs.declared.candidates.Candidates.{Candidates}
+use Rattle.join_pairs.specs.declared.candidates.Shortlist.{Shortlist}
 use Rattle.join_pairs.specs.Containing.{RanksThere, containedAt, pairsWith, rowAt, rowOf}
-use Rattle.join_pairs.specs.Narrowing.{NarrowThere, Narrows, Narrowed}
+use Rattle.join_pairs.specs.Shortlists.{FindThere, ShortlistOf, Shortlisted}
 use Rattle.join_pairs.specs.Writing.{AllRoom, RowRoom, LeftRoom}
-use Rattle.join_pairs.proofs.Kept.{length-pairs, row-whole, row-empty}
+use Rattle.join_pairs.proofs.RowPairs.{length-pairs, row-whole, row-empty}
 
 rising-rest : (w : List ℕ) (from to rest : ℕ) → from ≤ rest → rising (slice from to w) ≡ true → rising (slice rest to w) ≡ true
 unfolding slice
@@ -47,8 +47,8 @@ module _ {lay : Layout} {w : List ℕ} {k : ℕ} {p : Probe} (found : Probed lay
   ranks-rise : (q : Query) → LeftThere lay q w k → rising (slice (p .from) (p .to) w) ≡ true
   ranks-rise q left = ap rising (ranks-are q left) ∙ left-rising q k
 
-  pub ranks-there : (q : Query) → LeftThere lay q w k → p .from < p .to → RanksThere lay q w (p .from) (p .to)
-  ranks-there q left some =
+  pub ranks-there : {q : Query} → LeftThere lay q w k → p .from < p .to → RanksThere lay q w (p .from) (p .to)
+  ranks-there {q} left some =
       record {
         index = left .index;
         some = some;
@@ -56,16 +56,16 @@ module _ {lay : Layout} {w : List ℕ} {k : ℕ} {p : Probe} (found : Probed lay
         below = ranks-below q left;
       }
 
-  pub narrow-there : (q : Query) → LeftThere lay q w k → (r : ℕ) → memb r (slice (p .from) (p .to) w) ≡ true
-      → NarrowThere lay q w (p .from) (p .to) r
-  narrow-there q left r there =
+  pub find-there : {q : Query} → LeftThere lay q w k → {r : ℕ} → memb r (slice (p .from) (p .to) w) ≡ true
+      → FindThere lay q w (p .from) (p .to) r
+  find-there {q} left there =
       record { index = left .index; within = found .within; below = ranks-below q left; rise = ranks-rise q left; there = there }
 
   -- a left set without ranks pairs with every right set
-  module _ (q : Query) (rights at : ℕ) (was : List ℕ) (there : LeftRoom lay q w k rights at was) (none : p .to ≤ p .from) where
+  module _ {q : Query} {rights at : ℕ} {was : List ℕ} (there : LeftRoom lay q w k rights at was) (none : p .to ≤ p .from) where
     empty-row : rowAt q k ≡ pairsWith k (upto rights)
     empty-row =
-        row-empty lay q w k (there .left) (sym (ranks-are q (there .left)) ∙ slice-past (p .from) (p .to) w none)
+        row-empty (there .left) (sym (ranks-are q (there .left)) ∙ slice-past (p .from) (p .to) w none)
         ∙ ap (λ (n : ℕ). pairsWith k (upto n)) (there .rightCount)
 
     pub empty-room : AllRoom at k rights was
@@ -80,12 +80,12 @@ module _ {lay : Layout} {w : List ℕ} {k : ℕ} {p : Probe} (found : Probed lay
     empty-put put = rw empty-row put
 
   -- the candidates
-  module _ (r : ℕ) (pivot : memb r (slice (p .from) (p .to) w) ≡ true) (v : List ℕ) (c : Candidates)
-      (narrowed : Narrowed lay w (p .from) (p .to) r v c) (size : length v ≡ length w)
-      (q : Query) (rights at : ℕ) (was : List ℕ) (there : LeftRoom lay q w k rights at was)
+  module _ {r : ℕ} {v : List ℕ} {c : Shortlist} (pivot : memb r (slice (p .from) (p .to) w) ≡ true)
+      (listed : Shortlisted lay w (p .from) (p .to) r v c) (size : length v ≡ length w)
+      {q : Query} {rights at : ℕ} {was : List ℕ} (there : LeftRoom lay q w k rights at was)
     where
-      narrows : Narrows lay q w (p .from) (p .to) v c
-      narrows = narrowed .is q (narrow-there q (there .left) r pivot)
+      shortlist : ShortlistOf lay q w (p .from) (p .to) v c
+      shortlist = listed .is q (find-there (there .left) pivot)
 
       abbrev holding : ℕ → Bool
       holding s = subset (slice (p .from) (p .to) w) (rightAt q s)
@@ -98,38 +98,38 @@ module _ {lay : Layout} {w : List ℕ} {k : ℕ} {p : Probe} (found : Probed lay
       below-memb : (s : ℕ) → memb s (slice (c .from) (c .to) v) ≡ true → s < length (q .rights)
       below-memb s m =
           ltb-true s (length (q .rights))
-          (all-elim (λ (x : ℕ). ltb x (length (q .rights))) (slice (c .from) (c .to) v) (narrows .places .below) s m)
+          (all-elim (λ (x : ℕ). ltb x (length (q .rights))) (slice (c .from) (c .to) v) (shortlist .places .below) s m)
 
-      narrowed-row : rowAt q k ≡ rowOf q k (slice (c .from) (c .to) v)
-      narrowed-row =
+      shortlist-row : rowAt q k ≡ rowOf q k (slice (c .from) (c .to) v)
+      shortlist-row =
           row-whole q k
           ∙ ap (pairsWith k)
           (keep-agree (containedAt q k) holding (upto (length (q .rights)))
           (λ s m. sym (same s (omega (arith, range-upper 0 (length (q .rights)) s m))))
-          ∙ sym (narrows .complete)
+          ∙ sym (shortlist .complete)
           ∙ keep-agree holding (containedAt q k) (slice (c .from) (c .to) v) (λ s m. same s (below-memb s m)))
 
       rest-same : slice (c .rest) (p .to) v ≡ slice (c .rest) (p .to) w
-      rest-same = frame-slice (c .rest) (p .to) (lay .slots) w v (found .within) (narrowed .frame)
+      rest-same = frame-slice (c .rest) (p .to) (lay .slots) w v (found .within) (listed .frame)
 
-      pub narrowed-room :
+      pub shortlist-room :
           RowRoom lay q v (record { signature = p .signature; from = c .rest; to = p .to }) k (c .from) (c .to) at was
-      narrowed-room =
+      shortlist-room =
           record {
-            left = record { index = index-frame (narrowed .frame) size (there .left .index); below = there .left .below };
-            places = narrows .places;
+            left = record { index = index-frame (listed .frame) size (there .left .index); below = there .left .below };
+            places = shortlist .places;
             signed = found .is q (there .left) .signed;
             rising =
                 record {
                   within = omega (arith, found .within, there .left .index .room);
                   rise = ap rising rest-same
-                      ∙ rising-rest w (p .from) (p .to) (c .rest) (narrowed .low) (ranks-rise q (there .left));
+                      ∙ rising-rest w (p .from) (p .to) (c .rest) (listed .low) (ranks-rise q (there .left));
                 };
             decides = λ s m.
-                ap (λ (l : List ℕ). subset l (rightAt q s)) rest-same ∙ narrows .decides s m ∙ same s (below-memb s m);
-            room = omega (arith, there .room, ap length narrowed-row);
+                ap (λ (l : List ℕ). subset l (rightAt q s)) rest-same ∙ shortlist .decides s m ∙ same s (below-memb s m);
+            room = omega (arith, there .room, ap length shortlist-row);
           }
 
-      pub narrowed-put : {n : ℕ} {u : List ℕ} → Put was at (rowOf q k (slice (c .from) (c .to) v)) n u
+      pub shortlist-put : {n : ℕ} {u : List ℕ} → Put was at (rowOf q k (slice (c .from) (c .to) v)) n u
           → Put was at (rowAt q k) n u
-      narrowed-put put = rw narrowed-row put
+      shortlist-put put = rw shortlist-row put

@@ -23,7 +23,7 @@ use Rattle.join_check.specs.Asking.{PlacesThere}
 use Rattle.join_check.proofs.Places.{places-below}
 use Rattle.join_pairs.specs.declared.candidates.Span.{Span}
 use Rattle.join_pairs.specs.Containing.{RankThere, RanksThere}
-use Rattle.join_pairs.specs.Narrowing.{Listed}
+use Rattle.join_pairs.specs.Shortlists.{Located}
 
 -- the inverted list of a rank lies between two offsets, and its slot within the work list
 pub record Inverted (lay : Layout) (q : Query) (w : List ℕ) (r : ℕ) : Type 0 where
@@ -33,8 +33,8 @@ pub record Inverted (lay : Layout) (q : Query) (w : List ℕ) (r : ℕ) : Type 0
   pub room : lay .slots + getD w (lay .offsets + r + 1) 0 ≤ length w
   pub is : slice (lay .index + getD w (lay .offsets + r) 0) (lay .index + getD w (lay .offsets + r + 1) 0) w ≡ invertedList q r
 
-pub inverted-stored : (lay : Layout) (q : Query) (w : List ℕ) (r : ℕ) → RankThere lay q w r → Inverted lay q w r
-inverted-stored lay q w r there =
+pub inverted-stored : {lay : Layout} {q : Query} {w : List ℕ} {r : ℕ} → RankThere lay q w r → Inverted lay q w r
+inverted-stored {lay} {q} {w} {r} there =
     let h = there .index .ground .inverted r (there .below) in
     let here : lay .offsets + r + 1 ≡ lay .offsets + suc r = omega arith in
     let next : getD w (lay .offsets + r + 1) 0 ≡ getD w (lay .offsets + suc r) 0 = ap (λ (i : ℕ). getD w i 0) here in
@@ -47,14 +47,14 @@ inverted-stored lay q w r there =
     }
 
 -- the inverted list where it was found: rising places of right sets
-module _ (lay : Layout) (q : Query) (w : List ℕ) (r : ℕ) (s : Span) (listed : Listed lay w r s)
+module _ {lay : Layout} {q : Query} {w : List ℕ} {r : ℕ} {s : Span} (located : Located lay w r s)
     (there : RankThere lay q w r) where
   pub list-part : slice (s .from) (s .to) w ≡ invertedList q r
   list-part =
-      ap₂ (λ (a b : ℕ). slice a b w) (listed .from) (listed .to) ∙ inverted-stored lay q w r there .is
+      ap₂ (λ (a b : ℕ). slice a b w) (located .from) (located .to) ∙ inverted-stored there .is
 
   list-within : s .to ≤ length w
-  list-within = omega (arith, inverted-stored lay q w r there .low, listed .to, there .index .room)
+  list-within = omega (arith, inverted-stored there .low, located .to, there .index .room)
 
   pub list-places : PlacesThere lay q w (s .from) (s .to)
   list-places =
@@ -67,9 +67,9 @@ module _ (lay : Layout) (q : Query) (w : List ℕ) (r : ℕ) (s : Span) (listed 
             (all-upto (length (q .rights)));
       }
 
-  pub list-small : Below flagRoom (s .from) (s .to) w
-  list-small =
-      places-below list-places (omega (arith, inverted-stored lay q w r there .rise, listed .from, listed .to))
+  pub list-below : Below flagRoom (s .from) (s .to) w
+  list-below =
+      places-below list-places (omega (arith, inverted-stored there .rise, located .from, located .to))
 
   pub list-rising : Rising (s .from) (s .to) w
   list-rising =
@@ -79,15 +79,17 @@ module _ (lay : Layout) (q : Query) (w : List ℕ) (r : ℕ) (s : Span) (listed 
             ∙ rising-keep (λ (x : ℕ). memb r (rightAt q x)) (upto (length (q .rights))) (rising-range 0 (length (q .rights)));
       }
 
+-- a word of a part, by its place in the list
+pub slice-at : (w : List ℕ) (from to i : ℕ) → from ≤ i → i < to → getD (slice from to w) (i - from) 0 ≡ getD w i 0
+slice-at w from to i low high =
+    let there : from + (i - from) ≡ i = omega arith in
+    getD-slice 0 from to (i - from) w (omega arith) ∙ ap (λ (n : ℕ). getD w n 0) there
+
 -- a word of a part is in it
 pub slice-memb : (w : List ℕ) (from to i r : ℕ) → from ≤ i → i < to → to ≤ length w → r ≡ getD w i 0
     → memb r (slice from to w) ≡ true
 slice-memb w from to i r low high within word =
-    let there : from + (i - from) ≡ i = omega arith in
-    let here : getD (slice from to w) (i - from) 0 ≡ r =
-    getD-slice 0 from to (i - from) w (omega arith) ∙ ap (λ (n : ℕ). getD w n 0) there ∙ sym word
-    in
-    subst (λ (n : ℕ). memb n (slice from to w) ≡ true) here
+    subst (λ (n : ℕ). memb n (slice from to w) ≡ true) (slice-at w from to i low high ∙ sym word)
     (memb-at (slice from to w) (i - from) 0 (omega (arith, length-slice from to w within)))
 
 -- a word of a part that holds ranks is a rank

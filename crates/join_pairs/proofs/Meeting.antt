@@ -1,4 +1,4 @@
--- Candidates narrowed by one rank: all of them hold the pivot, and any other rank is met by its inverted list.
+-- Candidates cut down by one rank: all of them hold the pivot, and any other rank is met by its inverted list.
 use Prim.Native.Nat.{ℕ, _+_}
 use mathlib.Core.Path.{_≡_, refl, sym, ap, _∙_}
 use mathlib.Core.List.{List}
@@ -17,48 +17,47 @@ use Rattle.join_index.specs.declared.Layout.{Layout}
 use Rattle.word_lists.specs.Words.{Word}
 use Rattle.word_lists.specs.Merges.{Apart, Intersected}
 use Rattle.join_pairs.specs.declared.candidates.Span.{Span}
-use Rattle.join_pairs.specs.Narrowing.{Listed, SpanThere, Met}
+use Rattle.join_pairs.specs.Shortlists.{Located, SpanThere, RankMet}
 use Rattle.join_pairs.proofs.Inverted.{inverted-stored, list-part}
 
-module _ (lay : Layout) (w : List ℕ) (r pivot from to : ℕ) where
-  pub met-same : (q : Query) → SpanThere lay q w r pivot from to → r ≡ pivot
-      → Met lay w r pivot from to w (record { from = from; to = to })
-  met-same q there same =
+module _ {lay : Layout} {q : Query} {w : List ℕ} {r pivot from to : ℕ} (there : SpanThere lay q w r pivot from to) where
+  pub met-same : r ≡ pivot
+      → RankMet lay w r pivot from to w (record { from = from; to = to })
+  met-same same =
       record {
         frame = refl;
         order = there .order;
-        high = omega (arith, there .high, inverted-stored lay q w r (there .rank) .rise);
+        high = omega (arith, there .high, inverted-stored (there .rank) .rise);
         is = λ p t.
             sym
             (ap (λ (x : ℕ). keep (λ (s : ℕ). memb x (rightAt p s)) (slice from to w)) same
             ∙ keep-all (λ (s : ℕ). memb pivot (rightAt p s)) (slice from to w) (t .holding));
       }
 
-  module _ (list : Span) (start : ℕ) (listed : Listed lay w r list) (word : Word w (lay .offsets + r) start) where
-    pub met-apart : (q : Query) → SpanThere lay q w r pivot from to → Apart to (list .from) (list .to) (lay .slots + start) w
-    met-apart q there =
-        let s = inverted-stored lay q w r (there .rank) in
+  module _ {list : Span} {start : ℕ} (located : Located lay w r list) (word : Word w (lay .offsets + r) start) where
+    pub met-apart : Apart to (list .from) (list .to) (lay .slots + start) w
+    met-apart =
+        let s = inverted-stored (there .rank) in
         record {
-          left = omega (arith, there .high, word .is);
-          right = omega (arith, s .low, listed .to);
-          room = omega (arith, s .room, s .rise, listed .from, listed .to, word .is);
+          first = omega (arith, there .high, word .is);
+          second = omega (arith, s .low, located .to);
+          room = omega (arith, s .room, s .rise, located .from, located .to, word .is);
         }
 
-    pub met-other : (q : Query) → SpanThere lay q w r pivot from to → (w′ : List ℕ) (end : ℕ)
-        → Intersected from to (list .from) (list .to) (lay .slots + start) w w′ end
-        → Met lay w r pivot from to w′ (record { from = lay .slots + start; to = end })
-    met-other q there w′ end shared =
-        let s = inverted-stored lay q w r (there .rank) in
+    pub met-other : {w′ : List ℕ} {end : ℕ} → Intersected from to (list .from) (list .to) (lay .slots + start) w w′ end
+        → RankMet lay w r pivot from to w′ (record { from = lay .slots + start; to = end })
+    met-other {w′} shared =
+        let s = inverted-stored (there .rank) in
         record {
           frame = frame-less (lay .slots) (lay .slots + start) w w′ (omega arith) (shared .changed .low);
           order = shared .low;
-          high = omega (arith, shared .high, s .rise, listed .from, listed .to, word .is);
+          high = omega (arith, shared .high, s .rise, located .from, located .to, word .is);
           is = λ p t.
               shared .is
               ∙ keep-agree (λ (x : ℕ). memb x (slice (list .from) (list .to) w)) (λ (x : ℕ). memb r (rightAt p x))
               (slice from to w)
               (λ x m.
-              ap (memb x) (list-part lay p w r list listed (t .rank))
+              ap (memb x) (list-part located (t .rank))
               ∙ memb-keep (λ (y : ℕ). memb r (rightAt p y)) (upto (length (p .rights))) x
               ∙ ap (λ (b : Bool). b && memb r (rightAt p x))
               (memb-upto (length (p .rights)) x

@@ -1,5 +1,5 @@
--- The right sets that contain a left set, and the pairs that they make. Document 01, "The run": the pair list has two 16-bit
--- places per pair, kit then stack, rising by kit, then stack.
+-- Inner: the right sets that contain a left set, and the pairs that they make. Document 01, "The run": the pair list has two
+-- 16-bit places per pair, kit then stack, rising by kit, then stack.
 use Prim.Native.Nat.{ℕ, _≤_, _<_}
 use mathlib.Core.Path.{_≡_}
 use mathlib.Core.List.{List, [], _∷_}
@@ -31,7 +31,7 @@ rowOf q k places = pairsWith k (keep (containedAt q k) places)
 
 -- the pairs of the left set k with all right sets that contain it: its part of the pair list
 abbrev pub rowAt : Query → ℕ → List ℕ
-rowAt q k = rowFrom k 0 (getD (q .lefts) k []) (q .rights)
+rowAt q k = rowFrom (contained (getD (q .lefts) k [])) k 0 (q .rights)
 
 -- p is what is left of the left set k to be looked for in the right set s: containing its ranks is containing the left set
 pub record CheckThere (lay : Layout) (q : Query) (w : List ℕ) (p : Probe) (k s : ℕ) : Type 0 where

@@ -1,4 +1,4 @@
 -- Contents: what the functions of this crate ask and answer.
 pub mod Containing
-pub mod Narrowing
+pub mod Shortlists
 pub mod Writing

@@ -1,4 +1,4 @@
--- Pairs written into a list from a place on: what is asked of the room, and of a left set what is written.
+-- Inner: pairs written into a list from a place on: what is asked of the room, and of a left set what is written.
 use Prim.Native.Nat.{ℕ, _+_, _*_, _≤_, _<_}
 use mathlib.Core.Path.{_≡_}
 use mathlib.Core.List.{List, []}

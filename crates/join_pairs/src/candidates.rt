@@ -1,14 +1,14 @@
-// The right sets that may contain a left set: those holding one of its ranks, narrowed by what they share with those holding
-// its other ranks while that costs less than to look at each.
+// The right sets that may contain a left set: those holding one of its ranks, cut down to what they share with those holding its
+// other ranks while that costs less than to look at each.
 use crate::left::holders;
 use join_index::Layout;
 use word_lists::merge::intersect;
 use word_lists::words::word_at;
 ghost use Rattle.join_check.specs.Asking.{Some};
 ghost use Rattle.join_pairs.specs.Containing.{RankThere};
-ghost use Rattle.join_pairs.specs.Narrowing.{Listed, SpanThere, Met, NarrowThere, Narrowed};
+ghost use Rattle.join_pairs.specs.Shortlists.{Located, SpanThere, RankMet, FindThere, Shortlisted};
 
-// Above so many ranks a signature tells most right sets apart; below so many candidates it is not worth while to narrow them.
+// Above so many ranks a signature tells most right sets apart; below so many candidates it is not worth while to cut them down.
 const FEW_RANKS: usize = 3;
 
 const FEW_CANDIDATES: usize = 16;
@@ -19,8 +19,8 @@ pub struct Span {
     pub to: usize,
 }
 
-// Candidates, as places of right sets in a part of the work list, and the first rank that not all of them need hold.
-pub struct Candidates {
+// Candidates, as places of right sets in a part of the work list, and where the ranks begin that not all of them need hold.
+pub struct Shortlist {
     pub from: usize,
     pub to: usize,
     pub rest: usize,
@@ -29,7 +29,7 @@ pub struct Candidates {
 // Where the inverted list of a rank lies.
 fn list_of(work: &[u32], lay: Layout, r: usize) -> Span
     requires { ⌜ Some (λ q. RankThere lay q (now work) r) ⌝ }
-    ensures { λ s. ⌜ Listed lay (now (work .entry)) r s ⌝ }
+    ensures { λ s. ⌜ Located lay (now (work .entry)) r s ⌝ }
 {
     let offsets = lay.offsets;
     let index = lay.index;
@@ -38,7 +38,7 @@ fn list_of(work: &[u32], lay: Layout, r: usize) -> Span
     Span { from: from, to: to }
 }
 
-// Whether n candidates of a left set with so many ranks are better looked at than narrowed by the rank r.
+// Whether n candidates of a left set with so many ranks are better looked at than cut down by the rank r.
 fn stops(work: &[u32], lay: Layout, r: usize, pivot: usize, n: usize, ranks: usize) -> bool
     requires { ⌜ Some (λ q. RankThere lay q (now work) r) ⌝ }
 {
@@ -54,10 +54,10 @@ fn stops(work: &[u32], lay: Layout, r: usize, pivot: usize, n: usize, ranks: usi
     n < holders(work, lay, r) / 4
 }
 
-// Narrows candidates that all hold the pivot to those that hold the rank r, in the slot of r.
+// Cuts candidates that all hold the pivot down to those that hold the rank r, in the slot of r.
 fn meet(work: &mut [u32], lay: Layout, r: usize, pivot: usize, from: usize, to: usize) -> Span
     requires { ⌜ Some (λ q. SpanThere lay q (now work) r pivot from to) ⌝ }
-    ensures { λ s. ⌜ Met lay (now (work .entry)) r pivot from to (now (work .exit)) s ⌝ }
+    ensures { λ s. ⌜ RankMet lay (now (work .entry)) r pivot from to (now (work .exit)) s ⌝ }
 {
     if r == pivot {
         return Span { from: from, to: to };
@@ -71,9 +71,15 @@ fn meet(work: &mut [u32], lay: Layout, r: usize, pivot: usize, from: usize, to: 
 }
 
 // Candidates for the left set whose ranks stand from one place of the work list up to another, the pivot among them.
-pub fn narrow(work: &mut [u32], lay: Layout, from: usize, to: usize, pivot: usize) -> Candidates
-    requires { ⌜ Some (λ q. NarrowThere lay q (now work) from to pivot) ⌝ }
-    ensures { λ c. ⌜ Narrowed lay (now (work .entry)) from to pivot (now (work .exit)) c ⌝ }
+pub fn find_candidates(
+    work: &mut [u32],
+    lay: Layout,
+    from: usize,
+    to: usize,
+    pivot: usize,
+) -> Shortlist
+    requires { ⌜ Some (λ q. FindThere lay q (now work) from to pivot) ⌝ }
+    ensures { λ c. ⌜ Shortlisted lay (now (work .entry)) from to pivot (now (work .exit)) c ⌝ }
 {
     let first = list_of(work, lay, pivot);
     let mut a = first.from;
@@ -82,7 +88,7 @@ pub fn narrow(work: &mut [u32], lay: Layout, from: usize, to: usize, pivot: usiz
     while i < to {
         let r = word_at(work, i);
         if stops(work, lay, r, pivot, b - a, to - from) {
-            return Candidates {
+            return Shortlist {
                 from: a,
                 to: b,
                 rest: i,
@@ -93,7 +99,7 @@ pub fn narrow(work: &mut [u32], lay: Layout, from: usize, to: usize, pivot: usiz
         b = s.to;
         i += 1;
     }
-    Candidates {
+    Shortlist {
         from: a,
         to: b,
         rest: i,

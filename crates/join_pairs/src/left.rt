@@ -1,8 +1,8 @@
 // One left set as it is looked for among the right sets: the rank that fewest of them hold, and whether one of them contains it.
+use join_check::checks::Checked;
 use join_check::checks::Probe;
+use join_check::checks::check_probe;
 use join_index::Layout;
-use signatures::double_at;
-use word_lists::merge::subset_words;
 use word_lists::words::word_at;
 ghost use mathlib.Core.Path.{_≡_};
 ghost use mathlib.Core.Bool.{true};
@@ -41,7 +41,8 @@ pub fn pivot(work: &[u32], lay: Layout, from: usize, to: usize) -> usize
     rank
 }
 
-// Whether the right set s contains the left set of which p is what is left to be looked for: signatures first, then the ranks.
+// Whether the right set s contains the left set of which p is what is left to be looked for: it does where no rank is left, else it
+// is checked.
 pub fn is_contained(work: &[u32], lay: Layout, p: Probe, s: usize) -> bool
     requires { ⌜ Some (λ q. RightThere lay q (now work) s) ⌝ }
     requires { ⌜ Rising (p .from) (p .to) (now work) ⌝ }
@@ -50,16 +51,10 @@ pub fn is_contained(work: &[u32], lay: Layout, p: Probe, s: usize) -> bool
     if p.to <= p.from {
         return true;
     }
-    let starts = lay.right_starts;
-    let ranks = lay.right_ranks;
-    let signatures = lay.right_signatures;
-    let left = p.signature;
-    let right = double_at(work, signatures + 2 * s);
-    let common = left & right;
-    if common != left {
-        return false;
+    let end = check_probe(work, lay, p, s);
+    match end {
+        Checked::Dropped => false,
+        Checked::FalseDrop => false,
+        Checked::Confirmed => true,
     }
-    let from = ranks + word_at(work, starts + s);
-    let to = ranks + word_at(work, starts + s + 1);
-    subset_words(work, p.from, p.to, from, to)
 }

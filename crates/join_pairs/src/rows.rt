@@ -1,6 +1,6 @@
 // The pairs of one left set, written one after the other from a place of the pair list on; each function returns where they
 // end.
-use crate::candidates::narrow;
+use crate::candidates::find_candidates;
 use crate::left::is_contained;
 use crate::left::pivot;
 use join_check::checks::Probe;
@@ -88,7 +88,7 @@ pub fn write_left(
         return write_all(pairs, at, k, rights);
     }
     let r = pivot(work, lay, p.from, p.to);
-    let c = narrow(work, lay, p.from, p.to, r);
+    let c = find_candidates(work, lay, p.from, p.to, r);
     let rest = Probe {
         signature: p.signature,
         from: c.rest,

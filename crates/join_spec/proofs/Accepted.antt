@@ -1,53 +1,79 @@
 -- When a join is accepted: exactly where no cause of the refusal table is there, and then with the definitions' counts. And the
 -- budget: the walk is refused as spent exactly where the sum of checks is above it.
 use Prim.Native.Nat.{ℕ, _*_, _<_, _≤_}
-use mathlib.Core.Path.{_≡_, refl, ap}
+use mathlib.Core.Path.{_≡_, refl, sym, ap, _∙_}
+use mathlib.Core.List.{List}
 use mathlib.Core.Bool.{Bool, true, false, cond}
 use native.Mathlib.Omega.{arith}
 use lib.Dec.{ltb}
 use borrow.Author.Tests.{ltb-true, ltb-false, lt-ltb, le-ltb}
-use Rattle.sets.specs.Collections.{firstBad}
-use Rattle.sets.specs.Refusals.{noBadSet, unless}
-use Rattle.sets.specs.declared.Side.{Side}
-use Rattle.sets.specs.declared.Side.the-variants.{Left, Right}
-use Rattle.join_spec.specs.declared.Counts.{Counts}
+use Rattle.lists.proofs.Bools.{true-false}
+use Rattle.sets.specs.Refusals.{refuseIf, unless, clears}
 use Rattle.sets.specs.declared.Refusal.{Refusal}
-use Rattle.sets.specs.declared.Refusal.the-variants.{BadSettings, ShortWork, Spent, ShortPairs}
-use Rattle.sets.specs.declared.Verdict.{Verdict}
-use Rattle.sets.specs.declared.Verdict.the-variants.{Good, Bad}
+use Rattle.sets.specs.declared.Refusal.the-variants.{BadSettings, Spent, ShortPairs}
+use Rattle.sets.specs.declared.Tested.{Tested}
+use Rattle.sets.specs.declared.Tested.the-variants.{Passed, Failed}
+use Rattle.inputs.specs.Input.{Input, leftSets, rightSets}
+use Rattle.inputs.specs.Tests.{setsTest, wordsNeeded, workTest}
+use Rattle.inputs.proofs.TestLaws.{BothGood, both-passed, refuse-passed, sets-good, good-sets, work-enough, enough-work}
+use Rattle.inputs.proofs.TestLaws.{sets-keep, work-keep, failed-same}
+use Rattle.join_spec.specs.declared.Counts.{Counts}
 use Rattle.join_spec.specs.declared.JoinAnswer.{JoinAnswer}
 use Rattle.join_spec.specs.declared.JoinAnswer.the-variants.{Joined, Refused}
 use Rattle.join_spec.specs.PairList.{pairCount}
-use Rattle.join_spec.specs.Query.{Query}
+use Rattle.join_spec.specs.Query.{Settings, Query, queryOf}
 use Rattle.join_spec.specs.Counting.{countsOf, checksOf}
-use Rattle.join_spec.specs.Answer.{badSettings, workNeeded, walkAnswer, joinAnswer}
-use Rattle.join_spec.proofs.Inputs.{Collections, Settings, leftsOf, rightsOf, queryOf, answerOf}
-use Rattle.join_spec.proofs.Inputs.{GoodSettings, good-settings, settings-good}
+use Rattle.join_spec.specs.Answer.{Room, badSettings, joinTests, walkAnswer, joinAnswer}
+use Rattle.join_spec.proofs.GoodSettings.{GoodSettings, good-settings, settings-good}
 
--- an answer that is no refusal passed the test before it
+-- what holds where the tests before the walk are passed
+pub record Tests (i : Input) (limit : ℕ) (ranks : List ℕ) (words : ℕ) : Type 0 where
+  pub settings : GoodSettings (i .T) limit ranks
+  pub good : BothGood i
+  pub work : wordsNeeded i ≤ words
+
+pub tests-passed : (i : Input) (limit : ℕ) (ranks : List ℕ) (words : ℕ) → joinTests i limit ranks words ≡ Passed
+    → Tests i limit ranks words
+unfolding joinTests
+tests-passed i limit ranks words e =
+    let six = both-passed (refuseIf (badSettings (i .T) limit ranks) BadSettings) _ e in
+    let five = both-passed (setsTest i) (workTest i words) (six .1) in
+    record {
+      settings = good-settings (i .T) limit ranks (refuse-passed (badSettings (i .T) limit ranks) _ (six .0));
+      good = sets-good i (five .0);
+      work = work-enough i words (five .1);
+    }
+
+pub passed-tests : (i : Input) (limit : ℕ) (ranks : List ℕ) (words : ℕ) → Tests i limit ranks words
+    → joinTests i limit ranks words ≡ Passed
+unfolding joinTests
+passed-tests i limit ranks words t =
+    rw (settings-good (i .T) limit ranks (t .settings), good-sets i (t .good), enough-work i words (t .work))
+
+-- what the tests before the walk refuse leaves every list as it was
+pub early-keeps : (i : Input) (limit : ℕ) (ranks : List ℕ) (words : ℕ) {why : Refusal} → joinTests i limit ranks words ≡ Failed why
+    → clears why ≡ false
+unfolding joinTests
+early-keeps i limit ranks words {why} e =
+    go (badSettings (i .T) limit ranks) (setsTest i) (workTest i words) (sets-keep i) (work-keep i words) e
+  where
+    go : (bad : Bool) (sets work : Tested) → ((w : Refusal) → sets ≡ Failed w → clears w ≡ false)
+        → ((w : Refusal) → work ≡ Failed w → clears w ≡ false)
+        → unless Failed (refuseIf bad BadSettings) (unless Failed sets work) ≡ Failed why → clears why ≡ false
+    go true sets work keeps kept h = ap clears (sym (failed-same BadSettings why h))
+    go false Passed work keeps kept h = kept why h
+    go false (Failed w) work keeps kept h = keeps why h
+
+-- an answer that is no refusal passed its tests
+unrefused : (t : Tested) (answer : JoinAnswer) (counts : Counts) → unless Refused t answer ≡ Joined counts
+    → (t ≡ Passed) × (answer ≡ Joined counts)
+unrefused Passed answer counts e = (refl, e)
+unrefused (Failed why) answer counts e = let z : _≡_ {A = ℕ} 0 1 = cc in absurd (omega arith)
+
 passed : (b : Bool) (why : Refusal) (answer : JoinAnswer) (counts : Counts) → cond b (Refused why) answer ≡ Joined counts
     → (b ≡ false) × (answer ≡ Joined counts)
 passed true why answer counts e = let z : _≡_ {A = ℕ} 0 1 = cc in absurd (omega arith)
 passed false why answer counts e = (refl, e)
-
-unbad : (side : Side) (v : Verdict) (answer : JoinAnswer) (counts : Counts) → unless Refused (noBadSet side v) answer ≡ Joined counts
-    → (v ≡ Good) × (answer ≡ Joined counts)
-unbad side Good answer counts e = (refl, e)
-unbad side (Bad place) answer counts e = let z : _≡_ {A = ℕ} 0 1 = cc in absurd (omega arith)
-
--- and one that is refused as spent passed every test with another refusal
-not-yet : (b : Bool) (why : Refusal) (answer : JoinAnswer) → (why ≡ Spent → ⊥) → cond b (Refused why) answer ≡ Refused Spent
-    → answer ≡ Refused Spent
-not-yet true why answer other e = absurd (other (same-refusal why Spent e))
-  where
-    same-refusal : (a b : Refusal) → Refused a ≡ Refused b → a ≡ b
-    same-refusal a b e = cc
-not-yet false why answer other e = e
-
-not-bad-yet : (side : Side) (v : Verdict) (answer : JoinAnswer) → unless Refused (noBadSet side v) answer ≡ Refused Spent
-    → answer ≡ Refused Spent
-not-bad-yet side Good answer e = e
-not-bad-yet side (Bad place) answer e = let z : _≡_ {A = ℕ} 0 1 = cc in absurd (omega arith)
 
 joined-counts : (a b : Counts) → Joined a ≡ Joined b → b ≡ a
 joined-counts a b e = cc
@@ -59,97 +85,81 @@ is-spent false true counts e = let z : _≡_ {A = ℕ} 0 1 = cc in absurd (omega
 is-spent false false counts e = let z : _≡_ {A = ℕ} 0 1 = cc in absurd (omega arith)
 
 -- the walk's answer: 8 exactly where the sum of checks is above the budget
-module _ (q : Query) (budget room : ℕ) where
-  pub spent-above : budget < checksOf q → walkAnswer q budget room ≡ Refused Spent
+module _ (q : Query) (budget places : ℕ) where
+  pub spent-above : budget < checksOf q → walkAnswer q budget places ≡ Refused Spent
   unfolding walkAnswer
   spent-above h =
       ap (λ (over : Bool).
       cond over (Refused Spent)
-      (cond (ltb room (2 * pairCount (q .lefts) (q .rights))) (Refused ShortPairs) (Joined (countsOf q))))
+      (cond (ltb places (2 * pairCount (q .lefts) (q .rights))) (Refused ShortPairs) (Joined (countsOf q))))
       (lt-ltb budget (checksOf q) h)
 
-  pub above-spent : walkAnswer q budget room ≡ Refused Spent → budget < checksOf q
+  pub above-spent : walkAnswer q budget places ≡ Refused Spent → budget < checksOf q
   unfolding walkAnswer
   above-spent e =
       ltb-true budget (checksOf q)
-      (is-spent (ltb budget (checksOf q)) (ltb room (2 * pairCount (q .lefts) (q .rights))) (countsOf q) e)
+      (is-spent (ltb budget (checksOf q)) (ltb places (2 * pairCount (q .lefts) (q .rights))) (countsOf q) e)
 
   -- and within it the walk is accepted where the places suffice
-  pub within-joined : checksOf q ≤ budget → 2 * pairCount (q .lefts) (q .rights) ≤ room
-      → walkAnswer q budget room ≡ Joined (countsOf q)
+  pub within-joined : checksOf q ≤ budget → 2 * pairCount (q .lefts) (q .rights) ≤ places
+      → walkAnswer q budget places ≡ Joined (countsOf q)
   unfolding walkAnswer
-  within-joined few places =
-      rw (le-ltb budget (checksOf q) few, le-ltb room (2 * pairCount (q .lefts) (q .rights)) places)
+  within-joined few enough =
+      rw (le-ltb budget (checksOf q) few, le-ltb places (2 * pairCount (q .lefts) (q .rights)) enough)
 
 -- what holds where a join is accepted: no cause of the refusal table is there, and the counts are the definitions'
-pub record Accepted (c : Collections) (s : Settings) (counts : Counts) : Type 0 where
-  pub settings : GoodSettings (c .T) (s .limit) (s .ranks)
-  pub left-good : firstBad (c .T) (c .leftEnds) (c .leftItems) ≡ Good
-  pub right-good : firstBad (c .T) (c .rightEnds) (c .rightItems) ≡ Good
-  pub work : workNeeded (c .T) (c .leftEnds) (c .rightEnds) ≤ s .words
-  pub within : checksOf (queryOf c s) ≤ s .budget
-  pub places : 2 * pairCount (leftsOf c) (rightsOf c) ≤ s .room
-  pub counted : counts ≡ countsOf (queryOf c s)
+pub record Accepted (i : Input) (s : Settings) (room : Room) (counts : Counts) : Type 0 where
+  pub tests : Tests i (s .limit) (s .ranks) (room .words)
+  pub within : checksOf (queryOf i s) ≤ s .budget
+  pub places : 2 * pairCount (leftSets i) (rightSets i) ≤ room .places
+  pub counted : counts ≡ countsOf (queryOf i s)
 
-module _ (c : Collections) (s : Settings) where
-  pub accepted : (counts : Counts) → answerOf c s ≡ Joined counts → Accepted c s counts
+module _ (i : Input) (s : Settings) (room : Room) where
+  -- the answer after tests that are passed
+  pub answer-tested : Tests i (s .limit) (s .ranks) (room .words) → joinAnswer i s room ≡ walkAnswer (queryOf i s) (s .budget) (room .places)
+  unfolding joinAnswer
+  answer-tested t = rw (passed-tests i (s .limit) (s .ranks) (room .words) t)
+
+  -- and after one that fails
+  pub answer-refused : {why : Refusal} → joinTests i (s .limit) (s .ranks) (room .words) ≡ Failed why → joinAnswer i s room ≡ Refused why
+  unfolding joinAnswer
+  answer-refused e = rw e
+
+  pub accepted : (counts : Counts) → joinAnswer i s room ≡ Joined counts → Accepted i s room counts
   unfolding joinAnswer walkAnswer
   accepted counts e =
-      let six = passed (badSettings (c .T) (s .limit) (s .ranks)) BadSettings _ counts e in
-      let left-five = unbad Left (firstBad (c .T) (c .leftEnds) (c .leftItems)) _ counts (six .1) in
-      let right-five = unbad Right (firstBad (c .T) (c .rightEnds) (c .rightItems)) _ counts (left-five .1) in
-      let seven = passed (ltb (s .words) (workNeeded (c .T) (c .leftEnds) (c .rightEnds))) ShortWork _ counts (right-five .1) in
-      let eight = passed (ltb (s .budget) (checksOf (queryOf c s))) Spent _ counts (seven .1) in
-      let nine = passed (ltb (s .room) (2 * pairCount (leftsOf c) (rightsOf c))) ShortPairs _ counts (eight .1) in
+      let early = unrefused (joinTests i (s .limit) (s .ranks) (room .words)) _ counts e in
+      let eight = passed (ltb (s .budget) (checksOf (queryOf i s))) Spent _ counts (early .1) in
+      let nine = passed (ltb (room .places) (2 * pairCount (leftSets i) (rightSets i))) ShortPairs _ counts (eight .1) in
       record {
-        settings = good-settings (c .T) (s .limit) (s .ranks) (six .0);
-        left-good = left-five .0;
-        right-good = right-five .0;
-        work = ltb-false (s .words) (workNeeded (c .T) (c .leftEnds) (c .rightEnds)) (seven .0);
-        within = ltb-false (s .budget) (checksOf (queryOf c s)) (eight .0);
-        places = ltb-false (s .room) (2 * pairCount (leftsOf c) (rightsOf c)) (nine .0);
-        counted = joined-counts (countsOf (queryOf c s)) counts (nine .1);
+        tests = tests-passed i (s .limit) (s .ranks) (room .words) (early .0);
+        within = ltb-false (s .budget) (checksOf (queryOf i s)) (eight .0);
+        places = ltb-false (room .places) (2 * pairCount (leftSets i) (rightSets i)) (nine .0);
+        counted = joined-counts (countsOf (queryOf i s)) counts (nine .1);
       }
 
   -- and where all of it holds, the join is accepted
-  pub joined : (counts : Counts) → Accepted c s counts → answerOf c s ≡ Joined counts
-  unfolding joinAnswer
+  pub joined : (counts : Counts) → Accepted i s room counts → joinAnswer i s room ≡ Joined counts
   joined counts a =
-      rw (
-        settings-good (c .T) (s .limit) (s .ranks) (a .settings),
-        a .left-good,
-        a .right-good,
-        le-ltb (s .words) (workNeeded (c .T) (c .leftEnds) (c .rightEnds)) (a .work),
-        a .counted,
-      )
-      (within-joined (queryOf c s) (s .budget) (s .room) (a .within) (a .places))
+      answer-tested (a .tests)
+      ∙ within-joined (queryOf i s) (s .budget) (room .places) (a .within) (a .places)
+      ∙ ap Joined (sym (a .counted))
 
   -- 8 is returned only where the sum of checks is above the budget
-  pub spent-only-above : answerOf c s ≡ Refused Spent → s .budget < checksOf (queryOf c s)
+  pub spent-only-above : joinAnswer i s room ≡ Refused Spent → s .budget < checksOf (queryOf i s)
   unfolding joinAnswer
-  spent-only-above e =
-      let six =
-      not-yet (badSettings (c .T) (s .limit) (s .ranks)) BadSettings _ (λ q. let z : _≡_ {A = ℕ} 0 1 = cc in omega arith) e
-      in
-      let left-five = not-bad-yet Left (firstBad (c .T) (c .leftEnds) (c .leftItems)) _ six in
-      let right-five = not-bad-yet Right (firstBad (c .T) (c .rightEnds) (c .rightItems)) _ left-five in
-      let seven =
-      not-yet (ltb (s .words) (workNeeded (c .T) (c .leftEnds) (c .rightEnds))) ShortWork _
-      (λ q. let z : _≡_ {A = ℕ} 0 1 = cc in omega arith) right-five
-      in
-      above-spent (queryOf c s) (s .budget) (s .room) seven
+  spent-only-above e = go (joinTests i (s .limit) (s .ranks) (room .words)) refl e
+    where
+      go : (t : Tested) → joinTests i (s .limit) (s .ranks) (room .words) ≡ t
+          → unless Refused t (walkAnswer (queryOf i s) (s .budget) (room .places)) ≡ Refused Spent
+          → s .budget < checksOf (queryOf i s)
+      go Passed is h = above-spent (queryOf i s) (s .budget) (room .places) h
+      go (Failed why) is h = absurd (true-false refl (early-keeps i (s .limit) (s .ranks) (room .words) (is ∙ ap Failed (same-refusal why Spent h))))
+        where
+          same-refusal : (a b : Refusal) → Refused a ≡ Refused b → a ≡ b
+          same-refusal a b e = cc
 
   -- and wherever that is so and nothing before it is at fault
-  pub spent-wherever-above : GoodSettings (c .T) (s .limit) (s .ranks)
-      → firstBad (c .T) (c .leftEnds) (c .leftItems) ≡ Good → firstBad (c .T) (c .rightEnds) (c .rightItems) ≡ Good
-      → workNeeded (c .T) (c .leftEnds) (c .rightEnds) ≤ s .words
-      → s .budget < checksOf (queryOf c s) → answerOf c s ≡ Refused Spent
-  unfolding joinAnswer
-  spent-wherever-above settings leftGood rightGood work above =
-      rw (
-        settings-good (c .T) (s .limit) (s .ranks) settings,
-        leftGood,
-        rightGood,
-        le-ltb (s .words) (workNeeded (c .T) (c .leftEnds) (c .rightEnds)) work,
-      )
-      (spent-above (queryOf c s) (s .budget) (s .room) above)
+  pub spent-wherever-above : Tests i (s .limit) (s .ranks) (room .words) → s .budget < checksOf (queryOf i s) → joinAnswer i s room ≡ Refused Spent
+  spent-wherever-above tests above =
+      answer-tested tests ∙ spent-above (queryOf i s) (s .budget) (room .places) above

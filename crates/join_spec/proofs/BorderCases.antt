@@ -3,21 +3,24 @@
 -- row of the refusal table comes first. Every row states number, detail and six counts.
 use Prim.Native.Nat.{ℕ, _+_, _*_, _^_}
 use mathlib.Core.List.{List, [], _∷_, _++_}
-use mathlib.Core.Bool.{Bool, true, false, _&&_}
+use mathlib.Core.Bool.{Bool, true, false}
 use lib.Dec.{T}
 use lib.Ieee.{Float, nan, inf, fin, lt, add, mul, ofInt}
 use lib.IntN.{pos, negsuc}
 use lib.ListN.{length}
 use Rattle.lists.specs.Lists.{all, any, count, sum, keep, memb, range, upto, rising, risingAfter, distinct, prefix}
-use Rattle.sets.specs.Collections.{setsFrom, firstBadFrom, badSet, lastEnd}
+use Rattle.inputs.specs.Input.{inputOf}
+use Rattle.inputs.specs.Tests.{setsTest, wordsNeeded, workTest}
+use Rattle.sets.specs.Collections.{setsFrom, contained, firstBadFrom, badSet, lastEnd}
 use Rattle.sets.specs.Ordered.{ordered, isPermutation}
 use Rattle.sets.specs.Signatures.{position, signatureFrom}
 use Rattle.join_spec.specs.declared.Rule.{Rule}
 use Rattle.join_spec.specs.declared.Rule.the-variants.{Merge, Check, Weighed}
+use Rattle.join_spec.specs.Query.{settingsOf}
 use Rattle.join_spec.specs.Node.{seen, goesOn, goesOnAt}
 use Rattle.join_spec.specs.Walk.{ending, endingFrom, isCandidate, endingIn, outcome}
 use Rattle.join_spec.specs.Counting.{total}
-use Rattle.join_spec.specs.Answer.{joinAnswer, joinWords, walkAnswer, badSettings}
+use Rattle.join_spec.specs.Answer.{joinAnswer, joinWords, joinTests, walkAnswer, badSettings}
 use Rattle.join_spec.proofs.Examples.{same, greatest, accepted, noCounts}
 
 -- one case: sets by place, settings, lengths of work list and pair list; then number with detail, and the six counts
@@ -49,8 +52,8 @@ right e =
     let leftEnds = endsFrom 0 (e .lefts) in
     let rightEnds = endsFrom 0 (e .rights) in
     let answer =
-    joinAnswer (e .items) leftEnds (itemsOf (e .lefts)) rightEnds (itemsOf (e .rights)) (e .limit) (e .ranks) (e .budget)
-    (e .rule) (e .words) (e .room) in
+    joinAnswer (inputOf (e .items) leftEnds (itemsOf (e .lefts)) rightEnds (itemsOf (e .rights)))
+    (settingsOf (e .limit) (e .ranks) (e .budget) (e .rule)) (record { words = e .words; places = e .room }) in
     same (joinWords answer) (e .refusal ++ e .counts)
 
 -- sets of a case
@@ -175,8 +178,8 @@ borderCases =
 
 -- the definitions give every case
 border-cases-right : T (all right borderCases)
-unfolding all any count sum keep memb range rising risingAfter distinct prefix setsFrom firstBadFrom badSet lastEnd ordered
+unfolding all any count sum keep memb range rising risingAfter distinct prefix setsFrom contained firstBadFrom badSet lastEnd ordered
     isPermutation position signatureFrom seen goesOn goesOnAt ending endingFrom isCandidate endingIn outcome total
-    joinAnswer walkAnswer badSettings lt add mul ofInt right borderCases endsFrom itemsOf one two whole weighed meets shelf
+    joinAnswer joinTests setsTest wordsNeeded workTest walkAnswer badSettings lt add mul ofInt right borderCases endsFrom itemsOf one two whole weighed meets shelf
     shelfWeighed refuses same greatest accepted noCounts
 border-cases-right = tt

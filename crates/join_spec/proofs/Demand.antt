@@ -90,16 +90,7 @@ total-bound is q =
     (q .lefts)
     (λ left. count-bound (λ (right : List ℕ). is (outcome q left right)) (q .rights))
 
-pub pairCount-bound : (lefts rights : List (List ℕ)) → pairCount lefts rights ≤ length lefts * length rights
-pairCount-bound lefts rights =
-    sum-bound (λ (left : List ℕ). count (contained left) rights) (length rights) lefts
-    (λ left. count-bound (contained left) rights)
-
 -- so with at most 4,096 sets a side every count is at most 2^24, within 32 bits
 pub total-small : (is : Outcome → Bool) (q : Query) → length (q .lefts) ≤ maxSets → length (q .rights) ≤ maxSets
     → total is q ≤ 2 ^ 24
 total-small is q few-lefts few-rights = le-trans (total-bound is q) (mul-le-mul few-lefts few-rights)
-
-pub pairCount-small : (lefts rights : List (List ℕ)) → length lefts ≤ maxSets → length rights ≤ maxSets
-    → pairCount lefts rights ≤ 2 ^ 24
-pairCount-small lefts rights few-lefts few-rights = le-trans (pairCount-bound lefts rights) (mul-le-mul few-lefts few-rights)

@@ -9,16 +9,19 @@ use lib.Ieee.{fin, lt, add, mul, ofInt}
 use lib.IntN.{pos, negsuc}
 use lib.ListN.{length, replicate}
 use Rattle.lists.specs.Lists.{all, any, count, sum, keep, memb, range, upto, rising, risingAfter, distinct, prefix}
-use Rattle.sets.specs.Collections.{setsOf, setsFrom, firstBadFrom, badSet, lastEnd}
+use Rattle.inputs.specs.Input.{inputOf}
+use Rattle.inputs.specs.Tests.{setsTest, wordsNeeded, workTest}
+use Rattle.sets.specs.Collections.{setsOf, setsFrom, contained, firstBadFrom, badSet, lastEnd}
 use Rattle.sets.specs.Ordered.{ordered, isPermutation}
 use Rattle.sets.specs.Signatures.{position, signatureFrom}
 use Rattle.join_spec.specs.declared.Rule.{Rule}
 use Rattle.join_spec.specs.declared.Rule.the-variants.{Merge, Check, Weighed}
 use Rattle.join_spec.specs.PairList.{pairList, pairsFrom, rowFrom}
+use Rattle.join_spec.specs.Query.{settingsOf}
 use Rattle.join_spec.specs.Node.{seen, goesOn, goesOnAt}
 use Rattle.join_spec.specs.Walk.{ending, endingFrom, isCandidate, endingIn, outcome}
 use Rattle.join_spec.specs.Counting.{total}
-use Rattle.join_spec.specs.Answer.{joinAnswer, joinWords, walkAnswer, badSettings, workNeeded, pairsAfter}
+use Rattle.join_spec.specs.Answer.{joinAnswer, joinWords, joinTests, walkAnswer, badSettings, pairsAfter}
 
 -- one example: its input, the pair list before, and what is right: number with detail, six counts, pair list after
 record Example : Type 0 where
@@ -44,9 +47,10 @@ same (x ∷ xs) (y ∷ ys) = eqb x y && same xs ys
 -- whether the definitions give what the example says, with ranks equal to items and just the work list needed
 right : Example → Bool
 right e =
+    let input = inputOf (e .items) (e .leftEnds) (e .leftItems) (e .rightEnds) (e .rightItems) in
     let answer =
-    joinAnswer (e .items) (e .leftEnds) (e .leftItems) (e .rightEnds) (e .rightItems) (e .limit) (upto (e .items)) (e .budget)
-    (e .rule) (workNeeded (e .items) (e .leftEnds) (e .rightEnds)) (length (e .before)) in
+    joinAnswer input (settingsOf (e .limit) (upto (e .items)) (e .budget) (e .rule))
+    (record { words = wordsNeeded input; places = length (e .before) }) in
     let pairs = pairList (setsOf (e .leftEnds) (e .leftItems)) (setsOf (e .rightEnds) (e .rightItems)) in
     same (joinWords answer) (e .refusal ++ e .counts) && same (pairsAfter answer pairs (e .before)) (e .after)
 
@@ -137,8 +141,8 @@ examples =
 
 -- the definitions give every example
 examples-right : T (all right examples)
-unfolding all any count sum keep memb range rising risingAfter distinct prefix setsFrom firstBadFrom badSet lastEnd ordered
+unfolding all any count sum keep memb range rising risingAfter distinct prefix setsFrom contained firstBadFrom badSet lastEnd ordered
     isPermutation position signatureFrom pairsFrom rowFrom seen goesOn goesOnAt ending endingFrom isCandidate endingIn
-    outcome total joinAnswer walkAnswer badSettings lt add mul ofInt right examples shelf shelfAccepted other same
+    outcome total joinAnswer joinTests setsTest wordsNeeded workTest walkAnswer badSettings lt add mul ofInt right examples shelf shelfAccepted other same
     greatest ten shelfPairs accepted noCounts weighed
 examples-right = tt

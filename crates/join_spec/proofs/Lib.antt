@@ -3,8 +3,10 @@
 pub mod Examples
 pub mod BorderCases
 pub mod Outcomes
+pub mod KindLaws
 pub mod Demand
 pub mod PairListLaws
-pub mod Inputs
+pub mod GoodSettings
 pub mod Accepted
 pub mod AcceptedRuns
+pub mod Calls

@@ -16,7 +16,8 @@ use Rattle.lists.proofs.Rising.{rising-least}
 use Rattle.sets.specs.Collections.{contained}
 use Rattle.sets.specs.Ordered.{isPermutation}
 use Rattle.sets.specs.Signatures.{signature, drops}
-use Rattle.sets.proofs.Ordered.{below, ordered-rising, subset-ordered}
+use Rattle.sets.proofs.Ordered.{below, ordered-rising}
+use Rattle.sets.proofs.Containment.{contained-ranks}
 use Rattle.sets.proofs.Signatures.{contained-not-dropped}
 use Rattle.join_spec.specs.Query.{Query, inOrder}
 use Rattle.join_spec.specs.Node.{seen}
@@ -92,4 +93,4 @@ unfolding outcome
 contained-met q left right permutation leftBelow rightBelow =
     met-after (endingIn q left) (inOrder q left) (inOrder q right) left right
     (ordered-rising (q .T) (q .ranks) right)
-    (subset-ordered (q .T) (q .ranks) permutation left right leftBelow rightBelow)
+    (contained-ranks (q .T) (q .ranks) permutation left right leftBelow rightBelow)

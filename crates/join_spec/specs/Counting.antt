@@ -1,9 +1,8 @@
 -- The six counts of a join, each a sum over left and right sets.
 use Prim.Native.Nat.{ℕ}
 use mathlib.Core.Bool.{Bool, true, false, _||_}
-use Rattle.lists.specs.Lists.{sum, count}
 use Rattle.join_spec.specs.declared.Counts.{Counts}
-use Rattle.join_spec.specs.PairList.{pairCount}
+use Rattle.join_spec.specs.PairList.{countPairs, pairCount}
 use Rattle.join_spec.specs.Query.{Query}
 use Rattle.join_spec.specs.Walk.{Outcome, notMet, byPath, dropped, falseDrop, confirmed, outcome}
 
@@ -42,7 +41,7 @@ isCheck o = isDropped o || (isFalse o || isConfirmed o)
 
 -- how many pairs of a left and a right set have such an outcome
 unfoldable pub total : (Outcome → Bool) → Query → ℕ
-total is q = sum (λ left. count (λ right. is (outcome q left right)) (q .rights)) (q .lefts)
+total is q = countPairs (λ left right. is (outcome q left right)) (q .lefts) (q .rights)
 
 -- the sum of checks over the whole walk
 abbrev pub checksOf : Query → ℕ

@@ -4,4 +4,5 @@ pub mod Query
 pub mod Node
 pub mod Walk
 pub mod Counting
+pub mod Kinds
 pub mod Answer

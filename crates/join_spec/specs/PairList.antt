@@ -1,5 +1,6 @@
 -- The result of a join in plain words: every pair of a left set's place and a right set's place where the left set is contained
--- in the right one, by left place and then right place. No setting occurs here.
+-- in the right one, by left place and then right place. No setting occurs here. The lists and sums of pairs are over elements of
+-- any kind and any test of two of them, so that a set may come to carry more than its items.
 use Prim.Native.Nat.{ℕ, suc}
 use mathlib.Core.List.{List, [], _∷_, _++_}
 use mathlib.Core.Bool.{Bool, true, false}
@@ -11,20 +12,24 @@ abbrev pub ontoPair : Bool → ℕ → ℕ → List ℕ → List ℕ
 ontoPair true l r pairs = l ∷ r ∷ pairs
 ontoPair false l r pairs = pairs
 
--- the pairs of the left set at place l with the right sets from place r on
-unfoldable pub rowFrom : ℕ → ℕ → List ℕ → List (List ℕ) → List ℕ
-rowFrom l r left [] = []
-rowFrom l r left (right ∷ rights) = ontoPair (contained left right) l r (rowFrom l (suc r) left rights)
+-- the pairs of left place l with the right elements from place r on that pass the test
+unfoldable pub rowFrom : {B : Type 0} → (B → Bool) → ℕ → ℕ → List B → List ℕ
+rowFrom test l r [] = []
+rowFrom test l r (right ∷ rights) = ontoPair (test right) l r (rowFrom test l (suc r) rights)
 
--- the pairs of the left sets from place l on
-unfoldable pub pairsFrom : ℕ → List (List ℕ) → List (List ℕ) → List ℕ
-pairsFrom l [] rights = []
-pairsFrom l (left ∷ lefts) rights = rowFrom l 0 left rights ++ pairsFrom (suc l) lefts rights
+-- the pairs of the left elements from place l on
+unfoldable pub pairsFrom : {A B : Type 0} → (A → B → Bool) → ℕ → List A → List B → List ℕ
+pairsFrom test l [] rights = []
+pairsFrom test l (left ∷ lefts) rights = rowFrom (test left) l 0 rights ++ pairsFrom test (suc l) lefts rights
+
+-- how many pairs of elements pass the test
+abbrev pub countPairs : {A B : Type 0} → (A → B → Bool) → List A → List B → ℕ
+countPairs test lefts rights = sum (λ left. count (test left) rights) lefts
 
 -- the pair list, two numbers a pair
 abbrev pub pairList : List (List ℕ) → List (List ℕ) → List ℕ
-pairList lefts rights = pairsFrom 0 lefts rights
+pairList lefts rights = pairsFrom contained 0 lefts rights
 
 -- the number of contained pairs
 abbrev pub pairCount : List (List ℕ) → List (List ℕ) → ℕ
-pairCount lefts rights = sum (λ left. count (contained left) rights) lefts
+pairCount lefts rights = countPairs contained lefts rights

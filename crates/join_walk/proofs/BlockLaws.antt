@@ -17,17 +17,18 @@ use Rattle.lists.proofs.Summing.{sum-same-where}
 use Rattle.lists.proofs.Ranges.{all-upto}
 use Rattle.join_spec.specs.Query.{Query}
 use Rattle.join_spec.specs.Node.{seen}
-use Rattle.join_spec.specs.Walk.{Outcome, byPath, isCandidate}
+use Rattle.join_spec.specs.Walk.{Outcome, isCandidate}
 use Rattle.join_index.specs.Grouping.{leftAt, rightAt, keyAt}
 use Rattle.join_index.specs.Ground.{Listing}
 use Rattle.join_index.specs.declared.Layout.{Layout}
 use Rattle.join_check.specs.Asking.{Index}
 use Rattle.join_check.specs.Runs.{run}
 use Rattle.join_check.specs.Checks.{rowCount, runCount, holdFirst, RunsThere}
-use Rattle.join_walk.specs.Rows.{goes, row}
+use Rattle.join_walk.specs.Rows.{goes, row, pathPairs}
 use Rattle.join_walk.proofs.Prefixes.{prefix-take, prefix-length}
 use Rattle.join_walk.proofs.Narrowing.{candidate-path, listing-same}
 use Rattle.join_walk.proofs.RowLaws.{Met, row-stops, row-limit, row-merges}
+use Rattle.join_walk.proofs.PathLaws.{paths-many}
 
 -- every left set of a list begins with the path
 abbrev pub Begin : Query → List ℕ → List ℕ → Type 0
@@ -153,13 +154,14 @@ module _ (q : Query) (p : ℕ) (ps : List ℕ) where
     pub rows-merge : (lefts list : List ℕ) → Begin q (p ∷ ps) lefts → goes q (p ∷ ps) ≡ true
         → all (λ k. eqb (keyAt q (length (p ∷ ps)) k) 0) lefts ≡ true
         → Listing (length (q .rights)) (λ s. isCandidate (length (p ∷ ps)) (p ∷ ps) (rightAt q s)) list
-        → sum (row is q (length (p ∷ ps))) lefts ≡ sum (λ k. count (λ s. is byPath) list) lefts
+        → sum (row is q (length (p ∷ ps))) lefts ≡ pathPairs (length lefts) (length list) is
     rows-merge lefts list begins on ended listing =
         sum-same-where (λ k. prefix (p ∷ ps) (leftAt q k) && eqb (keyAt q (length (p ∷ ps)) k) 0)
-        (row is q (length (p ∷ ps))) (λ k. count (λ s. is byPath) list) lefts (all-and _ _ lefts begins ended)
+        (row is q (length (p ∷ ps))) (λ k. pathPairs 1 (length list) is) lefts (all-and _ _ lefts begins ended)
         (λ k both.
         let begin = and-left (prefix (p ∷ ps) (leftAt q k)) (eqb (keyAt q (length (p ∷ ps)) k) 0) both in
         let none = and-right (prefix (p ∷ ps) (leftAt q k)) (eqb (keyAt q (length (p ∷ ps)) k) 0) both in
         row-merges q (length (p ∷ ps)) k is met list (left-goes k true begin on)
         (key-ended q (length (p ∷ ps)) k none (prefix-length (p ∷ ps) (leftAt q k) begin))
         (listing-left (length (p ∷ ps)) k list begin (omega arith) listing))
+        ∙ paths-many is (length list) lefts

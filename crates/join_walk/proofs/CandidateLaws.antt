@@ -14,7 +14,7 @@ use Rattle.join_spec.specs.Query.{Query}
 use Rattle.join_spec.specs.Node.{lastOf}
 use Rattle.join_spec.specs.Walk.{isCandidate}
 use Rattle.join_index.specs.Grouping.{rightAt}
-use Rattle.counting_sort.specs.Holding.{Holds}
+use Rattle.counting_sort.specs.Holding.{RegionHolds}
 use Rattle.join_index.specs.Ground.{invertedList, offsetOf}
 use Rattle.join_index.specs.declared.Layout.{Layout}
 use Rattle.word_lists.specs.Words.{Word}
@@ -43,7 +43,7 @@ module _ {lay : Layout} {q : Query} {path w : List ℕ} {d lo hi : ℕ} (cands :
   -- with the two words that bound the inverted list of the last rank
   module _ {first last : ℕ} (at-first : first ≡ offsetOf lay w (lastOf path))
       (at-last : last ≡ offsetOf lay w (suc (lastOf path))) where
-    pub inverted-holds : Holds w (lay .slots) (lay .index + first) (lay .index + last) (invertedList q (lastOf path))
+    pub inverted-holds : RegionHolds w (lay .slots) (lay .index + first) (lay .index + last) (invertedList q (lastOf path))
     inverted-holds = rw (at-first, at-last) (cands .index .ground .inverted (lastOf path) (cands .last))
 
     pub narrowed-first : d ≡ 1 → Narrowed lay q path d w w (record { «from» = lay .index + first; to = lay .index + last })
@@ -108,8 +108,8 @@ module _ {lay : Layout} {q : Query} {path w : List ℕ} {d lo hi : ℕ} (cands :
     pub slot-apart : Apart hi (lay .index + first) (lay .index + last) (lay .slots + first) w
     slot-apart =
         record {
-          left = omega (arith, cands .below, at-first);
-          right = omega (arith, inverted-holds .within);
+          first = omega (arith, cands .below, at-first);
+          second = omega (arith, inverted-holds .within);
           room = omega (arith, slot-room, inverted-holds .rise);
         }
 
@@ -140,5 +140,5 @@ module _ {lay : Layout} {q : Query} {path w : List ℕ} {d lo hi : ℕ} (cands :
   -- the inverted list, its two bounds read
   pub inverted-read : {rank first last : ℕ} → rank ≡ lastOf path → Word w (lay .offsets + rank) first
       → Word w (lay .offsets + rank + 1) last
-      → Holds w (lay .slots) (lay .index + first) (lay .index + last) (invertedList q (lastOf path))
+      → RegionHolds w (lay .slots) (lay .index + first) (lay .index + last) (invertedList q (lastOf path))
   inverted-read is at-first at-last = inverted-holds (first-word at-first is) (last-word at-last is)

@@ -8,27 +8,30 @@ use native.Mathlib.Nat.{one-mul, mul-le-mul-right}
 use borrow.Author.Tests.{eq-eqb, lt-ltb, ne-eqb}
 use lib.Dec.{eqb, ltb}
 use lib.ListN.{length}
-use Rattle.lists.specs.Lists.{all, count, prefix, sum, upto, slice}
+use Rattle.lists.specs.Lists.{all, prefix, sum, upto, slice}
 use Rattle.lists.proofs.Bools.{and-both, true-false}
 use Rattle.lists.proofs.Throughout.{all-front, all-back}
 use Rattle.lists.proofs.Counting.{count-bound}
 use Rattle.lists.proofs.Filtering.{length-keep}
 use Rattle.lists.proofs.Ranges.{length-range}
 use Rattle.lists.proofs.Slices.{length-slice}
+use Rattle.sets.specs.Limits.{maxPairs}
 use Rattle.join_spec.specs.Query.{Query}
-use Rattle.join_spec.specs.Walk.{byPath, isCandidate}
+use Rattle.join_spec.specs.Walk.{isCandidate}
+use Rattle.join_spec.specs.Counting.{isByPath}
 use Rattle.join_index.specs.Grouping.{leftAt, rightAt, keyAt}
 use Rattle.join_index.specs.Ground.{Listing}
 use Rattle.join_index.specs.declared.Layout.{Layout}
 use Rattle.join_check.specs.Asking.{RunThere, LeftThere}
 use Rattle.join_check.specs.Runs.{run, leftIn}
 use Rattle.word_lists.specs.Words.{Word}
-use Rattle.join_check.specs.Checks.{checksIn, RunsThere, runCount}
+use Rattle.join_check.specs.Checks.{RunsThere, runCount}
+use Rattle.join_check.specs.Counters.{checksIn}
 use Rattle.join_check.specs.declared.Tally.{Tally}
 use Rattle.join_check.proofs.Orders.{order-within, run-next, run-none, run-key}
-use Rattle.join_walk.specs.Rows.{row}
+use Rattle.join_walk.specs.Rows.{row, pathPairs}
 use Rattle.join_walk.specs.Narrowing.{candidateList}
-use Rattle.join_walk.specs.Visiting.{Added, Visited, Merged}
+use Rattle.join_walk.specs.Visiting.{Added, Merged, Visited}
 use Rattle.join_walk.specs.Blocks.{Small, Blocked, AtLimit}
 use Rattle.join_walk.specs.declared.visit.Settings.{Settings}
 use Rattle.join_walk.specs.declared.visit.Walked.{Walked}
@@ -37,6 +40,7 @@ use Rattle.join_walk.proofs.RunLaws.{run-length, run-split}
 use Rattle.join_walk.proofs.VisitLaws.{underway-next}
 use Rattle.join_walk.proofs.FrameLaws.{framed-none}
 use Rattle.join_walk.proofs.PartLoop.{PartDone}
+use Rattle.join_walk.proofs.PathLaws.{paths-all, merged-checks}
 use Rattle.join_walk.proofs.BlockLaws.{runs-there, rows-limit, rows-merge, key-longer}
 use Rattle.join_walk.proofs.BlockVisits.{block-visited, merged-added}
 
@@ -139,32 +143,35 @@ module _ {lay : Layout} {st : Settings} {q : Query} {w : List ℕ} {d i from to 
       run-next lay w i (i + 1) (omega arith) (omega (arith, order-within lay q w (at .index), at .few))
       ∙ ap (λ (l : List ℕ). leftIn lay w i ∷ l) (run-none lay w (i + 1) (i + 1) (omega arith))
 
-  pub one-room : {path : List ℕ} → AtLimit lay st q path w d i (i + 1) from to t → t .«by_path» + 1 * (to - from) ≤ 16777216
+  pub one-room : {path : List ℕ} → AtLimit lay st q path w d i (i + 1) from to t
+      → t .«by_path» + pathPairs 1 (to - from) isByPath ≤ maxPairs
+  unfolding sum
   one-room at =
       let one : (i + 1 - i) * length (q .rights) ≡ length (q .rights) =
       ap (λ (n : ℕ). n * length (q .rights)) (omega arith) ∙ one-mul (length (q .rights)) in
-      omega (arith, at .underway .bounded, part-few at, one)
+      omega (arith, at .underway .bounded, part-few at, one, paths-all 1 (to - from), one-mul (to - from))
 
   pub one-merged : (path : List ℕ) → AtLimit lay st q path w d i (i + 1) from to t → keyAt q d (leftIn lay w i) ≡ 0 → {r : Tally}
-      → Merged (1 * (to - from)) t r → Visited q (st .budget) d (run lay w i (i + 1)) t (record { tally = r; spent = false })
+      → Merged 1 (to - from) t r
+      → Visited q (st .budget) d (run lay w i (i + 1)) t (record { tally = r; spent = false })
   one-merged [] at ends merged = absurd (omega (arith, at .depth, at .deep))
   one-merged (p ∷ ps) at ends {r} merged =
       let lefts = run lay w i (i + 1) in
       let add : Added q d lefts t r =
-      merged-added lefts (slice from to w)
-      (ap₂ (λ (a b : ℕ). a * b) (sym (ap length (one-left at))) (sym (part-length at)))
+      merged-added lefts
       (λ is met.
-      subst (λ (n : ℕ). sum (row is q n) lefts ≡ sum (λ k. count (λ s. is byPath) (slice from to w)) lefts) (at .depth)
+      subst (λ (n : ℕ). sum (row is q n) lefts ≡ pathPairs (length lefts) (length (slice from to w)) is) (at .depth)
       (rows-merge q p ps is met lefts (slice from to w) (at .begins) (at .on)
       (all-one (λ k. eqb (keyAt q (length (p ∷ ps)) k) 0) (leftIn lay w i) lefts (one-left at)
       (subst (λ (n : ℕ). eqb (keyAt q n (leftIn lay w i)) 0 ≡ true) (sym (at .depth))
       (eq-eqb (keyAt q d (leftIn lay w i)) 0 ends)))
       (subst (λ (n : ℕ). Listing (length (q .rights)) (λ s. isCandidate n (p ∷ ps) (rightAt q s)) (slice from to w))
-      (sym (at .depth)) (limit-listing at))))
+      (sym (at .depth)) (limit-listing at)))
+      ∙ ap₂ (λ (m c : ℕ). pathPairs m c is) (ap length (one-left at)) (part-length at))
       merged in
       record {
         added = λ calm. add;
-        within = λ calm. omega (arith, merged .confirmed, merged .dropped, merged .falseDrops, at .underway .budget);
+        within = λ calm. omega (arith, merged-checks merged, at .underway .budget);
         beyond = λ spent. true-false spent refl;
       }
 

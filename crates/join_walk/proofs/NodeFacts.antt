@@ -19,7 +19,7 @@ use Rattle.join_spec.specs.Query.{Query, inOrder}
 use Rattle.join_spec.specs.Node.{seen, firstOf, lastOf, candidates, beginning, goesOn, goesOnAt}
 use Rattle.join_spec.specs.Walk.{isCandidate}
 use Rattle.join_index.specs.Grouping.{leftAt, rightAt, keyAt}
-use Rattle.counting_sort.specs.Holding.{Holds}
+use Rattle.counting_sort.specs.Holding.{RegionHolds}
 use Rattle.join_index.specs.Ground.{invertedList}
 use Rattle.join_index.specs.declared.Layout.{Layout}
 use Rattle.join_check.specs.Asking.{Index, LeftThere, PlacesThere}
@@ -163,7 +163,7 @@ check-stops q path e = rw e
 
 -- an inverted list is a list of right places
 pub inverted-there : {lay : Layout} {q : Query} {w : List ℕ} (r first last : ℕ) → Index lay q w → r < q .T
-    → Holds w (lay .slots) (lay .index + first) (lay .index + last) (invertedList q r)
+    → RegionHolds w (lay .slots) (lay .index + first) (lay .index + last) (invertedList q r)
     → PlacesThere lay q w (lay .index + first) (lay .index + last)
 inverted-there {lay} {q} {w} r first last index below holds =
     record {
@@ -177,7 +177,7 @@ inverted-there {lay} {q} {w} r first last index below holds =
 -- t, as it is counted in the last rank's inverted list
 module _ {lay : Layout} {q : Query} {path w : List ℕ} {d lo hi from to t : ℕ} (root first last : ℕ)
     (node : NodeAt lay q path w d lo hi from to)
-    (holds : Holds w (lay .slots) (lay .index + first) (lay .index + last) (invertedList q (lastOf path)))
+    (holds : RegionHolds w (lay .slots) (lay .index + first) (lay .index + last) (invertedList q (lastOf path)))
     (counted : (q : Query) → PlacesThere lay q w (lay .index + first) (lay .index + last)
     → t ≡ count (λ s. seen root (rightAt q s)) (slice (lay .index + first) (lay .index + last) w)) where
   counted-in : t ≡ count (λ s. seen root (rightAt q s)) (invertedList q (lastOf path))

@@ -9,24 +9,26 @@ use native.Mathlib.Nat.{mul-le-mul}
 use borrow.Author.Tests.{not-true}
 use lib.Dec.{eqb}
 use lib.ListN.{length, take, getD}
-use Rattle.lists.specs.Lists.{all, count, prefix, sum, slice}
+use Rattle.lists.specs.Lists.{all, prefix, sum, slice}
 use Rattle.lists.proofs.Bools.{and-left, and-right, true-false}
 use Rattle.lists.proofs.Throughout.{all-back}
 use Rattle.lists.proofs.Filtering.{all-kept, all-keep}
 use Rattle.lists.proofs.Summing.{sum-same-where}
 use Rattle.lists.proofs.Slices.{length-slice}
+use Rattle.sets.specs.Limits.{maxPairs}
 use Rattle.join_spec.specs.Query.{Query}
 use Rattle.join_spec.specs.Node.{lastOf}
-use Rattle.join_spec.specs.Walk.{Outcome, notMet, byPath, isCandidate}
+use Rattle.join_spec.specs.Walk.{Outcome, notMet, isCandidate}
+use Rattle.join_spec.specs.Counting.{isByPath}
 use Rattle.join_index.specs.Grouping.{leftAt, rightAt, keyAt, orderFrom}
 use Rattle.join_index.specs.Ground.{Listing}
 use Rattle.join_index.specs.declared.Layout.{Layout}
 use Rattle.join_index.proofs.GroundLaws.{offsets-rise}
 use Rattle.join_check.specs.Asking.{Index, RunThere}
 use Rattle.join_check.specs.Runs.{run}
-use Rattle.join_check.specs.Checks.{checksIn}
+use Rattle.join_check.specs.Counters.{checksIn}
 use Rattle.join_check.specs.declared.Tally.{Tally}
-use Rattle.join_walk.specs.Rows.{goes, row}
+use Rattle.join_walk.specs.Rows.{goes, row, pathPairs}
 use Rattle.join_walk.specs.Narrowing.{Candidates, Narrowed, slotOf}
 use Rattle.join_walk.specs.Visiting.{OnPath, Node, ChildrenAt, NodeVisited, ChildrenVisited, Visited, Added, Merged}
 use Rattle.join_walk.specs.Visiting.{Framed, beginners}
@@ -41,6 +43,7 @@ use Rattle.join_walk.proofs.NodeFacts.{last-read}
 use Rattle.join_walk.proofs.Prefixes.{prefix-take}
 use Rattle.join_walk.proofs.RowLaws.{row-deeper}
 use Rattle.join_walk.proofs.BlockLaws.{Begin, rows-merge, key-longer, all-and}
+use Rattle.join_walk.proofs.PathLaws.{paths-all, merged-checks}
 use Rattle.join_walk.proofs.BlockVisits.{merged-added}
 use Rattle.join_walk.proofs.LimitLaws.{candidates-most}
 use Rattle.join_walk.proofs.VisitLaws.{visited-then, visited-rows, underway-next}
@@ -135,11 +138,12 @@ module _ {lay : Layout} {st : Settings} {q : Query} {path w : List ℕ} {d lo hi
         front-length : length (run lay w lo mid) ≡ mid - lo
         front-length = run-length lay q w lo mid index (omega (arith, end .high, node .at .few))
 
-        pub merged-room : t .«by_path» + (mid - lo) * (part .to - part .«from») ≤ 16777216
+        pub merged-room : t .«by_path» + pathPairs (mid - lo) (part .to - part .«from») isByPath ≤ maxPairs
+        unfolding sum
         merged-room =
             let product : (mid - lo) * (part .to - part .«from») ≤ (hi - lo) * length (q .rights) =
             mul-le-mul {n₁ = mid - lo} {n₂ = hi - lo} (omega (arith, end .high)) after-few in
-            omega (arith, node .underway .bounded, product)
+            omega (arith, node .underway .bounded, product, paths-all (mid - lo) (part .to - part .«from»))
 
         ended-begin : Begin q path (run lay w lo mid)
         unfolding rest
@@ -156,32 +160,31 @@ module _ {lay : Layout} {st : Settings} {q : Query} {path w : List ℕ} {d lo hi
             subst (λ (l : List ℕ). Listing (length (q .rights)) (λ s. isCandidate d path (rightAt q s)) l) (sym (narrowed .holds))
             (listing-kept (length (q .rights)) (λ s. isCandidate d path (rightAt q s)))
 
-        module _ {m : Tally} (merged : Merged ((mid - lo) * (part .to - part .«from»)) t m) where
+        module _ {m : Tally} (merged : Merged (mid - lo) (part .to - part .«from») t m) where
           pub merged-lefts : Added q d (run lay w lo mid) t m
-          merged-lefts =
-              merged-added (run lay w lo mid) (slice (part .«from») (part .to) w′)
-              (ap₂ (λ (a b : ℕ). a * b) (sym front-length) (sym after-length)) (λ is met. go path refl is met) merged
+          merged-lefts = merged-added (run lay w lo mid) (λ is met. go path refl is met) merged
             where
               list : List ℕ
               list = slice (part .«from») (part .to) w′
 
               go : (l : List ℕ) → path ≡ l → (is : Outcome → Bool) → is notMet ≡ false
-                  → sum (row is q d) (run lay w lo mid) ≡ sum (λ k. count (λ s. is byPath) list) (run lay w lo mid)
+                  → sum (row is q d) (run lay w lo mid) ≡ pathPairs (mid - lo) (part .to - part .«from») is
               go [] e is met = absurd (omega (arith, cands .depth, cands .deep, ap length e))
               go (p ∷ ps) e is met =
                   let depth : length (p ∷ ps) ≡ d = sym (ap length e) ∙ cands .depth in
                   subst
-                  (λ (n : ℕ). sum (row is q n) (run lay w lo mid) ≡ sum (λ k. count (λ s. is byPath) list) (run lay w lo mid))
+                  (λ (n : ℕ). sum (row is q n) (run lay w lo mid) ≡ pathPairs (mid - lo) (part .to - part .«from») is)
                   depth
                   (rows-merge q p ps is met (run lay w lo mid) list
                   (subst (λ (l : List ℕ). Begin q l (run lay w lo mid)) e ended-begin) (ap (goes q) (sym e) ∙ sym on)
                   (subst (λ (n : ℕ). all (λ k. eqb (keyAt q n k) 0) (run lay w lo mid) ≡ true) (sym depth) front-keys)
                   (subst (λ (n : ℕ). Listing (length (q .rights)) (λ s. isCandidate n (p ∷ ps) (rightAt q s)) list) (sym depth)
                   (subst (λ (l : List ℕ). Listing (length (q .rights)) (λ s. isCandidate d l (rightAt q s)) list)
-                  e after-listing)))
+                  e after-listing))
+                  ∙ ap₂ (λ (a b : ℕ). pathPairs a b is) front-length after-length)
 
           merged-budget : checksIn m ≤ st .budget
-          merged-budget = omega (arith, merged .confirmed, merged .dropped, merged .falseDrops, node .underway .budget)
+          merged-budget = omega (arith, merged-checks merged, node .underway .budget)
 
           -- no left set goes on
           pub all-merged : hi ≤ mid → NodeVisited lay st q path w w′ d lo hi t (record { tally = m; spent = false })

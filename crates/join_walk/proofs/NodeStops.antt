@@ -10,6 +10,7 @@ use lib.ListN.{length}
 use Rattle.lists.specs.Lists.{prefix, sum, slice}
 use Rattle.lists.proofs.Filtering.{all-kept}
 use Rattle.lists.proofs.Slices.{length-slice}
+use Rattle.sets.specs.Limits.{maxSets}
 use Rattle.join_spec.specs.Query.{Query}
 use Rattle.join_spec.specs.Node.{lastOf}
 use Rattle.join_spec.specs.Walk.{Outcome, notMet, isCandidate}
@@ -54,7 +55,7 @@ module _ {lay : Layout} {st : Settings} {q : Query} {path w : List ℕ} {d lo hi
         index .ground .inverted (lastOf path) (cands .last) .rise,
       )
 
-  lefts-few : hi - lo ≤ 4096
+  lefts-few : hi - lo ≤ maxSets
   lefts-few = omega (arith, node .at .few, index .ground .leftFew)
 
   -- the decision as it was answered, its outcome tested

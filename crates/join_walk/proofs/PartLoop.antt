@@ -12,7 +12,7 @@ use Rattle.join_spec.specs.Query.{Query}
 use Rattle.join_index.specs.declared.Layout.{Layout}
 use Rattle.join_check.specs.Asking.{Index}
 use Rattle.join_check.specs.Runs.{run}
-use Rattle.join_check.specs.Checks.{checksIn}
+use Rattle.join_check.specs.Counters.{checksIn}
 use Rattle.join_check.specs.declared.Tally.{Tally}
 use Rattle.join_check.proofs.Orders.{run-none}
 use Rattle.join_walk.specs.Narrowing.{SomePath}

@@ -16,7 +16,8 @@ use Rattle.join_spec.specs.Walk.{Outcome, notMet, byPath, merged, checkedAfter,
 use Rattle.join_index.specs.Grouping.{leftAt, rightAt}
 use Rattle.join_index.specs.Ground.{Listing}
 use Rattle.join_check.specs.Checks.{checkAt}
-use Rattle.join_walk.specs.Rows.{goes, outcomeFrom, row}
+use Rattle.join_walk.specs.Rows.{goes, outcomeFrom, row, pathPairs}
+use Rattle.join_walk.proofs.PathLaws.{paths-one}
 
 -- a kind of outcome that a pair which is not met does not have
 abbrev pub Met : (Outcome → Bool) → Type 0
@@ -93,13 +94,13 @@ module _ (q : Query) (d k : ℕ) where
     -- going on, and the left set ends: every candidate after the node comes by path
     pub row-merges : (list : List ℕ) → goes q (take d (leftAt q k)) ≡ true → length (leftAt q k) ≡ d
         → Listing (length (q .rights)) (λ s. isCandidate d (leftAt q k) (rightAt q s)) list
-        → row is q d k ≡ count (λ s. is byPath) list
+        → row is q d k ≡ pathPairs 1 (length list) is
     unfolding row outcomeFrom
     row-merges list on ends listing =
         count-same (λ s. is (outcomeFrom q d k s)) (λ s. isCandidate d (leftAt q k) (rightAt q s) && is byPath)
         (upto (length (q .rights)))
         (λ s. rw (ending-merges on ends, ends) (is-cond is met (isCandidate d (leftAt q k) (rightAt q s)) byPath))
-        ∙ sym (listing (λ s. is byPath))
+        ∙ sym (listing (λ s. is byPath)) ∙ paths-one is list
 
   -- going on below the limit: a longer left set has the row of the next depth
   pub row-deeper : (is : Outcome → Bool) → goes q (take d (leftAt q k)) ≡ true → d < length (leftAt q k) → d < q .limit

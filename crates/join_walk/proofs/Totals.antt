@@ -12,16 +12,17 @@ use Rattle.lists.specs.Lists.{onto, count, keep, sum, upto}
 use Rattle.lists.proofs.Bools.{and-both}
 use Rattle.lists.proofs.Counting.{count-same}
 use Rattle.lists.proofs.Summing.{sum-append, sum-same, sum-add}
-use Rattle.lists.proofs.Ranges.{sum-places, count-places}
+use Rattle.lists.proofs.Ranges.{sum-places, count-places, length-range}
 use Rattle.join_spec.specs.Query.{Query}
 use Rattle.join_spec.specs.Walk.{Outcome, byPath, Ending, ending, endingIn, outcome, outcomeAfter, isCandidate, endingFrom}
 use Rattle.join_spec.specs.Counting.{total}
 use Rattle.counting_sort.specs.Groups.{groupsFrom}
 use Rattle.join_index.specs.Grouping.{leftAt, rightAt, keyAt, orderFrom}
 use Rattle.join_index.proofs.Ordering.{keyAt-below}
-use Rattle.join_walk.specs.Rows.{goes, row, outcomeFrom}
+use Rattle.join_walk.specs.Rows.{goes, row, outcomeFrom, pathPairs}
 use Rattle.join_walk.proofs.Groups.{within, within-zero, within-suc, apart}
 use Rattle.join_walk.proofs.BlockLaws.{key-ended, key-longer}
+use Rattle.join_walk.proofs.PathLaws.{paths-one}
 
 sum-keep : (f : ℕ → ℕ) (p : ℕ → Bool) (l : List ℕ) → sum f (keep p l) ≡ sum (λ a. cond (p a) (f a) 0) l
 unfolding sum keep
@@ -88,12 +89,13 @@ empty (x ∷ xs) e = absurd (omega arith)
 
 -- an empty left set pairs by path with every right set
 pub start-empty : (is : Outcome → Bool) (q : Query) (k : ℕ) → eqb (keyAt q 0 k) 0 ≡ true
-    → start is q k ≡ count (λ s. is byPath) (upto (length (q .rights)))
+    → start is q k ≡ pathPairs 1 (length (q .rights)) is
 unfolding start outcome endingIn ending isCandidate leftAt
 start-empty is q k none =
     let gone : leftAt q k ≡ [] = empty (leftAt q k) (key-ended q 0 k none (omega arith)) in
     count-same (λ s. is (outcome q (getD (q .lefts) k []) (getD (q .rights) s []))) (λ s. is byPath) (upto (length (q .rights)))
     (λ s. rw gone refl)
+    ∙ paths-one is (upto (length (q .rights))) ∙ ap (λ (n : ℕ). pathPairs 1 n is) (length-range 0 (length (q .rights)))
 
 -- any other has its row from depth 1 on
 pub start-row : (is : Outcome → Bool) (q : Query) (k : ℕ) → eqb (keyAt q 0 k) 0 ≡ false → start is q k ≡ row is q 1 k

@@ -5,33 +5,34 @@ use mathlib.Core.Path.{_≡_, refl, sym, ap, ap₂, _∙_}
 use mathlib.Core.List.{List, [], _∷_, _++_}
 use mathlib.Core.Bool.{Bool, false, not}
 use native.Mathlib.Omega.{arith}
-use native.Mathlib.Nat.{mul-le-mul, add-mul, mul-zero}
+use native.Mathlib.Nat.{mul-le-mul, add-mul}
 use borrow.Author.Tests.{not-true}
 use lib.Dec.{eqb}
 use lib.ListN.{length}
-use Rattle.lists.specs.Lists.{count, keep, prefix, range, slice, sum, upto}
+use Rattle.lists.specs.Lists.{keep, prefix, range, slice, sum, upto}
 use Rattle.lists.proofs.Bools.{true-false}
-use Rattle.lists.proofs.Counting.{count-none, count-true}
-use Rattle.lists.proofs.Summing.{sum-append, sum-same-where}
-use Rattle.lists.proofs.Ranges.{length-range}
+use Rattle.lists.proofs.Summing.{sum-same, sum-append, sum-same-where}
+use Rattle.sets.specs.Limits.{maxSets, maxPairs}
 use Rattle.join_spec.specs.Query.{Query}
-use Rattle.join_spec.specs.Walk.{Outcome, byPath}
-use Rattle.join_spec.specs.Counting.{total, isByPath, isConfirmed, isDropped, isFalse, isCheck}
+use Rattle.join_spec.specs.Walk.{Outcome}
+use Rattle.join_spec.specs.Counting.{total, isByPath, isCheck}
+use Rattle.join_spec.specs.Kinds.{Kind, isOf, kinds, checkKinds}
+use Rattle.join_spec.proofs.KindLaws.{sum-zero}
 use Rattle.join_index.specs.Grouping.{leftAt, keyAt, orderFrom, orderOf}
 use Rattle.join_index.specs.declared.Layout.{Layout}
 use Rattle.join_check.specs.Asking.{Index, RunThere}
 use Rattle.join_check.specs.Runs.{run}
-use Rattle.join_check.specs.Checks.{checksIn}
+use Rattle.join_check.specs.Counters.{counter, checksIn}
 use Rattle.join_check.specs.declared.Tally.{Tally}
-use Rattle.join_walk.specs.Rows.{row}
+use Rattle.join_walk.specs.Rows.{row, pathPairs}
 use Rattle.join_walk.specs.Visiting.{Merged, PartVisited, beginners}
 use Rattle.join_walk.specs.Blocks.{MergedEnd}
-use Rattle.join_walk.specs.Partitions.{Partitions, Ready, WalkDone}
+use Rattle.join_walk.specs.Partitions.{Partitions, WalkReady, WalkDone}
 use Rattle.join_walk.specs.declared.visit.Settings.{Settings}
 use Rattle.join_walk.specs.declared.visit.Walked.{Walked}
 use Rattle.join_walk.proofs.RunLaws.{Cut}
 use Rattle.join_walk.proofs.GroupSteps.{endedAt, goingOn, ended-keys, going-keys, beginners-grouped, ended-cut}
-use Rattle.join_walk.proofs.BlockVisits.{sum-const}
+use Rattle.join_walk.proofs.PathLaws.{paths-all, paths-many, paths-unchecked, merged-checks, merged-pairs}
 use Rattle.join_walk.proofs.VisitLaws.{checks-added}
 use Rattle.join_walk.proofs.FrameLaws.{framed-none}
 use Rattle.join_walk.proofs.Totals.{start, total-order, start-empty, start-row}
@@ -43,19 +44,16 @@ keep-every q [] = refl
 keep-every q (x ∷ xs) = ap (λ (l : List ℕ). x ∷ l) (keep-every q xs)
 
 -- a walk over no left sets
-pub walk-none : {lay : Layout} {st : Settings} {q : Query} {w : List ℕ} {lefts rights : ℕ} → Ready lay st q w lefts rights
+pub walk-none : {lay : Layout} {st : Settings} {q : Query} {w : List ℕ} {lefts rights : ℕ} → WalkReady lay st q w lefts rights
     → lefts ≡ 0
-    → {t : Tally} → t .«by_path» ≡ 0 → t .confirmed ≡ 0 → t .dropped ≡ 0 → t .«false_drops» ≡ 0
-    → WalkDone lay q (st .budget) w w (record { tally = t; spent = false })
-walk-none {lay} {st} {q} {w} ready none b c d f =
-    let nothing : (is : Outcome → Bool) → total is q ≡ 0 = λ is. total-nil is (ready .leftCount ∙ none) in
+    → {none : Tally} → ((kind : Kind) → counter kind none ≡ 0)
+    → WalkDone lay q (st .budget) w w (record { tally = none; spent = false })
+walk-none {lay} {st} {q} {w} ready gone zero =
+    let nothing : (is : Outcome → Bool) → total is q ≡ 0 = λ is. total-nil is (ready .leftCount ∙ gone) in
     record {
       framed = framed-none (lay .slots) w;
       counted = record {
-        byPath = λ calm. b ∙ sym (nothing isByPath);
-        confirmed = λ calm. c ∙ sym (nothing isConfirmed);
-        dropped = λ calm. d ∙ sym (nothing isDropped);
-        falseDrops = λ calm. f ∙ sym (nothing isFalse);
+        counts = λ calm kind. zero kind ∙ sym (nothing (isOf kind));
         within = λ calm. omega (arith, nothing isCheck);
         beyond = λ spent. true-false spent refl;
       };
@@ -69,7 +67,7 @@ walk-none {lay} {st} {q} {w} ready none b c d f =
         total-order is q 0 0 ∙ none ∙ empty
 
 module _ {lay : Layout} {st : Settings} {q : Query} {w : List ℕ} {lefts rights : ℕ}
-    (ready : Ready lay st q w lefts rights) (some : 0 < lefts) where
+    (ready : WalkReady lay st q w lefts rights) (some : 0 < lefts) where
   index : Index lay q w
   index = ready .index
 
@@ -101,21 +99,21 @@ module _ {lay : Layout} {st : Settings} {q : Query} {w : List ℕ} {lefts rights
     mid-length : mid ≡ length (endedAt q 0 rest)
     mid-length = omega (arith, parted .size)
 
-    pub paths-room : 0 + mid * rights ≤ 16777216
+    pub paths-room : 0 + pathPairs mid rights isByPath ≤ maxPairs
     paths-room =
         omega (
           arith,
-          mul-le-mul {n₁ = mid} {m₁ = rights} {n₂ = 4096} {m₂ = 4096}
+          paths-all mid rights,
+          mul-le-mul {n₁ = mid} {m₁ = rights} {n₂ = maxSets} {m₂ = maxSets}
               (omega (arith, end .high, few, index .ground .leftFew)) (omega (arith, ready .rightCount, index .ground .rightFew)),
         )
 
-    module _ {none m : Tally} (zero-path : none .«by_path» ≡ 0) (zero-checks : checksIn none ≡ 0)
-        (merged : Merged (mid * rights) none m) where
-      product : mid * rights ≡ mid * length (q .rights)
-      product = ap (λ (n : ℕ). mid * n) (sym (ready .rightCount))
+    module _ {none m : Tally} (zero : (kind : Kind) → counter kind none ≡ 0) (merged : Merged mid rights none m) where
+      no-pairs : (ks : List Kind) → sum (λ kind. counter kind none) ks ≡ 0
+      no-pairs ks = sum-same (λ kind. counter kind none) (λ kind. 0) ks zero ∙ sum-zero ks
 
       no-checks : checksIn m ≡ 0
-      no-checks = omega (arith, merged .confirmed, merged .dropped, merged .falseDrops, zero-checks)
+      no-checks = merged-checks merged ∙ no-pairs checkKinds
 
       pub walk-partitions : Partitions lay st q w mid lefts m
       walk-partitions =
@@ -132,12 +130,11 @@ module _ {lay : Layout} {st : Settings} {q : Query} {w : List ℕ} {lefts rights
                   ∙ ap (λ (n : ℕ). n * length (q .rights)) (omega (arith, end .high)) in
                   omega (
                     arith,
-                    merged .byPath,
-                    zero-path,
-                    no-checks,
-                    product,
+                    merged-pairs merged,
+                    no-pairs kinds,
+                    ap (λ (n : ℕ). mid * n) (sym (ready .rightCount)),
                     together,
-                    mul-le-mul {n₁ = lefts} {m₁ = length (q .rights)} {n₂ = 4096} {m₂ = 4096}
+                    mul-le-mul {n₁ = lefts} {m₁ = length (q .rights)} {n₂ = maxSets} {m₂ = maxSets}
                         (omega (arith, few, index .ground .leftFew, ready .leftCount)) (index .ground .rightFew),
                   );
             };
@@ -153,51 +150,36 @@ module _ {lay : Layout} {st : Settings} {q : Query} {w : List ℕ} {lefts rights
           }
 
       -- the query's counts: the empty left sets by path, and the rows of the others
-      split-total : (is : Outcome → Bool)
-          → total is q ≡ mid * count (λ s. is byPath) (upto (length (q .rights))) + sum (row is q 1) (run lay w mid lefts)
+      split-total : (is : Outcome → Bool) → total is q ≡ pathPairs mid rights is + sum (row is q 1) (run lay w mid lefts)
       split-total is =
-          let pairs = count (λ s. is byPath) (upto (length (q .rights))) in
           total-order is q (q .limit) 0 ∙ ap (sum (start is q)) order-is
           ∙ sum-append (start is q) (endedAt q 0 rest) (goingOn q 0 rest)
           ∙ ap₂ (λ (a b : ℕ). a + b)
-          (sum-same-where (λ k. eqb (keyAt q 0 k) 0) (start is q) (λ k. pairs) (endedAt q 0 rest) (ended-keys q 0 rest)
-          (λ k e. start-empty is q k e)
-          ∙ sum-const pairs (endedAt q 0 rest) ∙ ap (λ (n : ℕ). n * pairs) (sym mid-length))
+          (sum-same-where (λ k. eqb (keyAt q 0 k) 0) (start is q) (λ k. pathPairs 1 (length (q .rights)) is) (endedAt q 0 rest)
+          (ended-keys q 0 rest) (λ k e. start-empty is q k e)
+          ∙ paths-many is (length (q .rights)) (endedAt q 0 rest)
+          ∙ ap₂ (λ (a b : ℕ). pathPairs a b is) (sym mid-length) (ready .rightCount))
           (sum-same-where (λ k. not (eqb (keyAt q 0 k) 0)) (start is q) (row is q 1) (goingOn q 0 rest) (going-keys q 0 rest)
           (λ k e. start-row is q k (not-true (eqb (keyAt q 0 k) 0) e))
           ∙ sym (ap (sum (row is q 1)) (parted .back)))
 
-      none-path : (is : Outcome → Bool) → is byPath ≡ false → total is q ≡ sum (row is q 1) (run lay w mid lefts)
-      none-path is no-path =
-          let empty : count (λ s. is byPath) (upto (length (q .rights))) ≡ 0 =
-          count-none (λ s. is byPath) (upto (length (q .rights))) (λ s. no-path) in
-          omega (arith, split-total is, ap (λ (n : ℕ). mid * n) empty ∙ mul-zero mid)
-
-      all-path : total isByPath q ≡ mid * length (q .rights) + sum (row isByPath q 1) (run lay w mid lefts)
-      all-path =
-          omega (
-            arith,
-            split-total isByPath,
-            ap (λ (n : ℕ). mid * n) (count-true (upto (length (q .rights))) ∙ length-range 0 (length (q .rights))),
-          )
-
       pub walk-done : {w′ : List ℕ} {r : Walked} → PartVisited lay st q w w′ mid lefts m r → WalkDone lay q (st .budget) w w′ r
       walk-done {w′} {r} part =
+          let checks : total isCheck q ≡ sum (row isCheck q 1) (run lay w mid lefts) =
+          omega (arith, split-total isCheck, paths-unchecked mid rights) in
           record {
             framed = part .framed;
             counted = record {
-              byPath = λ calm. omega (arith, part .visited .added calm .byPath, merged .byPath, zero-path, product, all-path);
-              confirmed = λ calm. omega (arith, part .visited .added calm .confirmed, no-checks, none-path isConfirmed refl);
-              dropped = λ calm. omega (arith, part .visited .added calm .dropped, no-checks, none-path isDropped refl);
-              falseDrops = λ calm. omega (arith, part .visited .added calm .falseDrops, no-checks, none-path isFalse refl);
-              within = λ calm.
+              counts = λ calm kind.
                   omega (
                     arith,
-                    part .visited .within calm,
-                    checks-added (part .visited .added calm),
-                    no-checks,
-                    none-path isCheck refl,
+                    part .visited .added calm .tallied .grows kind,
+                    merged .tallied .grows kind,
+                    zero kind,
+                    split-total (isOf kind),
                   );
-              beyond = λ spent. omega (arith, part .visited .beyond spent, no-checks, none-path isCheck refl);
+              within = λ calm.
+                  omega (arith, part .visited .within calm, checks-added (part .visited .added calm), no-checks, checks);
+              beyond = λ spent. omega (arith, part .visited .beyond spent, no-checks, checks);
             };
           }

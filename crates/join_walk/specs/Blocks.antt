@@ -7,12 +7,14 @@ use mathlib.Core.Bool.{true, false}
 use lib.Dec.{eqb}
 use lib.ListN.{length}
 use Rattle.lists.specs.Lists.{all, prefix, slice}
+use Rattle.sets.specs.Limits.{maxSets}
 use Rattle.join_spec.specs.Query.{Query}
 use Rattle.join_index.specs.Grouping.{leftAt, keyAt}
 use Rattle.join_index.specs.declared.Layout.{Layout}
 use Rattle.join_check.specs.Asking.{Index, RunThere}
 use Rattle.join_check.specs.Runs.{run, lead}
-use Rattle.join_check.specs.Checks.{checksIn, runCount, Tallied, RunsThere}
+use Rattle.join_check.specs.Counters.{checksIn, Tallied}
+use Rattle.join_check.specs.Checks.{runCount, RunsThere}
 use Rattle.join_check.specs.declared.Tally.{Tally}
 use Rattle.join_walk.specs.Rows.{goes}
 use Rattle.join_walk.specs.Narrowing.{candidateList}
@@ -21,20 +23,20 @@ use Rattle.join_walk.specs.declared.visit.Settings.{Settings}
 use Rattle.join_walk.specs.declared.visit.Walked.{Walked}
 
 -- a block that is small, with a budget that covers the checks so far
-pub record Small (budget lo hi from to : ℕ) (t : Tally) : Type 0 where
-  pub lefts : hi - lo ≤ 4096
-  pub rights : to - from ≤ 4096
+pub record Small (budget lo hi from to : ℕ) (tally : Tally) : Type 0 where
+  pub lefts : hi - lo ≤ maxSets
+  pub rights : to - from ≤ maxSets
   pub rise : lo ≤ hi
   pub part : from ≤ to
-  pub covered : checksIn t ≤ budget
+  pub covered : checksIn tally ≤ budget
 
 -- every left set was checked against every candidate, or that would have passed the budget
-pub record Blocked (lay : Layout) (w : List ℕ) (budget e lo hi from to : ℕ) (t : Tally) (r : Walked) : Type 0 where
+pub record Blocked (lay : Layout) (w : List ℕ) (budget e lo hi from to : ℕ) (tally : Tally) (r : Walked) : Type 0 where
   pub tallied :
       r .spent ≡ false → (q : Query) → RunsThere lay q w e lo hi from to
-      → Tallied (λ is. runCount q is (slice from to w) (run lay w lo hi)) t (r .tally)
+      → Tallied (λ is. runCount q is (slice from to w) (run lay w lo hi)) tally (r .tally)
   pub within : r .spent ≡ false → checksIn (r .tally) ≤ budget
-  pub beyond : r .spent ≡ true → budget < checksIn t + (hi - lo) * (to - from)
+  pub beyond : r .spent ≡ true → budget < checksIn tally + (hi - lo) * (to - from)
 
 -- r is where the left sets end that stand first from place lo and have no rank after depth d
 pub record MergedEnd (lay : Layout) (w : List ℕ) (d lo hi r : ℕ) : Type 0 where
@@ -44,9 +46,9 @@ pub record MergedEnd (lay : Layout) (w : List ℕ) (d lo hi r : ℕ) : Type 0 wh
 
 -- left sets at the limit, at the places lo up to hi: they begin with the path, where the walk goes on, and the candidates are
 -- those after it
-pub record AtLimit (lay : Layout) (st : Settings) (q : Query) (path w : List ℕ) (d lo hi from to : ℕ) (t : Tally) : Type 0 where
+pub record AtLimit (lay : Layout) (st : Settings) (q : Query) (path w : List ℕ) (d lo hi from to : ℕ) (tally : Tally) : Type 0 where
   pub index : Index lay q w
-  pub underway : Underway st q t (hi - lo)
+  pub underway : Underway st q tally (hi - lo)
   pub depth : length path ≡ d
   pub deep : 0 < d
   pub limit : q .limit ≡ d

@@ -7,9 +7,11 @@ use mathlib.Core.Bool.{true, false}
 use lib.ListN.{length}
 use Rattle.sets.specs.Limits.{maxLimit}
 use Rattle.join_spec.specs.Query.{Query}
-use Rattle.join_spec.specs.Counting.{total, isByPath, isConfirmed, isDropped, isFalse, isCheck}
+use Rattle.join_spec.specs.Counting.{total, isCheck}
+use Rattle.join_spec.specs.Kinds.{Kind, isOf}
 use Rattle.join_index.specs.declared.Layout.{Layout}
 use Rattle.join_check.specs.Asking.{Index}
+use Rattle.join_check.specs.Counters.{counter}
 use Rattle.join_check.specs.declared.Tally.{Tally}
 use Rattle.join_walk.specs.Visiting.{Child, Children, Framed}
 use Rattle.join_walk.specs.declared.visit.Settings.{Settings}
@@ -17,7 +19,7 @@ use Rattle.join_walk.specs.declared.visit.Walked.{Walked}
 
 -- one partition: the left sets at the places lo up to hi of the order are those with a first rank r
 abbrev pub Partition : Layout → Settings → Query → List ℕ → ℕ → ℕ → Tally → ℕ → Type 0
-Partition lay st q w lo hi t r = Child lay st q (r ∷ []) w 1 lo hi t
+Partition lay st q w lo hi tally r = Child lay st q (r ∷ []) w 1 lo hi tally
 
 -- there are a query and a rank of which it holds
 pub record SomeRank (P : Query → ℕ → Type 0) : Type 0 where
@@ -27,10 +29,10 @@ pub record SomeRank (P : Query → ℕ → Type 0) : Type 0 where
 
 -- partitions: the children of the path without ranks
 abbrev pub Partitions : Layout → Settings → Query → List ℕ → ℕ → ℕ → Tally → Type 0
-Partitions lay st q w lo hi t = Children lay st q [] w 0 lo hi t
+Partitions lay st q w lo hi tally = Children lay st q [] w 0 lo hi tally
 
 -- the walk can begin
-pub record Ready (lay : Layout) (st : Settings) (q : Query) (w : List ℕ) (lefts rights : ℕ) : Type 0 where
+pub record WalkReady (lay : Layout) (st : Settings) (q : Query) (w : List ℕ) (lefts rights : ℕ) : Type 0 where
   pub index : Index lay q w
   pub limit : st .limit ≡ q .limit
   pub shallow : q .limit ≤ maxLimit
@@ -39,16 +41,13 @@ pub record Ready (lay : Layout) (st : Settings) (q : Query) (w : List ℕ) (left
   pub leftCount : length (q .lefts) ≡ lefts
   pub rightCount : length (q .rights) ≡ rights
 
--- the counters are the query's counts, within the budget; or the checks of the whole walk pass it
-pub record Counted (q : Query) (budget : ℕ) (r : Walked) : Type 0 where
-  pub byPath : r .spent ≡ false → r .tally .«by_path» ≡ total isByPath q
-  pub confirmed : r .spent ≡ false → r .tally .confirmed ≡ total isConfirmed q
-  pub dropped : r .spent ≡ false → r .tally .dropped ≡ total isDropped q
-  pub falseDrops : r .spent ≡ false → r .tally .«false_drops» ≡ total isFalse q
+-- the counter of each kind is the query's count, within the budget; or the checks of the whole walk pass it
+pub record QueryCounted (q : Query) (budget : ℕ) (r : Walked) : Type 0 where
+  pub counts : r .spent ≡ false → (kind : Kind) → counter kind (r .tally) ≡ total (isOf kind) q
   pub within : r .spent ≡ false → total isCheck q ≤ budget
   pub beyond : r .spent ≡ true → budget < total isCheck q
 
 -- the walk was made
 pub record WalkDone (lay : Layout) (q : Query) (budget : ℕ) (w w′ : List ℕ) (r : Walked) : Type 0 where
   pub framed : Framed (lay .slots) w w′
-  pub counted : Counted q budget r
+  pub counted : QueryCounted q budget r

@@ -1,12 +1,13 @@
--- What one left set adds to the counts from a depth on: one row of the sums over left and right sets.
-use Prim.Native.Nat.{ℕ, _-_}
+-- What one left set adds to the counts from a depth on: one row of the sums over left and right sets. And what left sets add
+-- that end at a node.
+use Prim.Native.Nat.{ℕ, _-_, _*_}
 use mathlib.Core.List.{List, [], map}
-use mathlib.Core.Bool.{Bool}
+use mathlib.Core.Bool.{Bool, cond}
 use lib.ListN.{length, getD}
 use Rattle.lists.specs.Lists.{count, upto}
 use Rattle.join_spec.specs.Query.{Query, inOrder}
 use Rattle.join_spec.specs.Node.{goesOnAt}
-use Rattle.join_spec.specs.Walk.{Outcome, endingFrom, outcomeAfter}
+use Rattle.join_spec.specs.Walk.{Outcome, byPath, endingFrom, outcomeAfter}
 use Rattle.join_index.specs.Grouping.{leftAt, rightAt}
 
 -- whether the walk of a query goes on at a path
@@ -22,3 +23,7 @@ outcomeFrom q d k s =
 -- how many right sets have such an outcome with left place k, its walk being at depth d
 unfoldable pub row : (Outcome → Bool) → Query → ℕ → ℕ → ℕ
 row is q d k = count (λ s. is (outcomeFrom q d k s)) (upto (length (q .rights)))
+
+-- how many pairs of m left sets that end at a node with the c candidates after it have such an outcome: all come by path
+unfoldable pub pathPairs : ℕ → ℕ → (Outcome → Bool) → ℕ
+pathPairs m c is = cond (is byPath) (m * c) 0

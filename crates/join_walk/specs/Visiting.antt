@@ -6,33 +6,29 @@ use mathlib.Core.List.{List}
 use mathlib.Core.Bool.{true, false}
 use lib.ListN.{length, take}
 use Rattle.lists.specs.Lists.{keep, prefix, sum, slice}
-use Rattle.sets.specs.Limits.{maxLimit}
+use Rattle.sets.specs.Limits.{maxLimit, maxPairs}
 use Rattle.join_spec.specs.Query.{Query}
 use Rattle.join_spec.specs.Node.{lastOf}
-use Rattle.join_spec.specs.Counting.{isByPath, isConfirmed, isDropped, isFalse, isCheck}
+use Rattle.join_spec.specs.Counting.{isCheck}
 use Rattle.counting_sort.specs.Groups.{groupsFrom}
 use Rattle.join_index.specs.Grouping.{leftAt, keyAt, orderFrom}
 use Rattle.join_index.specs.declared.Layout.{Layout}
 use Rattle.join_check.specs.Asking.{Index}
 use Rattle.join_check.specs.Runs.{run, leftIn}
-use Rattle.join_check.specs.Checks.{checksIn}
+use Rattle.join_check.specs.Counters.{checksIn, pairsIn, Tallied}
 use Rattle.join_check.specs.declared.Tally.{Tally}
-use Rattle.join_walk.specs.Rows.{row}
+use Rattle.join_walk.specs.Rows.{row, pathPairs}
 use Rattle.join_walk.specs.Narrowing.{Candidates, candidateList, slotOf}
 use Rattle.join_walk.specs.declared.visit.Settings.{Settings}
 use Rattle.join_walk.specs.declared.visit.Walked.{Walked}
 
--- the greatest number of pairs of a left and a right set
-abbrev pub maxPairs : ℕ
-maxPairs = 4096 * 4096
-
 -- the settings are the query's, the checks so far are within the budget, and there is room to count n further left sets
-pub record Underway (st : Settings) (q : Query) (t : Tally) (n : ℕ) : Type 0 where
+pub record Underway (st : Settings) (q : Query) (tally : Tally) (n : ℕ) : Type 0 where
   pub limit : st .limit ≡ q .limit
   pub shallow : q .limit ≤ maxLimit
   pub rule : st .rule ≡ q .rule
-  pub budget : checksIn t ≤ st .budget
-  pub bounded : t .«by_path» + checksIn t + n * length (q .rights) ≤ maxPairs
+  pub budget : checksIn tally ≤ st .budget
+  pub bounded : pairsIn tally + n * length (q .rights) ≤ maxPairs
 
 -- the left sets that begin with a path, in the order that their further ranks give
 abbrev pub beginners : Query → List ℕ → ℕ → List ℕ
@@ -54,14 +50,14 @@ pub record NodeAt (lay : Layout) (q : Query) (path w : List ℕ) (d lo hi from t
   pub lefts : run lay w lo hi ≡ beginners q path d
 
 -- a node that is to be visited
-pub record Node (lay : Layout) (st : Settings) (q : Query) (path w : List ℕ) (d lo hi from to : ℕ) (t : Tally) : Type 0 where
+pub record Node (lay : Layout) (st : Settings) (q : Query) (path w : List ℕ) (d lo hi from to : ℕ) (tally : Tally) : Type 0 where
   pub at : NodeAt lay q path w d lo hi from to
-  pub underway : Underway st q t (hi - lo)
+  pub underway : Underway st q tally (hi - lo)
 
 -- the left sets at the places lo up to hi begin with a path of d ranks: those of a child, or of a partition
-pub record Child (lay : Layout) (st : Settings) (q : Query) (path w : List ℕ) (d lo hi : ℕ) (t : Tally) : Type 0 where
+pub record Child (lay : Layout) (st : Settings) (q : Query) (path w : List ℕ) (d lo hi : ℕ) (tally : Tally) : Type 0 where
   pub index : Index lay q w
-  pub underway : Underway st q t (hi - lo)
+  pub underway : Underway st q tally (hi - lo)
   pub depth : length path ≡ d
   pub within : d ≤ q .limit
   pub last : lastOf path < q .T
@@ -71,9 +67,9 @@ pub record Child (lay : Layout) (st : Settings) (q : Query) (path w : List ℕ) 
 
 -- the left sets at the places lo up to hi go on after a path of d ranks and stand by their next rank, from key x on; the
 -- partitions are the children of the path without ranks
-pub record Children (lay : Layout) (st : Settings) (q : Query) (path w : List ℕ) (d lo hi : ℕ) (t : Tally) : Type 0 where
+pub record Children (lay : Layout) (st : Settings) (q : Query) (path w : List ℕ) (d lo hi : ℕ) (tally : Tally) : Type 0 where
   pub index : Index lay q w
-  pub underway : Underway st q t (hi - lo)
+  pub underway : Underway st q tally (hi - lo)
   pub depth : length path ≡ d
   pub within : d < q .limit
   pub upto : lo ≤ hi
@@ -93,29 +89,23 @@ pub record After (lay : Layout) (q : Query) (path w : List ℕ) (d from to : ℕ
   pub holds : slice from to w ≡ candidateList q path d
 
 -- the children of a node that are to be visited
-pub record ChildrenAt (lay : Layout) (st : Settings) (q : Query) (path w : List ℕ) (d lo hi from to : ℕ) (t : Tally) : Type 0 where
-  pub kids : Children lay st q path w d lo hi t
+pub record ChildrenAt (lay : Layout) (st : Settings) (q : Query) (path w : List ℕ) (d lo hi from to : ℕ) (tally : Tally) : Type 0 where
+  pub kids : Children lay st q path w d lo hi tally
   pub after : After lay q path w d from to
 
--- r is t with the rows of the left sets, their walk being at depth d
-pub record Added (q : Query) (d : ℕ) (lefts : List ℕ) (t r : Tally) : Type 0 where
-  pub byPath : r .«by_path» ≡ t .«by_path» + sum (row isByPath q d) lefts
-  pub confirmed : r .confirmed ≡ t .confirmed + sum (row isConfirmed q d) lefts
-  pub dropped : r .dropped ≡ t .dropped + sum (row isDropped q d) lefts
-  pub falseDrops : r .«false_drops» ≡ t .«false_drops» + sum (row isFalse q d) lefts
+-- the counters became r with the rows of the left sets, their walk being at depth d
+pub record Added (q : Query) (d : ℕ) (lefts : List ℕ) (tally r : Tally) : Type 0 where
+  pub tallied : Tallied (λ is. sum (row is q d) lefts) tally r
 
--- n pairs by path were counted
-pub record Merged (n : ℕ) (t r : Tally) : Type 0 where
-  pub byPath : r .«by_path» ≡ t .«by_path» + n
-  pub confirmed : r .confirmed ≡ t .confirmed
-  pub dropped : r .dropped ≡ t .dropped
-  pub falseDrops : r .«false_drops» ≡ t .«false_drops»
+-- the counters became r with the pairs of m left sets that end at a node with the c candidates after it
+pub record Merged (m c : ℕ) (tally r : Tally) : Type 0 where
+  pub tallied : Tallied (pathPairs m c) tally r
 
 -- the answer of a visit of these left sets: all their rows were added within the budget, or their checks pass it
-pub record Visited (q : Query) (budget d : ℕ) (lefts : List ℕ) (t : Tally) (r : Walked) : Type 0 where
-  pub added : r .spent ≡ false → Added q d lefts t (r .tally)
+pub record Visited (q : Query) (budget d : ℕ) (lefts : List ℕ) (tally : Tally) (r : Walked) : Type 0 where
+  pub added : r .spent ≡ false → Added q d lefts tally (r .tally)
   pub within : r .spent ≡ false → checksIn (r .tally) ≤ budget
-  pub beyond : r .spent ≡ true → budget < checksIn t + sum (row isCheck q d) lefts
+  pub beyond : r .spent ≡ true → budget < checksIn tally + sum (row isCheck q d) lefts
 
 -- w became w′: only words from a slot on may differ
 pub record Framed (slot : ℕ) (w w′ : List ℕ) : Type 0 where
@@ -123,20 +113,20 @@ pub record Framed (slot : ℕ) (w w′ : List ℕ) : Type 0 where
   pub frame : take slot w′ ≡ take slot w
 
 -- the left sets at the places lo up to hi were visited at depth d: only words from a slot on changed, and their rows were added
-pub record RunVisited (lay : Layout) (q : Query) (budget slot d : ℕ) (w w′ : List ℕ) (lo hi : ℕ) (t : Tally)
+pub record RunVisited (lay : Layout) (q : Query) (budget slot d : ℕ) (w w′ : List ℕ) (lo hi : ℕ) (tally : Tally)
     (r : Walked) : Type 0 where
   pub framed : Framed slot w w′
-  pub visited : Visited q budget d (run lay w lo hi) t r
+  pub visited : Visited q budget d (run lay w lo hi) tally r
 
 -- a node was visited: only slots of its last rank and beyond changed
 abbrev pub NodeVisited : Layout → Settings → Query → List ℕ → List ℕ → List ℕ → ℕ → ℕ → ℕ → Tally → Walked → Type 0
-NodeVisited lay st q path w w′ d lo hi t r = RunVisited lay q (st .budget) (slotOf lay w (lastOf path)) d w w′ lo hi t r
+NodeVisited lay st q path w w′ d lo hi tally r = RunVisited lay q (st .budget) (slotOf lay w (lastOf path)) d w w′ lo hi tally r
 
 -- the children of a node were visited: only slots beyond its last rank changed
 abbrev pub ChildrenVisited : Layout → Settings → Query → List ℕ → List ℕ → List ℕ → ℕ → ℕ → ℕ → Tally → Walked → Type 0
-ChildrenVisited lay st q path w w′ d lo hi t r =
-    RunVisited lay q (st .budget) (slotOf lay w (suc (lastOf path))) (suc d) w w′ lo hi t r
+ChildrenVisited lay st q path w w′ d lo hi tally r =
+    RunVisited lay q (st .budget) (slotOf lay w (suc (lastOf path))) (suc d) w w′ lo hi tally r
 
 -- partitions were visited: only slots changed
 abbrev pub PartVisited : Layout → Settings → Query → List ℕ → List ℕ → ℕ → ℕ → Tally → Walked → Type 0
-PartVisited lay st q w w′ lo hi t r = RunVisited lay q (st .budget) (lay .slots) 1 w w′ lo hi t r
+PartVisited lay st q w w′ lo hi tally r = RunVisited lay q (st .budget) (lay .slots) 1 w w′ lo hi tally r

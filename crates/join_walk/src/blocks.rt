@@ -7,13 +7,15 @@ use join_check::keys::run_end;
 use join_check::subtree::gather;
 use join_index::Layout;
 use word_lists::words::word_at;
-ghost use mathlib.Core.Path.{_≡_};
 ghost use mathlib.Core.List.{List};
-ghost use Prim.Native.Nat.{ℕ, _+_, _*_, _≤_};
+ghost use Prim.Native.Nat.{ℕ, _+_, _≤_};
+ghost use Rattle.sets.specs.Limits.{maxPairs};
 ghost use Rattle.join_spec.specs.Query.{Query};
 ghost use Rattle.join_check.specs.Asking.{Some, RunThere};
+ghost use Rattle.join_spec.specs.Counting.{isByPath};
 ghost use Rattle.join_check.specs.Runs.{run};
 ghost use Rattle.join_check.specs.Checks.{RunsThere};
+ghost use Rattle.join_walk.specs.Rows.{pathPairs};
 ghost use Rattle.join_walk.specs.Narrowing.{SomePath};
 ghost use Rattle.join_walk.specs.Visiting.{Visited, Merged};
 ghost use Rattle.join_walk.specs.Blocks.{Small, Blocked, MergedEnd, AtLimit};
@@ -30,24 +32,24 @@ pub fn check_block(
     hi: usize,
     from: usize,
     to: usize,
-    t: Tally,
+    tally: Tally,
 ) -> Walked
     requires { ⌜ Some (λ q. RunsThere lay q (now work) e lo hi from to) ⌝ }
-    requires { ⌜ Small (st .budget) lo hi from to t ⌝ }
-    ensures { λ r. ⌜ Blocked lay (now (work .entry)) (st .budget) e lo hi from to t r ⌝ }
+    requires { ⌜ Small (st .budget) lo hi from to tally ⌝ }
+    ensures { λ r. ⌜ Blocked lay (now (work .entry)) (st .budget) e lo hi from to tally r ⌝ }
 {
     let budget = st.budget;
     let limit = st.limit;
-    let made = t.confirmed + t.dropped + t.false_drops;
-    let left = budget - made;
+    let made = tally.confirmed + tally.dropped + tally.false_drops;
+    let spare = budget - made;
     let checks = (hi - lo) * (to - from);
-    if (left as usize) < checks {
+    if (spare as usize) < checks {
         return Walked {
-            tally: t,
+            tally: tally,
             spent: true,
         };
     }
-    let r = gather(work, lay, limit, d, e, lo, hi, from, to, t);
+    let r = gather(work, lay, limit, d, e, lo, hi, from, to, tally);
     Walked {
         tally: r,
         spent: false,
@@ -67,17 +69,17 @@ pub fn merged_end(work: &[u32], lay: Layout, d: usize, lo: usize, hi: usize) -> 
     run_end(work, lay, d, lo, hi)
 }
 
-// Counts m left sets that pair by path with each of c right sets.
-pub fn add_paths(t: Tally, m: usize, c: usize) -> Tally
-    requires { ⌜ t .«by_path» + m * c ≤ 16777216 ⌝ }
-    ensures { λ r. ⌜ Merged (m * c) t r ⌝ }
+// Counts the pairs of m left sets that end at a node with the c candidates after it.
+pub fn add_paths(tally: Tally, m: usize, c: usize) -> Tally
+    requires { ⌜ tally .«by_path» + pathPairs m c isByPath ≤ maxPairs ⌝ }
+    ensures { λ r. ⌜ Merged m c tally r ⌝ }
 {
     let pairs = m * c;
     Tally {
-        by_path: t.by_path + (pairs as u32),
-        confirmed: t.confirmed,
-        dropped: t.dropped,
-        false_drops: t.false_drops,
+        by_path: tally.by_path + (pairs as u32),
+        confirmed: tally.confirmed,
+        dropped: tally.dropped,
+        false_drops: tally.false_drops,
     }
 }
 
@@ -90,22 +92,22 @@ fn finish_one(
     i: usize,
     from: usize,
     to: usize,
-    t: Tally,
+    tally: Tally,
 ) -> Walked
-    requires { ⌜ SomePath (λ q path. AtLimit lay st q path (now work) d i (i + 1) from to t) ⌝ }
-    ensures { λ r. ⌜ ((q : Query) (path : List ℕ) → AtLimit lay st q path (now (work .entry)) d i (i + 1) from to t
-        → Visited q (st .budget) d (run lay (now (work .entry)) i (i + 1)) t r) ⌝ }
+    requires { ⌜ SomePath (λ q path. AtLimit lay st q path (now work) d i (i + 1) from to tally) ⌝ }
+    ensures { λ r. ⌜ ((q : Query) (path : List ℕ) → AtLimit lay st q path (now (work .entry)) d i (i + 1) from to tally
+        → Visited q (st .budget) d (run lay (now (work .entry)) i (i + 1)) tally r) ⌝ }
 {
     let order = lay.order;
     let k = word_at(work, order + i);
     if key_at(work, lay, k, d) == 0 {
-        let merged = add_paths(t, 1, to - from);
+        let merged = add_paths(tally, 1, to - from);
         return Walked {
             tally: merged,
             spent: false,
         };
     }
-    check_block(work, lay, st, d, d, i, i + 1, from, to, t)
+    check_block(work, lay, st, d, d, i, i + 1, from, to, tally)
 }
 
 // The left sets at the limit, one by one, up to the first whose checks would pass the budget.
@@ -118,13 +120,13 @@ pub fn finish(
     hi: usize,
     from: usize,
     to: usize,
-    t: Tally,
+    tally: Tally,
 ) -> Walked
-    requires { ⌜ SomePath (λ q path. AtLimit lay st q path (now work) d lo hi from to t) ⌝ }
-    ensures { λ r. ⌜ ((q : Query) (path : List ℕ) → AtLimit lay st q path (now (work .entry)) d lo hi from to t
-        → Visited q (st .budget) d (run lay (now (work .entry)) lo hi) t r) ⌝ }
+    requires { ⌜ SomePath (λ q path. AtLimit lay st q path (now work) d lo hi from to tally) ⌝ }
+    ensures { λ r. ⌜ ((q : Query) (path : List ℕ) → AtLimit lay st q path (now (work .entry)) d lo hi from to tally
+        → Visited q (st .budget) d (run lay (now (work .entry)) lo hi) tally r) ⌝ }
 {
-    let mut r = t;
+    let mut r = tally;
     let mut i = lo;
     while i < hi {
         let one = finish_one(work, lay, st, d, i, from, to, r);

@@ -9,6 +9,7 @@ ghost use mathlib.Core.Path.{_≡_};
 ghost use mathlib.Core.List.{List};
 ghost use Prim.Native.Nat.{ℕ, _*_, _≤_};
 ghost use lib.ListN.{getD};
+ghost use Rattle.sets.specs.Limits.{maxSets};
 ghost use Rattle.join_spec.specs.declared.Rule.the-variants.{Weighed};
 ghost use Rattle.join_spec.specs.Query.{Query};
 ghost use Rattle.join_spec.specs.Node.{goesOn};
@@ -29,7 +30,7 @@ pub fn rank_on(work: &[u32], lay: Layout, lo: usize, i: usize) -> usize
 // Whether the weighed rule goes on, with c candidates, t holders of the last rank and m left sets. Each operation rounds once, in
 // this order.
 pub fn weigh(weights: Weights, c: u32, t: u32, m: u32) -> bool
-    requires { ⌜ (c ≤ 4096) × (m ≤ 4096) ⌝ }
+    requires { ⌜ (c ≤ maxSets) × (m ≤ maxSets) ⌝ }
     ensures { λ r. ⌜ r ≡ goesOn (Weighed weights) c t m ⌝ }
 {
     let product = c * m;

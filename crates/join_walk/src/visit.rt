@@ -11,11 +11,9 @@ use join_check::Tally;
 use join_check::keys::run_end;
 use join_index::Layout;
 use join_spec::Rule;
-ghost use mathlib.Core.Path.{_≡_};
 ghost use mathlib.Core.List.{List};
 ghost use Prim.Native.Nat.{ℕ};
 ghost use Rattle.join_spec.specs.Query.{Query};
-ghost use Rattle.join_check.specs.Runs.{run};
 ghost use Rattle.join_walk.specs.Narrowing.{SomePath};
 ghost use Rattle.join_walk.specs.Visiting.{Node, NodeVisited, ChildrenAt, ChildrenVisited};
 
@@ -43,26 +41,26 @@ pub fn visit_node(
     hi: usize,
     from: usize,
     to: usize,
-    t: Tally,
+    tally: Tally,
 ) -> Walked
-    requires { ⌜ SomePath (λ q path. Node lay st q path (now work) d lo hi from to t) ⌝ }
-    ensures { λ r. ⌜ ((q : Query) (path : List ℕ) → Node lay st q path (now (work .entry)) d lo hi from to t
-        → NodeVisited lay st q path (now (work .entry)) (now (work .exit)) d lo hi t r) ⌝ }
+    requires { ⌜ SomePath (λ q path. Node lay st q path (now work) d lo hi from to tally) ⌝ }
+    ensures { λ r. ⌜ ((q : Query) (path : List ℕ) → Node lay st q path (now (work .entry)) d lo hi from to tally
+        → NodeVisited lay st q path (now (work .entry)) (now (work .exit)) d lo hi tally r) ⌝ }
 {
     let limit = st.limit;
     let rule = st.rule;
     if !decide(work, lay, rule, d, lo, hi, from, to) {
-        return check_block(work, lay, st, d, d - 1, lo, hi, from, to, t);
+        return check_block(work, lay, st, d, d - 1, lo, hi, from, to, tally);
     }
     let rank = rank_on(work, lay, lo, d - 1);
     let part = narrow(work, lay, d, rank, from, to);
     let first = part.from;
     let last = part.to;
     if limit <= d {
-        return finish(work, lay, st, d, lo, hi, first, last, t);
+        return finish(work, lay, st, d, lo, hi, first, last, tally);
     }
     let mid = merged_end(work, lay, d, lo, hi);
-    let merged = add_paths(t, mid - lo, last - first);
+    let merged = add_paths(tally, mid - lo, last - first);
     if hi <= mid {
         return Walked {
             tally: merged,
@@ -83,13 +81,13 @@ pub fn visit_children(
     hi: usize,
     from: usize,
     to: usize,
-    t: Tally,
+    tally: Tally,
 ) -> Walked
-    requires { ⌜ SomePath (λ q path. ChildrenAt lay st q path (now work) d lo hi from to t) ⌝ }
-    ensures { λ r. ⌜ ((q : Query) (path : List ℕ) → ChildrenAt lay st q path (now (work .entry)) d lo hi from to t
-        → ChildrenVisited lay st q path (now (work .entry)) (now (work .exit)) d lo hi t r) ⌝ }
+    requires { ⌜ SomePath (λ q path. ChildrenAt lay st q path (now work) d lo hi from to tally) ⌝ }
+    ensures { λ r. ⌜ ((q : Query) (path : List ℕ) → ChildrenAt lay st q path (now (work .entry)) d lo hi from to tally
+        → ChildrenVisited lay st q path (now (work .entry)) (now (work .exit)) d lo hi tally r) ⌝ }
 {
-    let mut r = t;
+    let mut r = tally;
     let mut i = lo;
     while i < hi {
         let j = run_end(work, lay, d, i, hi);

@@ -10,10 +10,9 @@ use join_check::keys::run_end;
 use join_index::Layout;
 use word_lists::words::word_at;
 ghost use Prim.Native.Nat.{ℕ};
-ghost use lib.ListN.{length};
 ghost use Rattle.join_spec.specs.Query.{Query};
 ghost use Rattle.join_check.specs.Asking.{Some};
-ghost use Rattle.join_walk.specs.Partitions.{SomeRank, Partition, Partitions, Ready, WalkDone};
+ghost use Rattle.join_walk.specs.Partitions.{SomeRank, Partition, Partitions, WalkReady, WalkDone};
 ghost use Rattle.join_walk.specs.Visiting.{PartVisited};
 
 // Visits the partition of the left sets at the places lo up to hi of the order. The right sets with a least rank up to theirs
@@ -24,11 +23,11 @@ fn visit_partition(
     st: Settings,
     lo: usize,
     hi: usize,
-    t: Tally,
+    tally: Tally,
 ) -> Walked
-    requires { ⌜ SomeRank (λ q r. Partition lay st q (now work) lo hi t r) ⌝ }
-    ensures { λ one. ⌜ ((q : Query) (r : ℕ) → Partition lay st q (now (work .entry)) lo hi t r
-        → PartVisited lay st q (now (work .entry)) (now (work .exit)) lo hi t one) ⌝ }
+    requires { ⌜ SomeRank (λ q r. Partition lay st q (now work) lo hi tally r) ⌝ }
+    ensures { λ one. ⌜ ((q : Query) (r : ℕ) → Partition lay st q (now (work .entry)) lo hi tally r
+        → PartVisited lay st q (now (work .entry)) (now (work .exit)) lo hi tally one) ⌝ }
 {
     let order = lay.order;
     let offsets = lay.least_offsets;
@@ -36,7 +35,7 @@ fn visit_partition(
     let k = word_at(work, order + lo);
     let key = key_at(work, lay, k, 0);
     let seen = word_at(work, offsets + key);
-    visit_node(work, lay, st, 1, lo, hi, first, first + seen, t)
+    visit_node(work, lay, st, 1, lo, hi, first, first + seen, tally)
 }
 
 // Visits the partitions of the left sets at the places lo up to hi of the order.
@@ -46,13 +45,13 @@ fn visit_partitions(
     st: Settings,
     lo: usize,
     hi: usize,
-    t: Tally,
+    tally: Tally,
 ) -> Walked
-    requires { ⌜ Some (λ q. Partitions lay st q (now work) lo hi t) ⌝ }
-    ensures { λ r. ⌜ ((q : Query) → Partitions lay st q (now (work .entry)) lo hi t
-        → PartVisited lay st q (now (work .entry)) (now (work .exit)) lo hi t r) ⌝ }
+    requires { ⌜ Some (λ q. Partitions lay st q (now work) lo hi tally) ⌝ }
+    ensures { λ r. ⌜ ((q : Query) → Partitions lay st q (now (work .entry)) lo hi tally
+        → PartVisited lay st q (now (work .entry)) (now (work .exit)) lo hi tally r) ⌝ }
 {
-    let mut r = t;
+    let mut r = tally;
     let mut i = lo;
     while i < hi {
         let j = run_end(work, lay, 0, i, hi);
@@ -71,8 +70,8 @@ fn visit_partitions(
 
 // The whole walk over the index of a query. Empty left sets pair with every right set.
 pub fn walk(work: &mut [u32], lay: Layout, st: Settings, lefts: usize, rights: usize) -> Walked
-    requires { ⌜ Some (λ q. Ready lay st q (now work) lefts rights) ⌝ }
-    ensures { λ r. ⌜ ((q : Query) → Ready lay st q (now (work .entry)) lefts rights
+    requires { ⌜ Some (λ q. WalkReady lay st q (now work) lefts rights) ⌝ }
+    ensures { λ r. ⌜ ((q : Query) → WalkReady lay st q (now (work .entry)) lefts rights
         → WalkDone lay q (st .budget) (now (work .entry)) (now (work .exit)) r) ⌝ }
 {
     let none = Tally {

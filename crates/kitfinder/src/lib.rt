@@ -1,77 +1,17 @@
 // The static library for C and Rust: thin exported functions, each over one proved operation. Names, parameters and answer words
 // are those of include/kitfinder.h; what the words hold is defined in specs/.
-use join_spec::JoinAnswer;
-use join_spec::Rule;
 use join_spec::Weights;
-use sets::Refusal;
 ghost use mathlib.Core.Path.{_≡_};
 ghost use mathlib.Core.Bool.{true, not};
 ghost use lib.Dec.{eqb};
 ghost use lib.ListN.{length};
 ghost use Rattle.tag_file.specs.Reading.{readAt, readWords};
-ghost use Rattle.sets.specs.Collections.{setsOf};
-ghost use Rattle.join_spec.specs.PairList.{pairList};
-ghost use Rattle.join_spec.specs.Answer.{pairsAfter, workKept, joinWords};
+ghost use Rattle.join_spec.specs.Answer.{roomOf, joinWords, JoinCall};
+ghost use Rattle.inputs.specs.Input.{inputOf};
+ghost use Rattle.join.specs.Numbered.{weightsOf, numberedAnswer};
 ghost use Rattle.item_order.specs.Order.{orderAnswer, orderRanks, orderWords};
 ghost use Rattle.tag_file.specs.Loading.{listsOf, loadAnswer, loadWords, LoadCall};
-ghost use Rattle.tag_writer.specs.Writer.{fileBytes, writeAnswer, fileAfter, writeWords};
-ghost use Rattle.kitfinder.specs.Numbered.{ruleOf, weightsOf, numberedAnswer};
-
-// The rule of a number: 0 Merge, 1 Check, else Weighed.
-fn rule_of(number: u32, weights: Weights) -> Rule
-    ensures { λ r. ⌜ r ≡ ruleOf number weights ⌝ }
-{
-    if number == 0 {
-        return Rule::Merge;
-    }
-    if number == 1 {
-        return Rule::Check;
-    }
-    Rule::Weighed(weights)
-}
-
-// A join whose rule is a number: one above 2 is refused as a bad setting.
-fn join_numbered(
-    t: u32,
-    left_ends: &[u32],
-    left_items: &[u16],
-    right_ends: &[u32],
-    right_items: &[u16],
-    limit: u32,
-    ranks: &[u16],
-    budget: u32,
-    number: u32,
-    weights: Weights,
-    work: &mut [u32],
-    pairs: &mut [u16],
-) -> JoinAnswer
-    ensures answer { λ r. ⌜ r ≡ numberedAnswer t (now («left_ends» .entry)) (now («left_items» .entry))
-        (now («right_ends» .entry)) (now («right_items» .entry)) limit (now (ranks .entry)) budget number
-        weights (length (now (work .entry))) (length (now (pairs .entry))) ⌝ }
-    ensures pairs { λ r. ⌜ now (pairs .exit) ≡ pairsAfter r
-        (pairList (setsOf (now («left_ends» .entry)) (now («left_items» .entry)))
-        (setsOf (now («right_ends» .entry)) (now («right_items» .entry)))) (now (pairs .entry)) ⌝ }
-    ensures work_size { λ r. ⌜ length (now (work .exit)) ≡ length (now (work .entry)) ⌝ }
-    ensures work_kept { λ r. ⌜ (workKept r ≡ true → now (work .exit) ≡ now (work .entry)) ⌝ }
-{
-    if 2 < number {
-        return JoinAnswer::Refused(Refusal::BadSettings);
-    }
-    let rule = rule_of(number, weights);
-    join::run(
-        t,
-        left_ends,
-        left_items,
-        right_ends,
-        right_items,
-        limit,
-        ranks,
-        budget,
-        rule,
-        work,
-        pairs,
-    )
-}
+ghost use Rattle.tag_writer.specs.Writer.{writeAnswer, writtenFile, writeWords};
 
 // Joins two collections.
 #[no_mangle]
@@ -93,25 +33,20 @@ pub extern "C" fn kitfinder_join(
     pairs: &mut [u16],
     answer: &mut [u64; 9],
 )
-    ensures answer { λ _. ⌜ now (answer .exit) ≡ joinWords
-        (numberedAnswer t (now («left_ends» .entry)) (now («left_items» .entry))
-        (now («right_ends» .entry)) (now («right_items» .entry)) limit (now (ranks .entry)) budget number
-        (weightsOf a b g h) (length (now (work .entry))) (length (now (pairs .entry)))) ⌝ }
-    ensures pairs { λ _. ⌜ now (pairs .exit) ≡ pairsAfter
-        (numberedAnswer t (now («left_ends» .entry)) (now («left_items» .entry))
-        (now («right_ends» .entry)) (now («right_items» .entry)) limit (now (ranks .entry)) budget number
-        (weightsOf a b g h) (length (now (work .entry))) (length (now (pairs .entry))))
-        (pairList (setsOf (now («left_ends» .entry)) (now («left_items» .entry)))
-        (setsOf (now («right_ends» .entry)) (now («right_items» .entry)))) (now (pairs .entry)) ⌝ }
-    ensures work_size { λ _. ⌜ length (now (work .exit)) ≡ length (now (work .entry)) ⌝ }
-    ensures work_kept { λ _. ⌜ (workKept
-        (numberedAnswer t (now («left_ends» .entry)) (now («left_items» .entry))
-        (now («right_ends» .entry)) (now («right_items» .entry)) limit (now (ranks .entry)) budget number
-        (weightsOf a b g h) (length (now (work .entry))) (length (now (pairs .entry)))) ≡ true
-        → now (work .exit) ≡ now (work .entry)) ⌝ }
+    ensures answer { λ _. ⌜ now (answer .exit) ≡ joinWords (numberedAnswer
+        (inputOf t (now («left_ends» .entry)) (now («left_items» .entry)) (now («right_ends» .entry)) (now («right_items» .entry)))
+        limit (now (ranks .entry)) budget number (weightsOf a b g h) (roomOf (now (work .entry)) (now (pairs .entry)))) ⌝ }
+    ensures lists { λ _. ⌜ JoinCall (numberedAnswer
+        (inputOf t (now («left_ends» .entry)) (now («left_items» .entry)) (now («right_ends» .entry)) (now («right_items» .entry)))
+        limit (now (ranks .entry)) budget number (weightsOf a b g h) (roomOf (now (work .entry)) (now (pairs .entry))))
+        (inputOf t (now («left_ends» .entry)) (now («left_items» .entry)) (now («right_ends» .entry)) (now («right_items» .entry)))
+        (now (work .entry)) (now (pairs .entry)) (now (work .exit)) (now (pairs .exit))
+        (numberedAnswer
+        (inputOf t (now («left_ends» .entry)) (now («left_items» .entry)) (now («right_ends» .entry)) (now («right_items» .entry)))
+        limit (now (ranks .entry)) budget number (weightsOf a b g h) (roomOf (now (work .entry)) (now (pairs .entry)))) ⌝ }
 {
     let weights = Weights { a, b, g, h };
-    *answer = join_spec::join_words(join_numbered(
+    *answer = join_spec::join_words(join::run_numbered(
         t,
         left_ends,
         left_items,
@@ -215,13 +150,11 @@ pub extern "C" fn kitfinder_write(
     file: &mut [u8],
     answer: &mut [u64; 4],
 )
-    ensures answer { λ _. ⌜ now (answer .exit) ≡ writeWords
-        (writeAnswer t (now (tags .entry)) (now («left_numbers» .entry)) (now («left_ends» .entry)) (now («left_items» .entry))
-        (now («right_numbers» .entry)) (now («right_ends» .entry)) (now («right_items» .entry)) (length (now (file .entry)))) ⌝ }
-    ensures file { λ _. ⌜ now (file .exit) ≡ fileAfter
-        (writeAnswer t (now (tags .entry)) (now («left_numbers» .entry)) (now («left_ends» .entry)) (now («left_items» .entry))
-        (now («right_numbers» .entry)) (now («right_ends» .entry)) (now («right_items» .entry)) (length (now (file .entry))))
-        (fileBytes (now (tags .entry)) (now («left_numbers» .entry)) (now («left_ends» .entry)) (now («left_items» .entry))
+    ensures answer { λ _. ⌜ now (answer .exit) ≡ writeWords (writeAnswer t
+        (listsOf (now (tags .entry)) (now («left_numbers» .entry)) (now («left_ends» .entry)) (now («left_items» .entry))
+        (now («right_numbers» .entry)) (now («right_ends» .entry)) (now («right_items» .entry))) (length (now (file .entry)))) ⌝ }
+    ensures file { λ _. ⌜ now (file .exit) ≡ writtenFile t
+        (listsOf (now (tags .entry)) (now («left_numbers» .entry)) (now («left_ends» .entry)) (now («left_items» .entry))
         (now («right_numbers» .entry)) (now («right_ends» .entry)) (now («right_items» .entry))) (now (file .entry)) ⌝ }
 {
     *answer = tag_writer::write_words(tag_writer::write(

@@ -9,57 +9,58 @@ use lib.ListN.{length, getD, drop, take}
 use borrow.Author.Tests.{ltb-true, lt-ltb}
 use Rattle.lists.proofs.Bools.{and-left, and-right, and-both}
 use Rattle.sets.specs.Collections.{contained}
+use Rattle.inputs.specs.Input.{Input, leftSets, rightSets}
 use Rattle.sets.proofs.Between.{length-sets}
 use Rattle.join_spec.specs.declared.Counts.{Counts}
 use Rattle.join_spec.specs.declared.JoinAnswer.{JoinAnswer}
 use Rattle.join_spec.specs.declared.JoinAnswer.the-variants.{Joined}
 use Rattle.join_spec.specs.PairList.{ontoPair, rowFrom, pairsFrom, pairCount}
-use Rattle.join_spec.specs.Answer.{pairsAfter}
-use Rattle.join_spec.proofs.Inputs.{Collections, Settings, leftsOf, rightsOf, answerOf}
+use Rattle.join_spec.specs.Query.{Settings}
+use Rattle.join_spec.specs.Answer.{Room, joinAnswer, pairsAfter}
 use Rattle.join_spec.proofs.Accepted.{accepted}
 use Rattle.join_spec.proofs.AcceptedRuns.{pairsOf, pairs-counted, filled-part}
 use Rattle.kitlist.specs.Places.{pairsWithin}
 
 module _ (m n : ℕ) where
-  row-within : (l r : ℕ) (left : List ℕ) (rights : List (List ℕ)) (rest : List ℕ) → l < m → r + length rights ≤ n
-      → pairsWithin m n rest ≡ true → pairsWithin m n (rowFrom l r left rights ++ rest) ≡ true
+  row-within : (l r : ℕ) (test : List ℕ → Bool) (rights : List (List ℕ)) (rest : List ℕ) → l < m → r + length rights ≤ n
+      → pairsWithin m n rest ≡ true → pairsWithin m n (rowFrom test l r rights ++ rest) ≡ true
   unfolding rowFrom pairsWithin
-  row-within l r left [] rest in-m in-n e = e
-  row-within l r left (right ∷ rights) rest in-m in-n e =
-      made (contained left right) (row-within l (suc r) left rights rest in-m (omega arith) e)
+  row-within l r test [] rest in-m in-n e = e
+  row-within l r test (right ∷ rights) rest in-m in-n e =
+      made (test right) (row-within l (suc r) test rights rest in-m (omega arith) e)
     where
-      made : (b : Bool) → pairsWithin m n (rowFrom l (suc r) left rights ++ rest) ≡ true
-          → pairsWithin m n (ontoPair b l r (rowFrom l (suc r) left rights) ++ rest) ≡ true
+      made : (b : Bool) → pairsWithin m n (rowFrom test l (suc r) rights ++ rest) ≡ true
+          → pairsWithin m n (ontoPair b l r (rowFrom test l (suc r) rights) ++ rest) ≡ true
       made true h = and-both (and-both (lt-ltb l m in-m) (lt-ltb r n (omega arith))) h
       made false h = h
 
   pairs-within : (l : ℕ) (lefts rights : List (List ℕ)) → l + length lefts ≤ m → length rights ≤ n
-      → pairsWithin m n (pairsFrom l lefts rights) ≡ true
+      → pairsWithin m n (pairsFrom contained l lefts rights) ≡ true
   unfolding pairsFrom pairsWithin
   pairs-within l [] rights in-m in-n = refl
   pairs-within l (left ∷ lefts) rights in-m in-n =
-      row-within l 0 left rights (pairsFrom (suc l) lefts rights) (omega arith) (omega arith)
+      row-within l 0 (contained left) rights (pairsFrom contained (suc l) lefts rights) (omega arith) (omega arith)
       (pairs-within (suc l) lefts rights (omega arith) in-n)
 
 -- the filled part of an accepted join's pair list
-module _ (c : Collections) (s : Settings) (counts : Counts) (joins : answerOf c s ≡ Joined counts) where
-  pub places-enough : 2 * counts .pairs ≤ s .room
+module _ (i : Input) (s : Settings) (room : Room) (counts : Counts) (joins : joinAnswer i s room ≡ Joined counts) where
+  pub places-enough : 2 * counts .pairs ≤ room .places
   places-enough =
-      let places : 2 * pairCount (leftsOf c) (rightsOf c) ≤ s .room = accepted c s counts joins .places in
-      let counted = pairs-counted c s counts joins in
+      let places : 2 * pairCount (leftSets i) (rightSets i) ≤ room .places = accepted i s room counts joins .places in
+      let counted = pairs-counted i s room counts joins in
       omega arith
 
-  pub places-within : (m n : ℕ) (before after : List ℕ) (answer : JoinAnswer) → length (c .leftEnds) ≡ m
-      → length (c .rightEnds) ≡ n
-      → answer ≡ answerOf c s → after ≡ pairsAfter answer (pairsOf c) before
+  pub places-within : (m n : ℕ) (before after : List ℕ) (answer : JoinAnswer) → length (i .left .ends) ≡ m
+      → length (i .right .ends) ≡ n
+      → answer ≡ joinAnswer i s room → after ≡ pairsAfter answer (pairsOf i) before
       → pairsWithin m n (take (2 * counts .pairs) after) ≡ true
   places-within m n before after answer left right same is =
-      let exit = is ∙ ap (λ (a : JoinAnswer). pairsAfter a (pairsOf c) before) same in
+      let exit = is ∙ ap (λ (a : JoinAnswer). pairsAfter a (pairsOf i) before) same in
       subst (λ (l : List ℕ). pairsWithin m n l ≡ true)
-      (sym (ap (take (2 * counts .pairs)) exit ∙ filled-part c s counts joins before))
-      (pairs-within m n 0 (leftsOf c) (rightsOf c)
-      (omega (arith, length-sets 0 (c .leftEnds) (c .leftItems)))
-      (omega (arith, length-sets 0 (c .rightEnds) (c .rightItems))))
+      (sym (ap (take (2 * counts .pairs)) exit ∙ filled-part i s room counts joins before))
+      (pairs-within m n 0 (leftSets i) (rightSets i)
+      (omega (arith, length-sets 0 (i .left .ends) (i .left .items)))
+      (omega (arith, length-sets 0 (i .right .ends) (i .right .items))))
 
 -- a pair of places at the front of what is left, and the rest
 pub record PairAt (m n : ℕ) (pairs : List ℕ) (i : ℕ) : Type 0 where

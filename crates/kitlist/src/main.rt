@@ -5,7 +5,6 @@ use join_spec::Counts;
 use join_spec::JoinAnswer;
 use join_spec::Rule;
 use sets::Refusal;
-use sets::Side;
 use tag_file::LoadAnswer;
 use tag_file::Loaded;
 ghost use mathlib.Core.Path.{_≡_};
@@ -22,10 +21,6 @@ const MAX_FILE: usize = 65536;
 // The depth limit of the join.
 const LIMIT: u32 = 2;
 
-fn print_number(n: usize) {
-    io::print_decimal(STDOUT, n as u64);
-}
-
 fn wide(x: u16) -> usize
     ensures { λ r. ⌜ r ≡ x ⌝ }
 {
@@ -33,47 +28,29 @@ fn wide(x: u16) -> usize
 }
 
 // A word before a number.
-fn print_count(word: &[u8], n: usize) {
+fn print_count(word: &[u8], n: u64) {
     io::write_all(STDOUT, word);
-    print_number(n);
+    io::print_decimal(STDOUT, n);
 }
 
-fn print_refused(number: usize, detail: usize) {
-    print_count(b"refused ", number);
-    print_count(b" ", detail);
-    io::write_all(STDOUT, b"\n");
-}
-
-fn print_bad_set(side: usize, place: usize) {
-    print_count(b"refused 5 ", side);
-    print_count(b" ", place);
-    io::write_all(STDOUT, b"\n");
-}
-
+// The number of a refusal and what returns with it: two numbers for a bad set, else one.
 fn print_refusal(why: Refusal) {
-    match why {
-        Refusal::Malformed(place) => print_refused(1, place),
-        Refusal::NumberUsed(place) => print_refused(2, place),
-        Refusal::TooMany(place) => print_refused(3, place),
-        Refusal::ShortOutput => print_refused(4, 0),
-        Refusal::BadSet(side, place) => match side {
-            Side::Left => print_bad_set(0, place),
-            Side::Right => print_bad_set(1, place),
-        },
-        Refusal::BadSettings => print_refused(6, 0),
-        Refusal::ShortWork => print_refused(7, 0),
-        Refusal::Spent => print_refused(8, 0),
-        Refusal::ShortPairs => print_refused(9, 0),
+    let head = sets::head_of(why);
+    print_count(b"refused ", head.number);
+    print_count(b" ", head.first);
+    if let Refusal::BadSet(_side, _place) = why {
+        print_count(b" ", head.second);
     }
+    io::write_all(STDOUT, b"\n");
 }
 
 fn print_counts(counts: Counts) {
-    print_count(b"pairs ", counts.pairs as usize);
-    print_count(b" path ", counts.by_path as usize);
-    print_count(b" confirmed ", counts.confirmed as usize);
-    print_count(b" checks ", counts.checks as usize);
-    print_count(b" dropped ", counts.dropped as usize);
-    print_count(b" false ", counts.false_drops as usize);
+    print_count(b"pairs ", counts.pairs as u64);
+    print_count(b" path ", counts.by_path as u64);
+    print_count(b" confirmed ", counts.confirmed as u64);
+    print_count(b" checks ", counts.checks as u64);
+    print_count(b" dropped ", counts.dropped as u64);
+    print_count(b" false ", counts.false_drops as u64);
     io::write_all(STDOUT, b"\n");
 }
 
@@ -81,8 +58,8 @@ fn print_counts(counts: Counts) {
 fn print_pair(left_numbers: &[u16], left: usize, right_numbers: &[u16], right: usize)
     requires { ⌜ (left < length (now «left_numbers»)) × (right < length (now «right_numbers»)) ⌝ }
 {
-    print_number(wide(left_numbers[left]));
-    print_count(b" ", wide(right_numbers[right]));
+    io::print_decimal(STDOUT, left_numbers[left] as u64);
+    print_count(b" ", right_numbers[right] as u64);
     io::write_all(STDOUT, b"\n");
 }
 
@@ -283,7 +260,7 @@ fn main() {
     let mut file = [0u8; 65537];
     let length = io::read_full(STDIN, &mut file);
     if MAX_FILE < length {
-        print_refused(7, 0);
+        print_refusal(Refusal::ShortWork);
     } else {
         list_file(&file[..length]);
     }

@@ -132,9 +132,6 @@ pub changed-none : (lo hi : ℕ) (w : List ℕ) → Changed lo hi w w
 changed-none lo hi w = record { size = refl; low = refl; high = refl }
 
 module _ {lo hi : ℕ} {w v : List ℕ} where
-  pub changed-then : {u : List ℕ} → Changed lo hi w v → Changed lo hi v u → Changed lo hi w u
-  changed-then c d = record { size = d .size ∙ c .size; low = d .low ∙ c .low; high = d .high ∙ c .high }
-
   pub changed-more : (from to : ℕ) → from ≤ lo → hi ≤ to → Changed lo hi w v → Changed from to w v
   changed-more from to low high c =
       record { size = c .size; low = frame-less from lo w v low (c .low); high = rest-more hi to w v high (c .high) }
@@ -152,9 +149,6 @@ module _ {lo hi : ℕ} {w v : List ℕ} where
 
   pub changed-at-high : (i : ℕ) → hi ≤ i → Changed lo hi w v → getD v i 0 ≡ getD w i 0
   changed-at-high i h c = rest-at 0 hi i w v h (c .high)
-
-  pub changed-slice-low : (f t : ℕ) → t ≤ lo → Changed lo hi w v → slice f t v ≡ slice f t w
-  changed-slice-low f t h c = frame-slice f t lo w v h (c .low)
 
   pub changed-slice-high : (f t : ℕ) → hi ≤ f → Changed lo hi w v → slice f t v ≡ slice f t w
   changed-slice-high f t h c = rest-slice hi f t w v h (c .high)

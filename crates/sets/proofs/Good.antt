@@ -3,9 +3,8 @@
 use mathlib.Core.Path.{_≡_, refl, sym, _∙_}
 use mathlib.Core.List.{List, [], _∷_}
 use mathlib.Core.Bool.{Bool, true, false, not, cond, _&&_, _||_}
-use Prim.Native.Nat.{ℕ, zero, suc, _+_, _-_, _<_, _≤_}
+use Prim.Native.Nat.{ℕ, suc, _+_, _-_, _<_, _≤_}
 use native.Mathlib.Numerals.{add-one}
-use native.Mathlib.Nat.{add-zero, zero-add}
 use native.Mathlib.Omega.{arith}
 use borrow.Author.Tests.{ltb-true, leb-true, leb-false, le-leb, lt-leb, not-false}
 use lib.Dec.{leb, ltb, lit≤}
@@ -143,21 +142,6 @@ module _ (T : ℕ) (ends items : List ℕ) (k start : ℕ) (below : k < length e
   pub good-next : firstBadFrom T (k + 1) (getD ends k 0) (drop (k + 1) ends) items ≡ Good
   good-next = rw (add-one k) (good-rest T k start (getD ends k 0) (drop (suc k) ends) items good-drop)
 
--- what holds at each place, the end before it being at the same place of the ends with 0 in front
-pub good-from : (T j start : ℕ) (ends items : List ℕ) → firstBadFrom T j start ends items ≡ Good → (k : ℕ) → k < length ends
-    → GoodSet T (j + k) (getD (start ∷ ends) k 0) (getD ends k 0) items
-good-from T j start [] items e k below = absurd (omega arith)
-good-from T j start (end ∷ ends) items e zero below = rw (add-zero j) (good-cons T j start end ends items e)
-good-from T j start (end ∷ ends) items e (suc k) below =
-    rw (shift j k) (good-from T (suc j) end ends items (good-rest T j start end ends items e) k (omega arith))
-  where
-    shift : (j k : ℕ) → j + suc k ≡ suc j + k
-    shift j k = omega arith
-
-pub good-at : (T : ℕ) (ends items : List ℕ) → firstBad T ends items ≡ Good → (k : ℕ) → k < length ends
-    → GoodSet T k (getD (0 ∷ ends) k 0) (getD ends k 0) items
-good-at T ends items e k below = rw (zero-add k) at (good-from T 0 0 ends items e k below)
-
 -- at most 4,096 sets
 good-places-from : (T j start : ℕ) (ends items : List ℕ) → firstBadFrom T j start ends items ≡ Good → j ≤ maxSets
     → j + length ends ≤ maxSets
@@ -178,19 +162,6 @@ last-above T j start (end ∷ ends) items e =
     let here = good-cons T j start end ends items e .ordered in
     let rest = last-above T (suc j) end ends items (good-rest T j start end ends items e) in
     omega arith
-
-end-below-last : (T j start : ℕ) (ends items : List ℕ) → firstBadFrom T j start ends items ≡ Good → (k : ℕ) → k < length ends
-    → getD ends k 0 ≤ lastEnd start ends
-unfolding lastEnd
-end-below-last T j start [] items e k below = absurd (omega arith)
-end-below-last T j start (end ∷ ends) items e zero below =
-    last-above T (suc j) end ends items (good-rest T j start end ends items e)
-end-below-last T j start (end ∷ ends) items e (suc k) below =
-    end-below-last T (suc j) end ends items (good-rest T j start end ends items e) k (omega arith)
-
-pub good-end-below : (T : ℕ) (ends items : List ℕ) → firstBad T ends items ≡ Good → (k : ℕ) → k < length ends
-    → getD ends k 0 ≤ entries ends
-good-end-below T ends items e k below = end-below-last T 0 0 ends items e k below
 
 pub record GoodEntries (last : ℕ) (items : List ℕ) : Type 0 where
   pub few : last ≤ maxEntries

@@ -11,6 +11,8 @@ pub mod Permutation
 pub mod Fresh
 -- sets in rank order
 pub mod Ordered
+-- containment
+pub mod Containment
 -- the one-pass test of a rising set
 pub mod Rises
 -- marks: what is dropped is not contained

@@ -2,20 +2,17 @@
 -- whether it is empty, and whether it is contained in another. All sets here have items below T.
 use Prim.Native.Nat.{ℕ, _<_}
 use mathlib.Core.Path.{_≡_, refl, sym, ap, subst, _∙_}
-use mathlib.Core.List.{List, [], _∷_}
-use mathlib.Core.Bool.{Bool, true, false, not, _&&_}
-use native.Mathlib.Omega.{arith}
+use mathlib.Core.List.{List, []}
+use mathlib.Core.Bool.{Bool, true, _&&_}
 use lib.Dec.{eqb, ltb, leb}
 use lib.ListN.{length, getD}
-use borrow.Author.Tests.{eqb-true, eq-eqb, ltb-true, lt-ltb, not-true}
-use Rattle.lists.specs.Lists.{one, all, any, count, memb, subset, distinct, upto, rising}
-use Rattle.lists.proofs.Bools.{and-left, and-right, and-both, true-false, same-test, refuted}
-use Rattle.lists.proofs.Membership.{memb-head, memb-nil}
+use borrow.Author.Tests.{eqb-true, eq-eqb, ltb-true, lt-ltb}
+use Rattle.lists.specs.Lists.{all, any, memb, subset, upto, rising}
+use Rattle.lists.proofs.Bools.{and-left, and-right, and-both, same-test}
 use Rattle.lists.proofs.Throughout.{all-elim, any-intro, any-elim, subset-elim, subset-intro, all-weaken}
-use Rattle.lists.proofs.Counting.{count-none, count-or, count-distinct}
-use Rattle.lists.proofs.Filtering.{length-keep, keep-none, memb-keep}
+use Rattle.lists.proofs.Filtering.{memb-keep}
 use Rattle.lists.proofs.Ranges.{memb-upto}
-use Rattle.lists.proofs.Rising.{rising-keep, rising-range, rising-distinct}
+use Rattle.lists.proofs.Rising.{rising-keep, rising-range}
 use Rattle.sets.specs.Limits.{maxSetLength}
 use Rattle.sets.specs.Collections.{setsOf, goodItems, firstBad}
 use Rattle.sets.specs.Ordered.{isPermutation, ordered}
@@ -46,10 +43,6 @@ unfolding ordered
 memb-ordered T ranks set r =
     memb-keep (λ r. any (λ i. eqb (getD ranks i 0) r) set) (upto T) r
     ∙ ap (λ (b : Bool). b && any (λ i. eqb (getD ranks i 0) r) set) (memb-upto T r)
-
-pub ordered-nil : (T : ℕ) (ranks : List ℕ) → ordered T ranks [] ≡ []
-unfolding ordered any
-ordered-nil T ranks = keep-none (λ (r : ℕ). any (λ (i : ℕ). eqb (getD ranks i 0) r) []) (upto T) (λ r. refl)
 
 module _ (T : ℕ) (ranks : List ℕ) (permutation : isPermutation T ranks ≡ true) where
   -- an item below T is in a set exactly when its rank is among the set's ranks
@@ -84,47 +77,3 @@ module _ (T : ℕ) (ranks : List ℕ) (permutation : isPermutation T ranks ≡ t
       let low : i < T = ltb-true i T (all-elim (λ (k : ℕ). ltb k T) a la i there) in
       subst (λ (k : ℕ). memb k (ordered T ranks b) ≡ true) (eqb-true (getD ranks i 0) r e)
       (rank-there b i low (subset-elim a b s i there)))))
-
-  -- a set that isn't empty has a rank
-  pub ordered-cons : (x : ℕ) (set : List ℕ) → x < T → ordered T ranks (x ∷ set) ≡ [] → ⊥
-  ordered-cons x set h e =
-      memb-nil (getD ranks x 0)
-      (subst (λ (l : List ℕ). memb (getD ranks x 0) l ≡ true) e (rank-there (x ∷ set) x h (memb-head x set)))
-
-  -- no item of a set without x has the rank of x
-  rank-elsewhere : (x : ℕ) (set : List ℕ) → x < T → below T set ≡ true → memb x set ≡ false
-      → (r : ℕ) → eqb (getD ranks x 0) r ≡ true → any (λ i. eqb (getD ranks i 0) r) set ≡ false
-  rank-elsewhere x set h b absent r e =
-      refuted (any (λ i. eqb (getD ranks i 0) r) set) (λ a.
-      any-elim (λ (i : ℕ). eqb (getD ranks i 0) r) set a (λ i there k.
-      let low : i < T = ltb-true i T (all-elim (λ (k : ℕ). ltb k T) set b i there) in
-      let same : getD ranks i 0 ≡ getD ranks x 0 = eqb-true (getD ranks i 0) r k ∙ sym (eqb-true (getD ranks x 0) r e) in
-      let alike = permutation-injective T ranks permutation i x low h same in
-      true-false (subst (λ (k : ℕ). memb k set ≡ true) alike there) absent))
-
-  ranks-counted : (set : List ℕ) → below T set ≡ true → distinct set ≡ true
-      → count (λ r. any (λ i. eqb (getD ranks i 0) r) set) (upto T) ≡ length set
-  unfolding any distinct all
-  ranks-counted [] b d = count-none (λ (r : ℕ). any (λ (i : ℕ). eqb (getD ranks i 0) r) []) (upto T) (λ r. refl)
-  ranks-counted (x ∷ set) b d =
-      let low : x < T = ltb-true x T (and-left (ltb x T) (below T set) b) in
-      let absent : memb x set ≡ false = not-true (memb x set) (and-left (not (memb x set)) (distinct set) d) in
-      let below-rest = and-right (ltb x T) (below T set) b in
-      let apart = count-or (λ (r : ℕ). eqb (getD ranks x 0) r) (λ (r : ℕ). any (λ i. eqb (getD ranks i 0) r) set) (upto T)
-      (rank-elsewhere x set low below-rest absent) in
-      let first = count-distinct (getD ranks x 0) (upto T) (rising-distinct (upto T) (rising-range 0 T)) in
-      let there : memb (getD ranks x 0) (upto T) ≡ true =
-      memb-upto T (getD ranks x 0) ∙ lt-ltb (getD ranks x 0) T (permutation-below T ranks permutation x low) in
-      let rest = ranks-counted set below-rest (and-right (not (memb x set)) (distinct set) d) in
-      let single : one (memb (getD ranks x 0) (upto T)) ≡ 1 = ap one there in
-      omega (arith, apart, first, rest, single)
-
-  -- a set without repeats has as many ranks as items
-  pub length-ordered-distinct : (set : List ℕ) → below T set ≡ true → distinct set ≡ true
-      → length (ordered T ranks set) ≡ length set
-  unfolding ordered
-  length-ordered-distinct set b d =
-      length-keep (λ (r : ℕ). any (λ (i : ℕ). eqb (getD ranks i 0) r) set) (upto T) ∙ ranks-counted set b d
-
-  pub length-ordered : (set : List ℕ) → below T set ≡ true → rising set ≡ true → length (ordered T ranks set) ≡ length set
-  length-ordered set b r = length-ordered-distinct set b (rising-distinct set r)

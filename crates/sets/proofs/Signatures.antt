@@ -6,14 +6,13 @@ use mathlib.Core.List.{List, [], _∷_, map}
 use mathlib.Core.Bool.{true, false, not}
 use native.Mathlib.Omega.{arith}
 use lib.Arith.{bin-ind}
-use lib.Bits.{bitAnd, bitOr, and-step, or-step, and-self, or-comm, or-lt}
-use lib.Pow.{pow-lt}
+use lib.Bits.{bitAnd, bitOr, and-step, or-step, and-self, or-comm}
 use borrow.Author.Tests.{eq-eqb}
 use Rattle.lists.specs.Lists.{memb}
 use Rattle.lists.proofs.Membership.{memb-head, memb-tail, memb-cons, memb-nil}
-use Rattle.lists.proofs.Throughout.{subset-elim}
 use Rattle.sets.specs.Collections.{contained}
 use Rattle.sets.specs.Signatures.{position, signatureFrom, signature, drops}
+use Rattle.sets.proofs.Containment.{contained-elim}
 
 -- the digits of a covered word
 covered-digits : (a b : ℕ) → bitAnd a b ≡ a → (bitAnd (a / 2) (b / 2) ≡ a / 2) × (min (a % 2) (b % 2) ≡ a % 2)
@@ -84,21 +83,12 @@ contained-not-dropped left right h =
     ap not
     (eq-eqb (bitAnd (signature left) (signature right)) (signature left)
     (signature-covered 0 left (signature right) refl
-    (λ k there. signature-covers-item 0 right k (subset-elim left right h k there))))
+    (λ k there. signature-covers-item 0 right k (contained-elim left right h k there))))
 
--- a signature is a 64-bit word
+-- the position is a place in a 64-bit word
 pub position-bound : (k : ℕ) → position k < 64
 unfolding position
 position-bound k = omega arith
-
-pub signatureFrom-bound : (m : ℕ) (set : List ℕ) → m < 2 ^ 64 → signatureFrom m set < 2 ^ 64
-unfolding signatureFrom
-signatureFrom-bound m [] h = h
-signatureFrom-bound m (k ∷ ks) h =
-    signatureFrom-bound (bitOr m (2 ^ position k)) ks (or-lt 64 m (2 ^ position k) h (pow-lt (position-bound k)))
-
-pub signature-bound : (set : List ℕ) → signature set < 2 ^ 64
-signature-bound set = signatureFrom-bound 0 set (omega arith)
 
 -- the positions of the first eight items and of three later ones, computed
 pub some-positions : map position (0 ∷ 1 ∷ 2 ∷ 3 ∷ 4 ∷ 5 ∷ 6 ∷ 7 ∷ 161 ∷ 256 ∷ 4095 ∷ [])

@@ -23,6 +23,14 @@ setsFrom start (end ∷ ends) items = between start end items ∷ setsFrom end e
 abbrev pub setsOf : List ℕ → List ℕ → List (List ℕ)
 setsOf ends items = setsFrom 0 ends items
 
+-- a collection as it is lent
+pub record Collection : Type 0 where
+  pub ends : List ℕ
+  pub items : List ℕ
+
+abbrev pub setsIn : Collection → List (List ℕ)
+setsIn c = setsOf (c .ends) (c .items)
+
 -- whether the items of one set are in order: not too many, each below T, strictly rising
 abbrev pub goodItems : ℕ → List ℕ → Bool
 goodItems T set = leb (length set) maxSetLength && (all (λ i. ltb i T) set && rising set)
@@ -55,6 +63,6 @@ lastEnd start (end ∷ ends) = lastEnd end ends
 abbrev pub entries : List ℕ → ℕ
 entries ends = lastEnd 0 ends
 
--- a left set is contained in a right set when every item of it is there
-abbrev pub contained : List ℕ → List ℕ → Bool
+-- a left set is contained in a right set when every item of it is there; closed, so that callers use its laws
+unfoldable pub contained : List ℕ → List ℕ → Bool
 contained left right = subset left right

@@ -1,5 +1,5 @@
 -- The limits of document 01, one name each; `MAX_..` in the code.
-use Prim.Native.Nat.{ℕ}
+use Prim.Native.Nat.{ℕ, _*_}
 
 -- the greatest count of items, T
 abbrev pub maxItems : ℕ
@@ -8,6 +8,10 @@ maxItems = 4096
 -- the greatest number of sets in a collection
 abbrev pub maxSets : ℕ
 maxSets = 4096
+
+-- the greatest number of pairs of a left and a right set
+abbrev pub maxPairs : ℕ
+maxPairs = maxSets * maxSets
 
 -- the greatest number of item entries in a collection
 abbrev pub maxEntries : ℕ
@@ -24,3 +28,7 @@ maxLimit = 255
 -- how many numbers a 16-bit list can hold: 0 .. 65,535
 abbrev pub halfWords : ℕ
 halfWords = 65536
+
+-- how many numbers a 32-bit list can hold: 0 .. 4,294,967,295
+abbrev pub fullWords : ℕ
+fullWords = 4294967296

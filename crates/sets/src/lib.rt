@@ -147,6 +147,17 @@ fn rises_below(t: u32, start: usize, end: usize, items: &[u16]) -> bool
     true
 }
 
+// Whether the items of a part can be those of a set: not too many, each below t, strictly rising.
+pub fn good_items(t: u32, start: usize, end: usize, items: &[u16]) -> bool
+    requires { ⌜ (start ≤ end) × (end ≤ length (now items)) ⌝ }
+    ensures { λ r. ⌜ r ≡ goodItems t (between start end (now (items .entry))) ⌝ }
+{
+    if MAX_SET_LENGTH < end - start {
+        return false;
+    }
+    rises_below(t, start, end, items)
+}
+
 // Whether a set is in order, given the end before it and its own.
 fn good_set(t: u32, start: usize, end: usize, items: &[u16]) -> bool
     ensures { λ r. ⌜ r ≡ (goodEnd start end (now (items .entry)) && goodItems t (between start end (now (items .entry)))) ⌝ }
@@ -160,10 +171,7 @@ fn good_set(t: u32, start: usize, end: usize, items: &[u16]) -> bool
     if items.len() < end {
         return false;
     }
-    if MAX_SET_LENGTH < end - start {
-        return false;
-    }
-    rises_below(t, start, end, items)
+    good_items(t, start, end, items)
 }
 
 // The first bad set of a collection.

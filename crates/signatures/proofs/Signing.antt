@@ -17,7 +17,7 @@ use Rattle.sets.specs.Collections.{between}
 use Rattle.sets.specs.Signatures.{position, signatureFrom}
 use Rattle.sets.proofs.Between.{between-cons, between-nil}
 use Rattle.sets.proofs.Signatures.{position-bound}
-use Rattle.signatures.specs.Signing.{Positions, ItemsRoom, Stored}
+use Rattle.signatures.specs.Signing.{Positions, ItemsRoom, DoubleStored}
 
 -- the next power mod 257
 three-mod : (x : ℕ) → x * 3 % 257 ≡ x % 257 * 3 % 257
@@ -29,21 +29,21 @@ power-next : (k : ℕ) → 3 ^ k % 257 * 3 % 257 ≡ 3 ^ (k + 1) % 257
 power-next k = sym (three-mod (3 ^ k)) ∙ sym (ap (λ (x : ℕ). x % 257) (ap (λ (j : ℕ). 3 ^ j) (add-one k) ∙ pow-suc 3 k))
 
 -- the bits of the first k items are in the table, and the next power is known
-pub record PositionsLeft (was is : List ℕ) (power k end : ℕ) : Type 0 where
+pub record PositionsFilling (was is : List ℕ) (power k end : ℕ) : Type 0 where
   pub place : k ≤ end
   pub all : end ≡ length was
   pub size : length is ≡ length was
   pub next : power ≡ 3 ^ k % 257
   pub bits : (j : ℕ) → j < k → getD is j 0 ≡ position j
 
-pub positions-start : (table : List ℕ) → PositionsLeft table table 1 0 (length table)
+pub positions-start : (table : List ℕ) → PositionsFilling table table 1 0 (length table)
 positions-start table =
     record { place = omega arith; all = refl; size = refl; next = refl; bits = λ j below. absurd (omega arith) }
 
-pub positions-step : (was is : List ℕ) (power k end : ℕ) → PositionsLeft was is power k end → k < end
-    → PositionsLeft was (set is k (power % 64)) (power * 3 % 257) (k + 1) end
+pub positions-step : {was is : List ℕ} {power k end : ℕ} → PositionsFilling was is power k end → k < end
+    → PositionsFilling was (set is k (power % 64)) (power * 3 % 257) (k + 1) end
 unfolding position
-positions-step was is power k end p below =
+positions-step {was} {is} {power} {k} {end} p below =
     record {
       place = omega arith;
       all = p .all;
@@ -60,25 +60,25 @@ positions-step was is power k end p below =
           getD-set-other is k j (power % 64) 0 other ∙ p .bits j (omega arith));
     }
 
-pub positions-end : (was is : List ℕ) (power k end : ℕ) → PositionsLeft was is power k end → end ≤ k → Positions is
-positions-end was is power k end p past item below = p .bits item (omega (arith, p .all, p .size))
+pub positions-end : {was is : List ℕ} {power k end : ℕ} → PositionsFilling was is power k end → end ≤ k → Positions is
+positions-end p past item below = p .bits item (omega (arith, p .all, p .size))
 
 -- one item more
-module _ (start end : ℕ) (items table : List ℕ) (room : ItemsRoom start end items table) (i : ℕ) (low : start ≤ i)
+module _ {start end : ℕ} {items table : List ℕ} (room : ItemsRoom start end items table) (i : ℕ) (low : start ≤ i)
     (below : i < end) where
-  pub bit-is : getD table (getD items i 0) 0 ≡ position (getD items i 0)
+  bit-is : getD table (getD items i 0) 0 ≡ position (getD items i 0)
   bit-is = room .bits (getD items i 0) (room .below i low below)
 
   pub bit-below : getD table (getD items i 0) 0 < 64
   bit-below = omega (arith, bit-is, position-bound (getD items i 0))
 
   pub sign-step : (mark : ℕ)
-      → signatureFrom (bitOr mark (1 * 2 ^ getD table (getD items i 0) 0 % 18446744073709551616)) (between (i + 1) end items)
+      → signatureFrom (bitOr mark (1 * 2 ^ getD table (getD items i 0) 0 % 2 ^ 64)) (between (i + 1) end items)
       ≡ signatureFrom mark (between i end items)
   unfolding signatureFrom
   sign-step mark =
       let bit = position (getD items i 0) in
-      let exact : 1 * 2 ^ bit % 18446744073709551616 ≡ 2 ^ bit =
+      let exact : 1 * 2 ^ bit % 2 ^ 64 ≡ 2 ^ bit =
       shl-exact 1 bit 64 (lit< tt) (omega (arith, position-bound (getD items i 0))) ∙ one-mul (2 ^ bit)
       in
       rw (bit-is, exact, between-cons i end items below (room .within))
@@ -89,10 +89,10 @@ sign-end end i mark items past = rw (between-nil i end items past)
 
 -- a number in two words
 pub stored-words : (w : List ℕ) (at number : ℕ) → at + 2 ≤ length w
-    → Stored at number w (set (set w at (number % 4294967296)) (at + 1) (number / 4294967296))
+    → DoubleStored at number w (set (set w at (number % 2 ^ 32)) (at + 1) (number / 2 ^ 32))
 stored-words w at number room =
-    let low = number % 4294967296 in
-    let high = number / 4294967296 in
+    let low = number % 2 ^ 32 in
+    let high = number / 2 ^ 32 in
     let first : getD (set (set w at low) (at + 1) high) at 0 ≡ low =
     getD-set-other (set w at low) (at + 1) at high 0 (λ e. omega arith) ∙ getD-set-same w at low 0 (omega arith)
     in

@@ -17,7 +17,7 @@ use Rattle.sets.specs.Signatures.{signature}
 use Rattle.sets.specs.declared.Verdict.the-variants.{Good}
 use Rattle.sets.proofs.Between.{length-sets}
 use Rattle.sets.proofs.Good.{set-item, good-step, good-next}
-use Rattle.signatures.specs.Signing.{double, ItemsRoom, Stored, SigningRoom, Signed, BothRoom, BothSigned}
+use Rattle.signatures.specs.Signing.{double, ItemsRoom, DoubleStored, SigningRoom, Signed, BothRoom, BothSigned}
 
 -- two words below a place up to which nothing changed
 pub double-stays : (n i : ℕ) (was is : List ℕ) → take n is ≡ take n was → i + 2 ≤ n → double is i ≡ double was i
@@ -26,15 +26,15 @@ double-stays n i was is frame below =
     (frame-at 0 (i + 1) n was is (omega arith) frame)
 
 -- the signatures of the first k sets are written; the others begin at start
-pub record SigningLeft (at : ℕ) (ends items table was is : List ℕ) (start k : ℕ) : Type 0 where
+pub record SetsSigning (at : ℕ) (ends items table was is : List ℕ) (start k : ℕ) : Type 0 where
   pub signed : Signed at k (setsOf ends items) was is
   pub good : firstBadFrom (length table) k start (drop k ends) items ≡ Good
   pub sets : setsFrom start (drop k ends) items ≡ drop k (setsOf ends items)
   pub place : k ≤ length ends
 
-pub signing-start : (at : ℕ) (ends items table w : List ℕ) → SigningRoom at ends items table w
-    → SigningLeft at ends items table w w 0 0
-signing-start at ends items table w room =
+pub signing-start : {at : ℕ} {ends items table w : List ℕ} → SigningRoom at ends items table w
+    → SetsSigning at ends items table w w 0 0
+signing-start room =
     record {
       signed = record { frame = refl; size = refl; signatures = λ k below. absurd (omega arith) };
       good = room .good;
@@ -42,11 +42,11 @@ signing-start at ends items table w room =
       place = omega arith;
     }
 
-module _ (at : ℕ) (ends items table was is : List ℕ) (start k : ℕ) (room : SigningRoom at ends items table was)
-    (left : SigningLeft at ends items table was is start k) (below : k < length ends) where
+module _ {at : ℕ} {ends items table was is : List ℕ} {start k : ℕ} (room : SigningRoom at ends items table was)
+    (signing : SetsSigning at ends items table was is start k) (below : k < length ends) where
   pub signing-items : ItemsRoom start (getD ends k 0) items table
   signing-items =
-      let here = good-step (length table) ends items k start below (left .good) in
+      let here = good-step (length table) ends items k start below (signing .good) in
       record {
         within = here .within;
         below = λ i low high. set-item (length table) start (getD ends k 0) items k here i low high;
@@ -56,7 +56,7 @@ module _ (at : ℕ) (ends items table was is : List ℕ) (start k : ℕ) (room :
   sets-here : drop k (setsOf ends items)
       ≡ between start (getD ends k 0) items ∷ setsFrom (getD ends k 0) (drop (suc k) ends) items
   unfolding setsFrom
-  sets-here = sym (left .sets) ∙ ap (λ (l : List ℕ). setsFrom start l items) (drop-cons ends k 0 below)
+  sets-here = sym (signing .sets) ∙ ap (λ (l : List ℕ). setsFrom start l items) (drop-cons ends k 0 below)
 
   pub set-here : getD (setsOf ends items) k [] ≡ between start (getD ends k 0) items
   set-here =
@@ -70,14 +70,14 @@ module _ (at : ℕ) (ends items table was is : List ℕ) (start k : ℕ) (room :
       ∙ sym (ap (λ (l : List (List ℕ)). drop 1 l) sets-here)
       ∙ drop-drop 1 k (setsOf ends items)
 
-  pub signing-step : (next : List ℕ) (mark : ℕ) → mark ≡ signature (between start (getD ends k 0) items)
-      → Stored (at + 2 * k) mark is next → SigningLeft at ends items table was next (getD ends k 0) (k + 1)
-  signing-step next mark e stored =
+  pub signing-step : {next : List ℕ} {mark : ℕ} → mark ≡ signature (between start (getD ends k 0) items)
+      → DoubleStored (at + 2 * k) mark is next → SetsSigning at ends items table was next (getD ends k 0) (k + 1)
+  signing-step {next} {mark} e stored =
       record {
         signed =
             record {
-              frame = frame-less at (at + 2 * k) is next (omega arith) (stored .frame) ∙ left .signed .frame;
-              size = stored .size ∙ left .signed .size;
+              frame = frame-less at (at + 2 * k) is next (omega arith) (stored .frame) ∙ signing .signed .frame;
+              size = stored .size ∙ signing .signed .size;
               signatures = λ j h.
                   by-test (eqb j k)
                   (λ same.
@@ -87,26 +87,26 @@ module _ (at : ℕ) (ends items table was is : List ℕ) (start k : ℕ) (room :
                   (λ differ.
                   let other : j ≢ k = eqb-false j k differ in
                   double-stays (at + 2 * k) (at + 2 * j) is next (stored .frame) (omega arith)
-                  ∙ left .signed .signatures j (omega arith));
+                  ∙ signing .signed .signatures j (omega arith));
             };
-        good = good-next (length table) ends items k start below (left .good);
+        good = good-next (length table) ends items k start below (signing .good);
         sets = sets-next;
         place = omega arith;
       }
 
-pub signing-end : (at : ℕ) (ends items table was is : List ℕ) (start k : ℕ) → SigningLeft at ends items table was is start k
+pub signing-end : {at : ℕ} {ends items table was is : List ℕ} {start k : ℕ} → SetsSigning at ends items table was is start k
     → length ends ≤ k → Signed at (length ends) (setsOf ends items) was is
-signing-end at ends items table was is start k left past =
-    let here : k ≡ length ends = omega (arith, left .place) in
-    subst (λ (n : ℕ). Signed at n (setsOf ends items) was is) here (left .signed)
+signing-end {at} {ends} {items} {table} {was} {is} {start} {k} signing past =
+    let here : k ≡ length ends = omega (arith, signing .place) in
+    subst (λ (n : ℕ). Signed at n (setsOf ends items) was is) here (signing .signed)
 
 -- the right sets first, the left sets above them
-pub both-signed : (T right left : ℕ) (rightEnds rightItems leftEnds leftItems w v u : List ℕ)
+pub both-signed : {T right left : ℕ} {rightEnds rightItems leftEnds leftItems w v u : List ℕ}
     → BothRoom T right left rightEnds rightItems leftEnds leftItems w
     → Signed right (length rightEnds) (setsOf rightEnds rightItems) w v
     → Signed left (length leftEnds) (setsOf leftEnds leftItems) v u
     → BothSigned right left (setsOf rightEnds rightItems) (setsOf leftEnds leftItems) w u
-both-signed T right left rightEnds rightItems leftEnds leftItems w v u room low high =
+both-signed {T} {right} {left} {rightEnds} {rightItems} {leftEnds} {leftItems} {w} {v} {u} room low high =
     record {
       frame = frame-less right left v u (omega (arith, room .above)) (high .frame) ∙ low .frame;
       size = high .size ∙ low .size;

@@ -1,4 +1,5 @@
--- What the loops that make the signatures need and leave: a table of the items' bits, and for each set two words, low then high.
+-- Inner: what the loops that make the signatures need and leave. A table of the items' bits, and for each set two words, low then
+-- high.
 use Prim.Native.Nat.{ℕ, _+_, _*_, _^_, _≤_, _<_}
 use mathlib.Core.Path.{_≡_}
 use mathlib.Core.List.{List, []}
@@ -23,7 +24,7 @@ abbrev pub double : List ℕ → ℕ → ℕ
 double w i = getD w i 0 + 2 ^ 32 * getD w (i + 1) 0
 
 -- w became w′: from at on the number stands in two words, and nothing below changed
-pub record Stored (at number : ℕ) (w w′ : List ℕ) : Type 0 where
+pub record DoubleStored (at number : ℕ) (w w′ : List ℕ) : Type 0 where
   pub frame : take at w′ ≡ take at w
   pub size : length w′ ≡ length w
   pub is : double w′ at ≡ number

@@ -4,10 +4,17 @@
 ghost use mathlib.Core.Path.{_≡_};
 ghost use Prim.Native.Nat.{_+_, _≤_};
 ghost use lib.ListN.{length};
+ghost use Rattle.sets.specs.Limits.{maxItems};
 ghost use Rattle.sets.specs.Collections.{between, setsOf};
 ghost use Rattle.sets.specs.Signatures.{signature};
-ghost use Rattle.signatures.specs.Signing.{Positions, ItemsRoom, double, Stored, SigningRoom};
+ghost use Rattle.signatures.specs.Signing.{Positions, ItemsRoom, double, DoubleStored, SigningRoom};
 ghost use Rattle.signatures.specs.Signing.{Signed, BothRoom, BothSigned};
+use sets::MAX_ITEMS;
+
+// How many numbers a word of the work list can hold.
+const WORDS: u64 = 4294967296;
+// The table has room for every item.
+const ITEMS: usize = MAX_ITEMS as usize;
 
 // The bits of the items: (3^k mod 257) mod 64.
 fn fill_positions(table: &mut [u8])
@@ -39,10 +46,10 @@ fn sign_set(items: &[u16], table: &[u8], start: usize, end: usize) -> u64
 // A number of 64 bits in two words.
 fn store_double(work: &mut [u32], at: usize, number: u64)
     requires { ⌜ at + 2 ≤ length (now work) ⌝ }
-    ensures { λ _. ⌜ Stored at number (now (work .entry)) (now (work .exit)) ⌝ }
+    ensures { λ _. ⌜ DoubleStored at number (now (work .entry)) (now (work .exit)) ⌝ }
 {
-    work[at] = (number % 4294967296) as u32;
-    work[at + 1] = (number / 4294967296) as u32;
+    work[at] = (number % WORDS) as u32;
+    work[at + 1] = (number / WORDS) as u32;
 }
 
 // The number that stands in two words.
@@ -52,7 +59,7 @@ pub fn double_at(work: &[u32], at: usize) -> u64
 {
     let low = work[at] as u64;
     let high = work[at + 1] as u64;
-    low + 4294967296 * high
+    low + WORDS * high
 }
 
 // The signatures of a collection.
@@ -91,10 +98,10 @@ fn sign_both(
     sign_sets(work, left_ends, left_items, table, left_at);
 }
 
-fn empty_table() -> [u8; 4096]
-    ensures { λ r. ⌜ 4096 ≡ length r ⌝ }
+fn empty_table() -> [u8; ITEMS]
+    ensures { λ r. ⌜ maxItems ≡ length r ⌝ }
 {
-    [0u8; 4096]
+    [0u8; ITEMS]
 }
 
 // The same over t items, with a table of their bits.

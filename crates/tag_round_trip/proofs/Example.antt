@@ -11,7 +11,6 @@ use Rattle.tag_file.specs.Reading.{readAt, tagsAt}
 use Rattle.tag_file.specs.Records.{records, recordsFrom, insert, insertAll, allTags, itemsOf}
 use Rattle.tag_file.specs.Loading.{filled, fileFault, firstFault, faultOf, tooMany, endsFrom, join}
 use Rattle.tag_writer.specs.Writer.{recordsOf, fileBytes}
-use Rattle.tag_round_trip.specs.Rewritten.{bytesOfLists}
 
 -- a tag: eleven zero bytes and the one shown
 tag : ℕ → List ℕ
@@ -30,7 +29,7 @@ unfolding file tag fileFault firstFault faultOf tooMany readAt tagsAt recordsFro
     keep memb sum any prefix
 example-accepted = refl
 
-example-written : bytesOfLists (filled (records file)) ≡ rewritten-file
+example-written : fileBytes (filled (records file)) ≡ rewritten-file
 unfolding file tag rewritten-file readAt tagsAt recordsFrom valueFrom insert insertAll allTags itemsOf
     keep memb range prefix endsFrom join setsFrom tagBytes bytesOf recordsOf fileBytes
 example-written = refl

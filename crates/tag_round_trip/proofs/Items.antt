@@ -21,7 +21,7 @@ use Rattle.tag_file.specs.Format.{tagBytes}
 use Rattle.tag_file.specs.Records.{collapse, itemsOf}
 use Rattle.tag_file.proofs.Tables.{memb-collapse}
 use Rattle.tag_file.proofs.ItemCount.{keep-collapse, item-count}
-use Rattle.tag_writer.specs.Writer.{tagOf, tagsOf}
+use Rattle.tag_writer.specs.Writer.{itemTag, itemTags}
 use Rattle.tag_round_trip.proofs.Sorted.{length-collapse}
 use Rattle.tag_round_trip.proofs.Values.{tagsFit, tagAt-table}
 
@@ -62,9 +62,9 @@ module _ (table tags : List ℕ) (r : rising table ≡ true) (sub : subset tags 
       map-keep (λ i. getD table i 0) (λ t. memb t tags) (upto (length table))
       ∙ ap (keep (λ t. memb t tags)) (map-upto table) ∙ keep-collapse table tags r (subset-elim tags table sub)
 
-  pub tags-of-items : tagsFit table ≡ true → tagsOf (tagBytes table) (itemsOf table tags) ≡ collapse tags
+  pub tags-of-items : tagsFit table ≡ true → itemTags (tagBytes table) (itemsOf table tags) ≡ collapse tags
   tags-of-items fit =
-      map-agree (tagOf (tagBytes table)) (λ i. getD table i 0) (itemsOf table tags)
+      map-agree (itemTag (tagBytes table)) (λ i. getD table i 0) (itemsOf table tags)
       (λ i there.
       tagAt-table table i fit
       (ltb-true i (length table) (all-elim _ (itemsOf table tags) (items-below table tags) i there)))

@@ -4,7 +4,7 @@ use Prim.Native.Nat.{ℕ, suc, _+_, _≤_}
 use mathlib.Core.List.{List, [], _∷_, _++_, map, append-assoc}
 use mathlib.Core.Bool.{true, _||_}
 use native.Mathlib.Omega.{arith}
-use borrow.Author.Tests.{le-leb, leb-true, eq-eqb}
+use borrow.Author.Tests.{le-leb, leb-true}
 use lib.Dec.{leb}
 use lib.ListN.{length, length-append, length-map}
 use Rattle.lists.specs.Lists.{all, memb, rising, subset}
@@ -17,6 +17,7 @@ use Rattle.sets.specs.Collections.{between, setsOf, goodItems, goodEnd, firstBa
 use Rattle.sets.specs.declared.Side.{Side}
 use Rattle.sets.specs.declared.Side.the-variants.{Left, Right}
 use Rattle.sets.specs.declared.Verdict.the-variants.{Good}
+use Rattle.sets.specs.declared.Tested.the-variants.{Passed}
 use Rattle.sets.proofs.Good.{not-bad}
 use Rattle.tag_file.specs.Format.{tagBytes}
 use Rattle.tag_file.specs.Records.{TagRecord, sameSide, ofSide, collapse, allTags, tagTable, itemsOf, entriesOf, setsOfSide}
@@ -24,7 +25,8 @@ use Rattle.tag_file.specs.Loading.{endsFrom, join, numbersOf, endsOf, joinedIte
 use Rattle.tag_file.proofs.Tables.{rising-collapse, memb-collapse}
 use Rattle.tag_file.proofs.RecordLaws.{same-side}
 use Rattle.tag_file.proofs.ItemCount.{length-numbersOf, length-endsOf, length-joinedItems}
-use Rattle.tag_writer.specs.Writer.{tagsOf, sideVerdict}
+use Rattle.tag_writer.specs.Writer.{itemTags, sideTest}
+use Rattle.tag_writer.proofs.Tests.{side-even}
 use Rattle.tag_round_trip.specs.Rewritten.{sideRecords, recordsOfLists, collapsed, collapsedSide, rewritten}
 use Rattle.tag_round_trip.proofs.Decoding.{between-joined, sets-joined}
 use Rattle.tag_round_trip.proofs.Items.{tags-of-items, items-good}
@@ -56,7 +58,7 @@ module _ (side : Side) (table : List ℕ) (r : rising table ≡ true) where
   sides-records fit (s ∷ rs) own sub =
       let same = and-left (sameSide side (s .side)) (all (λ r. sameSide side (r .side)) rs) own in
       let e : side ≡ s .side = same-side side (s .side) same in
-      let t : tagsOf (tagBytes table) (itemsOf table (s .tags)) ≡ collapse (s .tags) =
+      let t : itemTags (tagBytes table) (itemsOf table (s .tags)) ≡ collapse (s .tags) =
       tags-of-items table (s .tags) r (and-left (subset (s .tags) table) (all (λ r. subset (r .tags) table) rs) sub) fit in
       let rest = sides-records fit rs (and-right (sameSide side (s .side)) (all (λ r. sameSide side (r .side)) rs) own)
       (and-right (subset (s .tags) table) (all (λ r. subset (r .tags) table) rs) sub) in
@@ -113,7 +115,7 @@ module _ (rs : List TagRecord) where
 
   pub side-good : (side : Side) → all (λ r. leb (length (r .tags)) maxSetLength) rs ≡ true → length (ofSide side rs) ≤ maxSets
       → entriesOf side rs ≤ maxEntries
-      → sideVerdict (length (tagTable rs)) (numbersOf side rs) (endsOf side rs) (joinedItems side rs) ≡ Good
+      → sideTest (length (tagTable rs)) side (numbersOf side rs) (endsOf side rs) (joinedItems side rs) ≡ Passed
   side-good side few places entries =
       let table = tagTable rs in
       let sets = setsOfSide side table rs in
@@ -126,7 +128,7 @@ module _ (rs : List TagRecord) where
       (all-keep (λ r. leb (length (r .tags)) maxSetLength) (λ r. sameSide side (r .side)) rs few)) in
       let numbered : length (numbersOf side rs) ≡ length (endsOf side rs) =
       length-numbersOf side rs ∙ sym (length-endsOf side rs) in
-      rw (good, eq-eqb (length (numbersOf side rs)) (length (endsOf side rs)) numbered)
+      sym (side-even (length table) side (numbersOf side rs) (endsOf side rs) (joinedItems side rs) good numbered)
 
   pub lists-records : tagsFit (tagTable rs) ≡ true → recordsOfLists (filled rs) ≡ rewritten rs
   unfolding rewritten

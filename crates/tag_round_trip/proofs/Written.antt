@@ -16,8 +16,8 @@ use Rattle.tag_file.specs.Reading.{readAt}
 use Rattle.tag_file.specs.Records.{TagRecord, totalLength, records}
 use Rattle.tag_file.specs.Loading.{Lists}
 use Rattle.tag_file.specs.declared.ReadAnswer.the-variants.{NoMore}
-use Rattle.tag_writer.specs.Writer.{tagsOf, recordsOf, fileBytes}
-use Rattle.tag_round_trip.specs.Rewritten.{bytesOfRecords, sideRecords, recordsOfLists, bytesOfLists}
+use Rattle.tag_writer.specs.Writer.{itemTags, recordsOf, fileBytes}
+use Rattle.tag_round_trip.specs.Rewritten.{bytesOfRecords, sideRecords, recordsOfLists}
 use Rattle.tag_round_trip.proofs.Values.{tagsFit, tagAt-bound}
 use Rattle.tag_round_trip.proofs.Printing.{recordsFit, records-bytes, read-past}
 
@@ -36,20 +36,20 @@ side-bytes side tags (number ∷ numbers) [] = refl
 side-bytes side tags (number ∷ numbers) (set ∷ sets) = rw (side-bytes side tags numbers sets)
 
 -- the tags of a table of bytes fit
-tagsOf-fit : (tags : List ℕ) → ((i : ℕ) → getD tags i 0 < 256) → (set : List ℕ) → tagsFit (tagsOf tags set) ≡ true
+itemTags-fit : (tags : List ℕ) → ((i : ℕ) → getD tags i 0 < 256) → (set : List ℕ) → tagsFit (itemTags tags set) ≡ true
 unfolding all
-tagsOf-fit tags low [] = refl
-tagsOf-fit tags low (i ∷ is) = and-both (lt-ltb _ _ (tagAt-bound tags (tagLength * i) low)) (tagsOf-fit tags low is)
+itemTags-fit tags low [] = refl
+itemTags-fit tags low (i ∷ is) = and-both (lt-ltb _ _ (tagAt-bound tags (tagLength * i) low)) (itemTags-fit tags low is)
 
 side-fit : (side : Side) (tags numbers : List ℕ) (sets : List (List ℕ)) → ((i : ℕ) → getD tags i 0 < 256)
     → recordsFit (sideRecords side tags numbers sets) ≡ true
 unfolding all sideRecords
 side-fit side tags [] sets low = refl
 side-fit side tags (number ∷ numbers) [] low = refl
-side-fit side tags (number ∷ numbers) (set ∷ sets) low = and-both (tagsOf-fit tags low set) (side-fit side tags numbers sets low)
+side-fit side tags (number ∷ numbers) (set ∷ sets) low = and-both (itemTags-fit tags low set) (side-fit side tags numbers sets low)
 
 module _ (l : Lists) where
-  pub lists-bytes : bytesOfLists l ≡ bytesOfRecords (recordsOfLists l)
+  pub lists-bytes : fileBytes l ≡ bytesOfRecords (recordsOfLists l)
   unfolding fileBytes
   lists-bytes =
       rw (
@@ -59,7 +59,7 @@ module _ (l : Lists) where
       (sym (bytesOfRecords-append (sideRecords Left (l .tags) (l .leftNumbers) (setsOf (l .leftEnds) (l .leftItems))) _))
 
   -- the reader takes what was written record by record, and then says that there is no more
-  pub written-records : ((i : ℕ) → getD (l .tags) i 0 < 256) → records (bytesOfLists l) ≡ recordsOfLists l
+  pub written-records : ((i : ℕ) → getD (l .tags) i 0 < 256) → records (fileBytes l) ≡ recordsOfLists l
   written-records low =
       ap records lists-bytes
       ∙ records-bytes (recordsOfLists l)
@@ -68,5 +68,5 @@ module _ (l : Lists) where
       (side-fit Right (l .tags) (l .rightNumbers) (setsOf (l .rightEnds) (l .rightItems)) low))
 
   pub written-end : ((i : ℕ) → getD (l .tags) i 0 < 256)
-      → readAt (bytesOfLists l) (totalLength (records (bytesOfLists l))) ≡ NoMore
+      → readAt (fileBytes l) (totalLength (records (fileBytes l))) ≡ NoMore
   written-end low = rw (written-records low, lists-bytes) (read-past (recordsOfLists l))

@@ -1,4 +1,3 @@
--- Contents: the records of a file that was written, what the round trip says, and the calls that it is about.
+-- Contents: the records of a file that was written, and what the round trip says.
 pub mod Rewritten
 pub mod Trips
-pub mod Calls

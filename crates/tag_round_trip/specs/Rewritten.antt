@@ -8,7 +8,7 @@ use Rattle.sets.specs.declared.Side.the-variants.{Left, Right}
 use Rattle.tag_file.specs.Format.{recordBytes}
 use Rattle.tag_file.specs.Records.{TagRecord, ofSide, collapse}
 use Rattle.tag_file.specs.Loading.{Lists}
-use Rattle.tag_writer.specs.Writer.{tagsOf, fileBytes}
+use Rattle.tag_writer.specs.Writer.{itemTags}
 
 -- records one after the other, as bytes
 unfoldable pub bytesOfRecords : List TagRecord → List ℕ
@@ -20,18 +20,13 @@ unfoldable pub sideRecords : Side → List ℕ → List ℕ → List (List ℕ) 
 sideRecords side tags [] sets = []
 sideRecords side tags (number ∷ numbers) [] = []
 sideRecords side tags (number ∷ numbers) (set ∷ sets) =
-    record { side = side; number = number; tags = tagsOf tags set } ∷ sideRecords side tags numbers sets
+    record { side = side; number = number; tags = itemTags tags set } ∷ sideRecords side tags numbers sets
 
 -- the records that the writer makes of the seven lists: the left sets', then the right sets'
 abbrev pub recordsOfLists : Lists → List TagRecord
 recordsOfLists l =
     sideRecords Left (l .tags) (l .leftNumbers) (setsOf (l .leftEnds) (l .leftItems))
     ++ sideRecords Right (l .tags) (l .rightNumbers) (setsOf (l .rightEnds) (l .rightItems))
-
--- the bytes that the writer makes of the seven lists
-abbrev pub bytesOfLists : Lists → List ℕ
-bytesOfLists l =
-    fileBytes (l .tags) (l .leftNumbers) (l .leftEnds) (l .leftItems) (l .rightNumbers) (l .rightEnds) (l .rightItems)
 
 -- a record with each of its tags once, rising
 abbrev pub collapsed : TagRecord → TagRecord

@@ -7,12 +7,10 @@ use mathlib.Core.Bool.{true}
 use lib.ListN.{length, take}
 use Rattle.tag_file.specs.declared.Loaded.{Loaded}
 use Rattle.tag_file.specs.declared.LoadAnswer.the-variants as load
-use Rattle.tag_writer.specs.declared.WriteAnswer.{WriteAnswer}
 use Rattle.tag_writer.specs.declared.WriteAnswer.the-variants as write
 use Rattle.tag_file.specs.Format.{tagLength}
 use Rattle.tag_file.specs.Loading.{Lists, roomFor, loadAnswer, listsAfter}
-use Rattle.tag_writer.specs.Writer.{writeAnswer, fileAfter}
-use Rattle.tag_round_trip.specs.Rewritten.{bytesOfLists}
+use Rattle.tag_writer.specs.Writer.{fileBytes, writeAnswer, writtenFile}
 
 -- the parts of seven lists that a load with these counts filled
 abbrev pub partsOf : Loaded → Lists → Lists
@@ -31,14 +29,9 @@ partsOf counts l =
 abbrev pub loadedFrom : List ℕ → Lists → Loaded → Lists
 loadedFrom file lent counts = partsOf counts (listsAfter file lent)
 
--- the writer's answer over seven lists, with room for so many bytes
-abbrev pub writeOf : ℕ → Lists → ℕ → WriteAnswer
-writeOf T l room =
-    writeAnswer T (l .tags) (l .leftNumbers) (l .leftEnds) (l .leftItems) (l .rightNumbers) (l .rightEnds) (l .rightItems) room
-
 -- the first bytes of the writer's output list, as many as the file has
 abbrev pub writtenTo : ℕ → Lists → List ℕ → List ℕ
-writtenTo T l out = take (length (bytesOfLists l)) (fileAfter (writeOf T l (length out)) (bytesOfLists l) out)
+writtenTo T l out = take (length (fileBytes l)) (writtenFile T l out)
 
 -- a load of a file into lent lists is accepted with these counts, and fills these lists
 pub record Loads (file : List ℕ) (lent : Lists) (counts : Loaded) (got : Lists) : Type 0 where
@@ -48,5 +41,5 @@ pub record Loads (file : List ℕ) (lent : Lists) (counts : Loaded) (got : Lists
 -- the round trip from lists that were loaded, through an output list: the writer writes the file, and every load of it into lists
 -- that are long enough is accepted with the same counts and fills the same lists
 pub record Trip (counts : Loaded) (got : Lists) (out : List ℕ) : Type 0 where
-  pub written : writeOf (counts .tags) got (length out) ≡ write.Written (length (bytesOfLists got))
+  pub written : writeAnswer (counts .tags) got (length out) ≡ write.Written (length (fileBytes got))
   pub again : (lent : Lists) → roomFor got lent ≡ true → Loads (writtenTo (counts .tags) got out) lent counts got

@@ -8,7 +8,7 @@ use Rattle.sets.proofs.Between.{between-cons}
 use Rattle.sets.specs.declared.Side.{Side}
 use Rattle.sets.specs.declared.Side.the-variants.{Left, Right}
 use Rattle.tag_file.specs.Format.{tagLength, headLength, tagBytes, mark}
-use Rattle.tag_writer.specs.Writer.{tagOf, tagsOf}
+use Rattle.tag_writer.specs.Writer.{itemTag, itemTags}
 use Rattle.tag_file.proofs.Bytes.{bytesOf-tagAt}
 
 -- a record before its tags
@@ -23,14 +23,14 @@ pub length-head : (side : Side) (number count : ℕ) → length (headOf side num
 length-head Left number count = refl
 length-head Right number count = refl
 
-pub length-tagsOf : (tags set : List ℕ) → length (tagsOf tags set) ≡ length set
-length-tagsOf tags set = length-map set (tagOf tags)
+pub length-itemTags : (tags set : List ℕ) → length (itemTags tags set) ≡ length set
+length-itemTags tags set = length-map set (itemTag tags)
 
 -- the tags of the items from a place on: the first one's bytes in the table, then the others
 pub tags-run : (tags items : List ℕ) (i end : ℕ) → i < end → end ≤ length items
     → tagLength * getD items i 0 + tagLength ≤ length tags → ((k : ℕ) → getD tags k 0 < 256)
-    → tagBytes (tagsOf tags (between i end items))
-    ≡ take tagLength (drop (tagLength * getD items i 0) tags) ++ tagBytes (tagsOf tags (between (i + 1) end items))
+    → tagBytes (itemTags tags (between i end items))
+    ≡ take tagLength (drop (tagLength * getD items i 0) tags) ++ tagBytes (itemTags tags (between (i + 1) end items))
 unfolding tagBytes
 tags-run tags items i end more inside known low =
     rw (between-cons i end items more inside, bytesOf-tagAt tags (tagLength * getD items i 0) known low)

@@ -17,8 +17,8 @@ use Rattle.sets.proofs.Good.{GoodSet, good-cons, good-rest}
 use Rattle.tag_file.specs.Format.{tagLength, headLength, recordBytes}
 use Rattle.tag_file.proofs.ItemCount.{length-tagBytes}
 use Rattle.tag_writer.specs.Room.{ItemsFit}
-use Rattle.tag_writer.specs.Writer.{tagsOf, recordsOf}
-use Rattle.tag_writer.proofs.Records.{length-head, length-tagsOf}
+use Rattle.tag_writer.specs.Writer.{itemTags, recordsOf}
+use Rattle.tag_writer.proofs.Records.{length-head, length-itemTags}
 
 -- the item at a place of a set that is not bad is below the number of tags
 item-below : (T k start end : ℕ) (items : List ℕ) → GoodSet T k start end items → (i : ℕ) → start ≤ i → i < end
@@ -41,14 +41,14 @@ fit-items tags items k start end so =
         omega arith
 
 pub length-record : (side : Side) (number : ℕ) (tags set : List ℕ)
-    → length (recordBytes side number (tagsOf tags set)) ≡ headLength + tagLength * length set
+    → length (recordBytes side number (itemTags tags set)) ≡ headLength + tagLength * length set
 length-record side number tags set =
-    rw (length-append, length-head side number _, length-tagBytes, length-tagsOf)
+    rw (length-append, length-head side number _, length-tagBytes, length-itemTags)
 
 -- the records from place k on: the one there, and those after it
 pub records-next : (side : Side) (tags numbers ends items : List ℕ) (k start : ℕ) → k < length ends → length numbers ≡ length ends
     → recordsOf side tags (drop k numbers) (setsFrom start (drop k ends) items)
-    ≡ recordBytes side (getD numbers k 0) (tagsOf tags (between start (getD ends k 0) items))
+    ≡ recordBytes side (getD numbers k 0) (itemTags tags (between start (getD ends k 0) items))
     ++ recordsOf side tags (drop (k + 1) numbers) (setsFrom (getD ends k 0) (drop (k + 1) ends) items)
 unfolding recordsOf setsFrom
 records-next side tags numbers ends items k start more same =

@@ -7,12 +7,15 @@ ghost use lib.ListN.{length, take, drop, getD};
 ghost use Rattle.tag_file.specs.Format.{tagLength, headLength, tagBytes, mark, recordBytes};
 ghost use lib.Seq.{sets};
 ghost use Rattle.sets.specs.Limits.{maxSets, maxEntries, maxSetLength};
-ghost use Rattle.sets.specs.Collections.{between, entries};
-ghost use Rattle.tag_writer.specs.Writer.{tagsOf, sideBytes, fileBytes, sideVerdict, writtenWithin, writeAnswer, fileAfter, writeWords};
-ghost use Rattle.tag_writer.specs.Room.{ItemsFit, GoodSide};
+ghost use Rattle.sets.specs.Collections.{between, setsOf, entries};
+ghost use Rattle.tag_file.specs.Loading.{listsOf};
+ghost use Rattle.tag_writer.specs.Writer.{itemTags, recordsOf, fileBytes, tableTest, sideTest, listsTest, writtenWithin};
+ghost use Rattle.tag_writer.specs.Writer.{fileAfter, WriteCall, writeWords};
+ghost use Rattle.tag_writer.specs.Room.{ItemsFit, GoodSide, GoodLists};
 use sets::MAX_ITEMS;
 use sets::Refusal;
 use sets::Side;
+use sets::Tested;
 use sets::Verdict;
 use sets::head_of;
 
@@ -105,7 +108,7 @@ fn put_tags(tags: &[u8], items: &[u16], start: usize, end: usize, file: &mut [u8
     requires { ⌜ ItemsFit (now tags) (now items) start end ⌝ }
     requires { ⌜ at + tagLength * (end - start) ≤ length (now file) ⌝ }
     ensures { λ r. ⌜ now (file .exit) ≡ sets (now (file .entry)) at
-        (tagBytes (tagsOf (now (tags .entry)) (between start end (now (items .entry))))) ⌝ }
+        (tagBytes (itemTags (now (tags .entry)) (between start end (now (items .entry))))) ⌝ }
 {
     let mut i = start;
     let mut to = at;
@@ -131,7 +134,7 @@ fn put_record(
     requires { ⌜ ItemsFit (now tags) (now items) start end ⌝ }
     requires { ⌜ (end - start ≤ maxSetLength) × (at + (headLength + tagLength * (end - start)) ≤ length (now file)) ⌝ }
     ensures { λ r. ⌜ now (file .exit) ≡ sets (now (file .entry)) at
-        (recordBytes side number (tagsOf (now (tags .entry)) (between start end (now (items .entry))))) ⌝ }
+        (recordBytes side number (itemTags (now (tags .entry)) (between start end (now (items .entry))))) ⌝ }
 {
     let count = (end - start) as u8;
     put_head(side, number, count, file, at);
@@ -149,9 +152,9 @@ fn put_side(
     at: usize,
 )
     requires { ⌜ GoodSide (now tags) (now numbers) (now ends) (now items) ⌝ }
-    requires { ⌜ at + length (sideBytes side (now tags) (now numbers) (now ends) (now items)) ≤ length (now file) ⌝ }
+    requires { ⌜ at + length (recordsOf side (now tags) (now numbers) (setsOf (now ends) (now items))) ≤ length (now file) ⌝ }
     ensures { λ r. ⌜ now (file .exit) ≡ sets (now (file .entry)) at
-        (sideBytes side (now (tags .entry)) (now (numbers .entry)) (now (ends .entry)) (now (items .entry))) ⌝ }
+        (recordsOf side (now (tags .entry)) (now (numbers .entry)) (setsOf (now (ends .entry)) (now (items .entry)))) ⌝ }
 {
     let mut k: usize = 0;
     let mut start: usize = 0;
@@ -175,23 +178,60 @@ fn side_length(ends: &[u32]) -> usize
     HEAD_LENGTH * ends.len() + TAG_LENGTH * entries
 }
 
-// The place of a side's fault: its first bad set, then the shorter length where it hasn't as many numbers as sets.
-fn side_verdict(t: u32, numbers: &[u16], ends: &[u32], items: &[u16]) -> Verdict
-    ensures { λ r. ⌜ r ≡ sideVerdict t (now (numbers .entry)) (now (ends .entry)) (now (items .entry)) ⌝ }
+// T is within its limit, and the tag table is as long as it says.
+fn test_table(t: u32, tags: &[u8]) -> Tested
+    ensures { λ r. ⌜ r ≡ tableTest t (now (tags .entry)) ⌝ }
+{
+    if MAX_ITEMS < t {
+        return Tested::Failed(Refusal::BadSettings);
+    }
+    if tags.len() != TAG_LENGTH * (t as usize) {
+        return Tested::Failed(Refusal::BadSettings);
+    }
+    Tested::Passed
+}
+
+// A side has no bad set, and then as many numbers as sets; else the shorter length is the place.
+fn test_side(t: u32, side: Side, numbers: &[u16], ends: &[u32], items: &[u16]) -> Tested
+    ensures { λ r. ⌜ r ≡ sideTest t side (now (numbers .entry)) (now (ends .entry)) (now (items .entry)) ⌝ }
 {
     let verdict = sets::first_bad(t, ends, items);
-    match verdict {
-        Verdict::Bad(place) => Verdict::Bad(place),
-        Verdict::Good => {
-            if numbers.len() == ends.len() {
-                return Verdict::Good;
-            }
-            if numbers.len() < ends.len() {
-                return Verdict::Bad(numbers.len());
-            }
-            Verdict::Bad(ends.len())
-        }
+    if let Verdict::Bad(place) = verdict {
+        return Tested::Failed(Refusal::BadSet(side, place));
     }
+    if numbers.len() == ends.len() {
+        return Tested::Passed;
+    }
+    if numbers.len() < ends.len() {
+        return Tested::Failed(Refusal::BadSet(side, numbers.len()));
+    }
+    Tested::Failed(Refusal::BadSet(side, ends.len()))
+}
+
+// What is lent can be written: the table, then the left sets, then the right sets.
+fn test_lists(
+    t: u32,
+    tags: &[u8],
+    left_numbers: &[u16],
+    left_ends: &[u32],
+    left_items: &[u16],
+    right_numbers: &[u16],
+    right_ends: &[u32],
+    right_items: &[u16],
+) -> Tested
+    ensures { λ r. ⌜ r ≡ listsTest t (listsOf (now (tags .entry))
+        (now («left_numbers» .entry)) (now («left_ends» .entry)) (now («left_items» .entry))
+        (now («right_numbers» .entry)) (now («right_ends» .entry)) (now («right_items» .entry))) ⌝ }
+{
+    let table = test_table(t, tags);
+    if let Tested::Failed(why) = table {
+        return Tested::Failed(why);
+    }
+    let left = test_side(t, Side::Left, left_numbers, left_ends, left_items);
+    if let Tested::Failed(why) = left {
+        return Tested::Failed(why);
+    }
+    test_side(t, Side::Right, right_numbers, right_ends, right_items)
 }
 
 // The whole file, where neither side has a fault.
@@ -205,14 +245,14 @@ fn write_good(
     right_items: &[u16],
     file: &mut [u8],
 ) -> WriteAnswer
-    requires { ⌜ GoodSide (now tags) (now «left_numbers») (now «left_ends») (now «left_items») ⌝ }
-    requires { ⌜ GoodSide (now tags) (now «right_numbers») (now «right_ends») (now «right_items») ⌝ }
-    ensures answer { λ r. ⌜ r ≡ writtenWithin (length (now (file .entry)))
-        (fileBytes (now (tags .entry)) (now («left_numbers» .entry)) (now («left_ends» .entry)) (now («left_items» .entry))
-        (now («right_numbers» .entry)) (now («right_ends» .entry)) (now («right_items» .entry))) ⌝ }
-    ensures file { λ r. ⌜ now (file .exit) ≡ fileAfter r
-        (fileBytes (now (tags .entry)) (now («left_numbers» .entry)) (now («left_ends» .entry)) (now («left_items» .entry))
-        (now («right_numbers» .entry)) (now («right_ends» .entry)) (now («right_items» .entry))) (now (file .entry)) ⌝ }
+    requires { ⌜ GoodLists (listsOf (now tags) (now «left_numbers») (now «left_ends») (now «left_items»)
+        (now «right_numbers») (now «right_ends») (now «right_items»)) ⌝ }
+    ensures answer { λ r. ⌜ r ≡ writtenWithin (length (now (file .entry))) (fileBytes (listsOf (now (tags .entry))
+        (now («left_numbers» .entry)) (now («left_ends» .entry)) (now («left_items» .entry))
+        (now («right_numbers» .entry)) (now («right_ends» .entry)) (now («right_items» .entry)))) ⌝ }
+    ensures file { λ r. ⌜ now (file .exit) ≡ fileAfter r (fileBytes (listsOf (now (tags .entry))
+        (now («left_numbers» .entry)) (now («left_ends» .entry)) (now («left_items» .entry))
+        (now («right_numbers» .entry)) (now («right_ends» .entry)) (now («right_items» .entry)))) (now (file .entry)) ⌝ }
 {
     let left = side_length(left_ends);
     let right = side_length(right_ends);
@@ -253,39 +293,32 @@ pub fn write(
     right_items: &[u16],
     file: &mut [u8],
 ) -> WriteAnswer
-    ensures answer { λ r. ⌜ r ≡ writeAnswer t (now (tags .entry))
+    ensures { λ r. ⌜ WriteCall t (listsOf (now (tags .entry))
         (now («left_numbers» .entry)) (now («left_ends» .entry)) (now («left_items» .entry))
-        (now («right_numbers» .entry)) (now («right_ends» .entry)) (now («right_items» .entry)) (length (now (file .entry))) ⌝ }
-    ensures file { λ r. ⌜ now (file .exit) ≡ fileAfter
-        (writeAnswer t (now (tags .entry)) (now («left_numbers» .entry)) (now («left_ends» .entry)) (now («left_items» .entry))
-        (now («right_numbers» .entry)) (now («right_ends» .entry)) (now («right_items» .entry)) (length (now (file .entry))))
-        (fileBytes (now (tags .entry)) (now («left_numbers» .entry)) (now («left_ends» .entry)) (now («left_items» .entry))
-        (now («right_numbers» .entry)) (now («right_ends» .entry)) (now («right_items» .entry))) (now (file .entry)) ⌝ }
+        (now («right_numbers» .entry)) (now («right_ends» .entry)) (now («right_items» .entry)))
+        (now (file .entry)) (now (file .exit)) r ⌝ }
 {
-    if MAX_ITEMS < t {
-        return WriteAnswer::Refused(Refusal::BadSettings);
-    }
-    if tags.len() != TAG_LENGTH * (t as usize) {
-        return WriteAnswer::Refused(Refusal::BadSettings);
-    }
-    let left = side_verdict(t, left_numbers, left_ends, left_items);
-    match left {
-        Verdict::Bad(place) => WriteAnswer::Refused(Refusal::BadSet(Side::Left, place)),
-        Verdict::Good => {
-            let right = side_verdict(t, right_numbers, right_ends, right_items);
-            match right {
-                Verdict::Bad(place) => WriteAnswer::Refused(Refusal::BadSet(Side::Right, place)),
-                Verdict::Good => write_good(
-                    tags,
-                    left_numbers,
-                    left_ends,
-                    left_items,
-                    right_numbers,
-                    right_ends,
-                    right_items,
-                    file,
-                ),
-            }
-        }
+    let tested = test_lists(
+        t,
+        tags,
+        left_numbers,
+        left_ends,
+        left_items,
+        right_numbers,
+        right_ends,
+        right_items,
+    );
+    match tested {
+        Tested::Failed(why) => WriteAnswer::Refused(why),
+        Tested::Passed => write_good(
+            tags,
+            left_numbers,
+            left_ends,
+            left_items,
+            right_numbers,
+            right_ends,
+            right_items,
+            file,
+        ),
     }
 }

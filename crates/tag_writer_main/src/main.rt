@@ -1,41 +1,23 @@
 // Named vectors through the writer of tag files: each line has the vector's name, the answer and the whole output list, which
 // holds EE before the call. `stdout` has what document 01 says.
 use sets::Refusal;
-use sets::Side;
 use tag_writer::WriteAnswer;
 
 const STDOUT: i32 = 1;
 
 // A space and a number.
-fn print_number(n: usize) {
+fn print_number(n: u64) {
     io::write_all(STDOUT, b" ");
-    io::print_decimal(STDOUT, n as u64);
+    io::print_decimal(STDOUT, n);
 }
 
-// A number and one detail.
-fn print_pair(number: usize, detail: usize) {
-    print_number(number);
-    print_number(detail);
-}
-
-// The number of a refusal and what returns with it.
+// The number of a refusal and what returns with it: two numbers for a bad set, else one.
 fn print_refusal(why: Refusal) {
-    match why {
-        Refusal::Malformed(place) => print_pair(1, place),
-        Refusal::NumberUsed(place) => print_pair(2, place),
-        Refusal::TooMany(place) => print_pair(3, place),
-        Refusal::ShortOutput => print_pair(4, 0),
-        Refusal::BadSet(side, place) => {
-            match side {
-                Side::Left => print_pair(5, 0),
-                Side::Right => print_pair(5, 1),
-            }
-            print_number(place);
-        }
-        Refusal::BadSettings => print_pair(6, 0),
-        Refusal::ShortWork => print_pair(7, 0),
-        Refusal::Spent => print_pair(8, 0),
-        Refusal::ShortPairs => print_pair(9, 0),
+    let head = sets::head_of(why);
+    print_number(head.number);
+    print_number(head.first);
+    if let Refusal::BadSet(_side, _place) = why {
+        print_number(head.second);
     }
 }
 
@@ -43,7 +25,7 @@ fn print_answer(answer: WriteAnswer) {
     match answer {
         WriteAnswer::Written(length) => {
             io::write_all(STDOUT, b": written");
-            print_number(length);
+            print_number(length as u64);
         }
         WriteAnswer::Refused(why) => {
             io::write_all(STDOUT, b": refused");

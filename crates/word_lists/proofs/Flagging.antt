@@ -1,15 +1,15 @@
 -- Tables of flags: the flags of no word, of one word more, and what they tell; and the invariant of `flag_words`, with its start,
 -- step and end.
-use Prim.Native.Nat.{ℕ, _+_, _-_, _≤_, _<_}
+use Prim.Native.Nat.{ℕ, _+_, _≤_, _<_}
 use mathlib.Core.Path.{_≡_, refl, sym, ap, subst, _∙_}
 use mathlib.Core.List.{List, [], _∷_, _++_}
 use mathlib.Core.Bool.{Bool, true, false, or-false, or-true}
 use native.Mathlib.Omega.{arith}
 use native.Mathlib.Numerals.{add-one}
 use lib.Dec.{eqb, ltb}
-use lib.ListN.{length, getD, set, replicate, length-set, length-replicate}
+use lib.ListN.{length, getD, set, replicate, length-set}
 use lib.Seq.{getD-set-same, getD-set-other}
-use borrow.Author.Tests.{ltb-true, lt-ltb, eqb-true, eqb-false}
+use borrow.Author.Tests.{ltb-true, eqb-true, eqb-false}
 use Rattle.lists.specs.Lists.{one, memb, slice}
 use Rattle.lists.proofs.Counting.{one-bound}
 use Rattle.lists.proofs.Bools.{by-test}
@@ -80,7 +80,7 @@ pub record Flagging (w : List ℕ) (a b : ℕ) (was flags : List ℕ) (i : ℕ) 
   pub high : i ≤ b
   pub flagged : Flagged (λ s. memb s (slice a i w)) flags
 
-module _ (w : List ℕ) (a b : ℕ) (was : List ℕ) (places : Below (length was) a b w) where
+module _ {w : List ℕ} {a b : ℕ} {was : List ℕ} (places : Below (length was) a b w) where
   pub flagging-start : Flagged (λ s. false) was → Flagging w a b was was a
   unfolding memb
   flagging-start none =
@@ -91,9 +91,12 @@ module _ (w : List ℕ) (a b : ℕ) (was : List ℕ) (places : Below (length was
         flagged = flagged-same none (λ s. sym (ap (memb s) (slice-none a w)));
       }
 
-  pub flagging-step : (flags : List ℕ) (i : ℕ) → Flagging w a b was flags i → i < b
+  pub flagging-low : {flags : List ℕ} {i : ℕ} → Flagging w a b was flags i → i < b → getD w i 0 < length flags
+  flagging-low {flags} {i} f more = omega (arith, f .size, word-below places i (f .low) more)
+
+  pub flagging-step : {flags : List ℕ} {i : ℕ} → Flagging w a b was flags i → i < b
       → Flagging w a b was (set flags (getD w i 0) 1) (i + 1)
-  flagging-step flags i f more =
+  flagging-step {flags} {i} f more =
       let x = getD w i 0 in
       let longer : slice a (i + 1) w ≡ slice a i w ++ (x ∷ []) =
       ap (λ (n : ℕ). slice a n w) (add-one i) ∙ slice-snoc 0 a i w (f .low) (omega (arith, places .within))
@@ -103,11 +106,11 @@ module _ (w : List ℕ) (a b : ℕ) (was : List ℕ) (places : Below (length was
         low = omega (arith, f .low);
         high = omega arith;
         flagged =
-            flagged-same (flagged-more x (slice a i w) flags (omega (arith, f .size, word-below places i (f .low) more)) (f .flagged))
+            flagged-same (flagged-more x (slice a i w) flags (flagging-low f more) (f .flagged))
             (λ s. sym (ap (memb s) longer));
       }
 
-  pub flagging-end : (flags : List ℕ) (i : ℕ) → Flagging w a b was flags i → b ≤ i → Flagged (λ s. memb s (slice a b w)) flags
-  flagging-end flags i f past =
+  pub flagging-end : {flags : List ℕ} {i : ℕ} → Flagging w a b was flags i → b ≤ i → Flagged (λ s. memb s (slice a b w)) flags
+  flagging-end {flags} {i} f past =
       let here : i ≡ b = omega (arith, f .high) in
       subst (λ (n : ℕ). Flagged (λ s. memb s (slice a n w)) flags) here (f .flagged)

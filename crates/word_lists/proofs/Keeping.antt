@@ -30,7 +30,7 @@ pub record Keeping (test : ℕ → Bool) (w₀ : List ℕ) (c e out : ℕ) (w : 
   pub behind : n ≤ out + (j - c)
   pub is : slice out n w ++ keep test (slice j e w₀) ≡ keep test (slice c e w₀)
 
-module _ (test : ℕ → Bool) (w₀ : List ℕ) (c e out : ℕ) where
+module _ {test : ℕ → Bool} {w₀ : List ℕ} {c e out : ℕ} where
   pub keeping-start : Keeping test w₀ c e out w₀ c out
   keeping-start =
       record {
@@ -42,7 +42,7 @@ module _ (test : ℕ → Bool) (w₀ : List ℕ) (c e out : ℕ) where
         is = ap (λ (l : List ℕ). l ++ keep test (slice c e w₀)) (slice-none out w₀);
       }
 
-  module _ (w : List ℕ) (j n : ℕ) (s : Keeping test w₀ c e out w j n) where
+  module _ {w : List ℕ} {j n : ℕ} (s : Keeping test w₀ c e out w j n) where
     pub keeping-end : e ≤ j → Kept test c e out w₀ w n
     unfolding keep
     keeping-end past =
@@ -62,9 +62,9 @@ module _ (test : ℕ → Bool) (w₀ : List ℕ) (c e out : ℕ) where
       keeping-small {bound} places = subst (λ (x : ℕ). x < bound) (sym same-word) (word-below places j (s .from) more)
 
       -- one word more, kept or not
-      pub keeping-step : (p : ℕ) → p ≡ one (test (getD w j 0)) → Keeping test w₀ c e out (set w n (getD w j 0)) (j + 1) (n + p)
+      pub keeping-step : {p : ℕ} → p ≡ one (test (getD w j 0)) → Keeping test w₀ c e out (set w n (getD w j 0)) (j + 1) (n + p)
       unfolding keep
-      keeping-step p flag =
+      keeping-step {p} flag =
           let x = getD w j 0 in
           let rest = keep test (slice (j + 1) e w₀) in
           let next : keep test (slice j e w₀) ≡ onto (test x) x rest =

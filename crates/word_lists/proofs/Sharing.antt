@@ -1,4 +1,4 @@
--- The merge that writes what two rising parts share: the invariant of `intersect`, with its start, step and end. w₀ is the work
+-- The merge that writes what two rising parts share: the invariant of `merge_shared`, with its start, step and end. w₀ is the work
 -- list before, and w as it is at places i and j of the parts and n of what was written.
 use Prim.Native.Nat.{ℕ, _+_, _-_, _≤_, _<_}
 use mathlib.Core.Path.{_≡_, sym, ap, _∙_}
@@ -33,7 +33,13 @@ pub record Sharing (w₀ : List ℕ) (a b c e out : ℕ) (w : List ℕ) (i j n :
   pub right : rising (slice j e w₀) ≡ true
   pub is : slice out n w ++ shared w₀ i b j e ≡ shared w₀ a b c e
 
-module _ (w₀ : List ℕ) (a b c e out : ℕ) where
+-- the places that are read and the one that is written next are there
+pub record Rooms (w : List ℕ) (i j n : ℕ) : Type 0 where
+  pub first : i < length w
+  pub second : j < length w
+  pub next : n < length w
+
+module _ {w₀ : List ℕ} {a b c e out : ℕ} where
   pub sharing-start : Rising a b w₀ → Rising c e w₀ → Sharing w₀ a b c e out w₀ a c out
   sharing-start left right =
       record {
@@ -47,7 +53,7 @@ module _ (w₀ : List ℕ) (a b c e out : ℕ) where
         is = ap (λ (l : List ℕ). l ++ shared w₀ a b c e) (slice-none out w₀);
       }
 
-  module _ (w : List ℕ) (i j n : ℕ) (s : Sharing w₀ a b c e out w i j n) where
+  module _ {w : List ℕ} {i j n : ℕ} (s : Sharing w₀ a b c e out w i j n) where
     done : shared w₀ i b j e ≡ [] → Intersected a b c e out w₀ w n
     done none =
         record {
@@ -72,8 +78,13 @@ module _ (w₀ : List ℕ) (a b c e out : ℕ) where
       rightIn : e ≤ length w₀
       rightIn = omega arith
 
-      room : n < length w
-      room = omega (arith, s .changed .size)
+      pub sharing-rooms : Rooms w i j n
+      sharing-rooms =
+          record {
+            first = omega (arith, s .changed .size);
+            second = omega (arith, s .changed .size);
+            next = omega (arith, s .changed .size);
+          }
 
       stored : (v : ℕ) → Changed out (out + (e - c)) w₀ (set w n v)
       stored v = changed-store n v (s .low) (omega arith) (s .changed)
@@ -133,7 +144,8 @@ module _ (w₀ : List ℕ) (a b c e out : ℕ) where
             right = rising-next j e w₀ other rightIn (s .right);
             is =
                 ap (λ (k : ℕ). slice out k (set w n (getD w i 0)) ++ shared w₀ (i + 1) b (j + 1) e) (add-one n)
-                ∙ ap (λ (l : List ℕ). l ++ shared w₀ (i + 1) b (j + 1) e) (slice-set-end out n w (getD w i 0) (s .low) room)
+                ∙ ap (λ (l : List ℕ). l ++ shared w₀ (i + 1) b (j + 1) e)
+                (slice-set-end out n w (getD w i 0) (s .low) (sharing-rooms .next))
                 ∙ append-snoc (slice out n w) (getD w i 0) (shared w₀ (i + 1) b (j + 1) e)
                 ∙ ap (λ (l : List ℕ). slice out n w ++ l)
                 (ap (λ (y : ℕ). y ∷ shared w₀ (i + 1) b (j + 1) e) x-same
@@ -142,9 +154,9 @@ module _ (w₀ : List ℕ) (a b c e out : ℕ) where
           }
 
       -- one turn, whichever word is the lower
-      pub sharing-step : (p l r : ℕ) → p ≡ one (eqb (getD w i 0) (getD w j 0)) → l ≡ one (leb (getD w i 0) (getD w j 0))
+      pub sharing-step : {p l r : ℕ} → p ≡ one (eqb (getD w i 0) (getD w j 0)) → l ≡ one (leb (getD w i 0) (getD w j 0))
           → r ≡ one (leb (getD w j 0) (getD w i 0)) → Sharing w₀ a b c e out (set w n (getD w i 0)) (i + l) (j + r) (n + p)
-      sharing-step p l r ep el er =
+      sharing-step {p} {l} {r} ep el er =
           by-test (ltb (getD w i 0) (getD w j 0))
           (λ t.
           let h : getD w i 0 < getD w j 0 = ltb-true (getD w i 0) (getD w j 0) t in
@@ -169,8 +181,8 @@ module _ (w₀ : List ℕ) (a b c e out : ℕ) where
           rw (p1, l1, r1) (sharing-same h)))
 
 -- one of two places moves on
-pub moves : (x y l r : ℕ) → l ≡ one (leb x y) → r ≡ one (leb y x) → 1 ≤ l + r
-moves x y l r el er =
+pub moves : (x y : ℕ) {l r : ℕ} → l ≡ one (leb x y) → r ≡ one (leb y x) → 1 ≤ l + r
+moves x y {l} {r} el er =
     by-test (leb x y)
     (λ t. omega (arith, rw t at el))
     (λ f. omega (arith, rw (le-leb y x (omega (arith, leb-false x y f))) at er))

@@ -20,52 +20,46 @@ pub record Trimming (w : List ℕ) (a b c e i j : ℕ) : Type 0 where
   pub right : rising (slice c j w) ≡ true
   pub same : subset (slice a i w) (slice c j w) ≡ subset (slice a b w) (slice c e w)
 
-module _ (w : List ℕ) (a b c e i j : ℕ) where
-  pub trimming-skip : (r : ℕ) → Trimming w a b c e i j → Skipped a i c j w r → Trimming w a b c e i r
-  trimming-skip r m s =
-      record {
-        first = m .first;
-        second = omega (arith, s .high, m .second);
-        left = m .left;
-        right = s .rise;
-        same = s .same ∙ m .same;
-      }
+module _ {w : List ℕ} {a b c e i j : ℕ} (m : Trimming w a b c e i j) where
+  pub trimming-end : i ≤ a → true ≡ subset (slice a b w) (slice c e w)
+  trimming-end past =
+      let none = slice-past a i w past in
+      sym (rw none (subset-nil (slice c j w))) ∙ m .same
 
-  module _ (leftIn : b ≤ length w) (rightIn : e ≤ length w) (m : Trimming w a b c e i j) where
-    pub trimming-end : i ≤ a → true ≡ subset (slice a b w) (slice c e w)
-    trimming-end past =
-        let none = slice-past a i w past in
-        sym (rw none (subset-nil (slice c j w))) ∙ m .same
+  -- after the search for the last word of the first part
+  module _ {r : ℕ} (s : Skipped a i c j w r) (left : Rising a b w) (right : Rising c e w) (some : a < i) where
+    inFirst : i ≤ length w
+    inFirst = omega (arith, m .first, left .within)
 
-    pub trimming-stop : a < i → j ≤ c → false ≡ subset (slice a b w) (slice c e w)
+    inSecond : r ≤ length w
+    inSecond = omega (arith, s .high, m .second, right .within)
+
+    same : subset (slice a i w) (slice c r w) ≡ subset (slice a b w) (slice c e w)
+    same = s .same ∙ m .same
+
+    pub trimming-stop : r ≤ c → false ≡ subset (slice a b w) (slice c e w)
     unfolding memb
-    trimming-stop some past =
-        let x = getD w (i - 1) 0 in
-        let none = slice-past c j w past in
+    trimming-stop past =
         sym
-        (ap₂ (λ (k l : List ℕ). subset k l) (part-last a i w some (omega (arith, m .first))) none
-        ∙ subset-last (slice a (i - 1) w) [] x
+        (ap₂ (λ (k l : List ℕ). subset k l) (part-last a i w some inFirst) (slice-past c r w past)
+        ∙ subset-last (slice a (i - 1) w) [] (getD w (i - 1) 0)
         ∙ and-false (subset (slice a (i - 1) w) []))
-        ∙ m .same
+        ∙ same
 
-    module _ (some : a < i) (other : c < j) where
-      pub trimming-low : getD w (j - 1) 0 < getD w (i - 1) 0 → false ≡ subset (slice a b w) (slice c e w)
-      trimming-low h =
-          sym
-          (last-low w a i c j (omega (arith, m .first)) (omega (arith, m .second)) some other (m .left) (m .right) h)
-          ∙ m .same
+    pub trimming-other : c < r → (getD w (i - 1) 0 ≡ getD w (r - 1) 0 → ⊥) → false ≡ subset (slice a b w) (slice c e w)
+    trimming-other found other =
+        let low : getD w (r - 1) 0 < getD w (i - 1) 0 = omega (arith, s .stop found, other) in
+        sym (last-low w a i c r inFirst inSecond some found (m .left) (s .rise) low) ∙ same
 
-      pub trimming-same : getD w (i - 1) 0 ≡ getD w (j - 1) 0 → Trimming w a b c e (i - 1) (j - 1)
-      trimming-same h =
-          let inFirst : i ≤ length w = omega (arith, m .first) in
-          let inSecond : j ≤ length w = omega (arith, m .second) in
-          record {
-            first = omega (arith, m .first);
-            second = omega (arith, m .second);
-            left = front-of w a i inFirst some (m .left) .rise;
-            right = front-of w c j inSecond other (m .right) .rise;
-            same = sym (last-same w a i c j inFirst inSecond some other (m .left) (m .right) h) ∙ m .same;
-          }
+    pub trimming-same : c < r → getD w (i - 1) 0 ≡ getD w (r - 1) 0 → Trimming w a b c e (i - 1) (r - 1)
+    trimming-same found h =
+        record {
+          first = omega (arith, m .first);
+          second = omega (arith, s .high, m .second);
+          left = front-of w a i inFirst some (m .left) .rise;
+          right = front-of w c r inSecond found (s .rise) .rise;
+          same = sym (last-same w a i c r inFirst inSecond some found (m .left) (s .rise) h) ∙ same;
+        }
 
 -- the invariant of `skip_higher`
 pub record Skipping (w : List ℕ) (a b c e x j : ℕ) : Type 0 where
@@ -74,14 +68,14 @@ pub record Skipping (w : List ℕ) (a b c e x j : ℕ) : Type 0 where
   pub rise : rising (slice c j w) ≡ true
   pub same : subset (slice a b w) (slice c j w) ≡ subset (slice a b w) (slice c e w)
 
-module _ (w : List ℕ) (a b c e x j : ℕ) (s : Skipping w a b c e x j) where
+module _ {w : List ℕ} {a b c e x j : ℕ} (s : Skipping w a b c e x j) where
   pub skipped : (c < j → getD w (j - 1) 0 ≤ x) → Skipped a b c e w j
   skipped stop =
       record { high = s .high; stop = λ h. omega (arith, stop h, s .word); rise = s .rise; same = s .same }
 
-  pub skipping-next : a < b → Rising a b w → e ≤ length w → c < j → x < getD w (j - 1) 0 → Skipping w a b c e x (j - 1)
-  skipping-next some left rightIn other h =
-      let within : j ≤ length w = omega (arith, s .high) in
+  pub skipping-next : a < b → Rising a b w → Rising c e w → c < j → x < getD w (j - 1) 0 → Skipping w a b c e x (j - 1)
+  skipping-next some left right other h =
+      let within : j ≤ length w = omega (arith, s .high, right .within) in
       record {
         high = omega (arith, s .high);
         word = s .word;

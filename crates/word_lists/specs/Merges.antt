@@ -23,8 +23,8 @@ pub record Skipped (a b c e : ℕ) (w : List ℕ) (r : ℕ) : Type 0 where
 
 -- parts that end at b and e lie below out, and from out on there is room for the second, which begins at c
 pub record Apart (b c e out : ℕ) (w : List ℕ) : Type 0 where
-  pub left : b ≤ out
-  pub right : e ≤ out
+  pub first : b ≤ out
+  pub second : e ≤ out
   pub room : out + (e - c) ≤ length w
 
 -- w became w′: from out up to r stands what the part from a up to b shares with that from c up to e

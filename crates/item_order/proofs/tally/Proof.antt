@@ -1,12 +1,12 @@
 -- `item_order::tally` meets its contract, by the laws of proofs/Tallying.antt. The measure is how many numbers are left.
 use Prim.Native.Nat.{_-_}
 use native.Mathlib.Omega.{arith}
-use Rattle.item_order.proofs.Tallying.{TallyLeft, tally-start, tally-index, tally-room, tally-step, tally-end}
+use Rattle.item_order.proofs.Tallying.{CountingOccurrences, tally-start, tally-index, tally-room, tally-step, tally-end}
 use Rattle.item_order.proofs.tally.Statement.{statement}
 use Rattle.item_order.proofs.tally.Tie as tie
 
 abbrev Inv-loop : tie.InvT-loop
-Inv-loop xs counts₀ i₀ i-end counts i = TallyLeft xs counts₀ counts i i-end
+Inv-loop xs counts₀ i₀ i-end counts i = CountingOccurrences xs counts₀ counts i i-end
 
 abbrev μ-loop : tie.MeasureT-loop
 μ-loop xs counts₀ i₀ i-end counts i = i-end - i

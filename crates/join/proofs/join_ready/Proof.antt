@@ -2,13 +2,13 @@
 -- or the counts.
 use native.Mathlib.Omega.{arith}
 use borrow.Author.Needs.{needs}
-use Rattle.join.proofs.AnswerLaws.{walk-index, walk-ready, walk-made, count-small, checks-small}
+use Rattle.join.proofs.AnswerLaws.{build-room, walk-index, walk-ready, walk-made, count-small, checks-small}
 use Rattle.join.proofs.AnswerLaws.{answer-spent, answer-short, pairs-room, answer-joined}
 use Rattle.join.proofs.join_ready.Statement.{statement}
 use Rattle.join.proofs.join_ready.Tie as tie
 
 build-requires : tie.Need-build-requires
-build-requires c κs = search needs
+build-requires c κs = build-room (c .before .before .before .before .before .before .before .before .pre)
 
 walk-requires : tie.Need-walk-requires
 walk-requires c κs =

@@ -1,5 +1,5 @@
--- `join_pairs::write_pairs` meets its contract. The invariant: the pairs of the left sets from k on are left to be written,
--- and of the work list only the slots changed. The measure is how many left sets are left.
+-- `join_pairs::write_pairs` meets its contract. The invariant: the pairs of the left sets from k on remain to be written, and of
+-- the work list only the slots changed. The measure is how many left sets remain.
 use Prim.Native.Nat.{ℕ, _+_, _-_, _≤_, _<_}
 use mathlib.Core.Path.{_≡_, refl, _∙_}
 use mathlib.Core.List.{List, _++_}
@@ -7,63 +7,64 @@ use native.Mathlib.Omega.{arith}
 use lib.ListN.{length, take, drop}
 use Rattle.lists.proofs.Writing.{Writing, writing-start, writing-step, writing-end, writing-room, written-whole}
 use Rattle.join_spec.specs.Query.{Query}
+use Rattle.sets.specs.Collections.{contained}
 use Rattle.join_spec.specs.PairList.{pairsFrom, pairList}
 use Rattle.join_spec.proofs.PairListLaws.{length-pairList}
 use Rattle.join_index.specs.declared.Layout.{Layout}
 use Rattle.join_check.proofs.Reading.{index-frame}
 use Rattle.join_pairs.specs.Containing.{rowAt}
 use Rattle.join_pairs.specs.Writing.{LeftRoom, LeftWritten, PairsRoom}
-use Rattle.join_pairs.proofs.Kept.{pairs-next, pairs-none}
+use Rattle.join_pairs.proofs.RowPairs.{pairs-next, pairs-none}
 use Rattle.join_pairs.proofs.write_pairs.Statement.{statement}
 use Rattle.join_pairs.proofs.write_pairs.Tie as tie
 
-record PairsLeft (lay : Layout) (w : List ℕ) (lefts rights : ℕ) (was v pairs : List ℕ) (n k : ℕ) : Type 0 where
+record PairsWriting (lay : Layout) (w : List ℕ) (lefts rights : ℕ) (was v pairs : List ℕ) (n k : ℕ) : Type 0 where
   frame : take (lay .slots) v ≡ take (lay .slots) w
   size : length v ≡ length w
   written :
       (q : Query) → PairsRoom lay q w lefts rights was
-      → Writing was 0 (pairList (q .lefts) (q .rights)) pairs n (pairsFrom k (drop k (q .lefts)) (q .rights))
+      → Writing was 0 (pairList (q .lefts) (q .rights)) pairs n (pairsFrom contained k (drop k (q .lefts)) (q .rights))
 
 list-room : {lay : Layout} {q : Query} {w : List ℕ} {lefts rights : ℕ} {was : List ℕ} → PairsRoom lay q w lefts rights was
     → length (pairList (q .lefts) (q .rights)) ≤ length was
 list-room {lay} {q} there = omega (arith, there .room, length-pairList (q .lefts) (q .rights))
 
 module _ {lay : Layout} {w : List ℕ} {lefts rights : ℕ} {was v pairs : List ℕ} {n k : ℕ}
-    (left : PairsLeft lay w lefts rights was v pairs n k)
+    (writing : PairsWriting lay w lefts rights was v pairs n k)
   where
-    left-room : k < lefts → (q : Query) → PairsRoom lay q w lefts rights was → LeftRoom lay q v k rights n pairs
-    left-room more q there =
+    left-room : k < lefts → {q : Query} → PairsRoom lay q w lefts rights was → LeftRoom lay q v k rights n pairs
+    left-room more {q} there =
         record {
           left =
               record {
-                index = index-frame (left .frame) (left .size) (there .index);
+                index = index-frame (writing .frame) (writing .size) (there .index);
                 below = omega (arith, there .leftCount);
               };
           rightCount = there .rightCount;
           room =
-              writing-room (left .written q there) (rowAt q k) (pairsFrom (k + 1) (drop (k + 1) (q .lefts)) (q .rights))
+              writing-room (writing .written q there) (rowAt q k) (pairsFrom contained (k + 1) (drop (k + 1) (q .lefts)) (q .rights))
               (pairs-next q k (omega (arith, there .leftCount)));
         }
 
     pairs-step : k < lefts → {u out : List ℕ} {r : ℕ} → length u ≡ length v → LeftWritten lay v k rights n pairs u out r
-        → PairsLeft lay w lefts rights was u out r (k + 1)
+        → PairsWriting lay w lefts rights was u out r (k + 1)
     pairs-step more size wrote =
         record {
-          frame = wrote .frame ∙ left .frame;
-          size = size ∙ left .size;
+          frame = wrote .frame ∙ writing .frame;
+          size = size ∙ writing .size;
           written = λ q there.
-              writing-step (left .written q there) (pairs-next q k (omega (arith, there .leftCount)))
-              (wrote .wrote q (left-room more q there));
+              writing-step (writing .written q there) (pairs-next q k (omega (arith, there .leftCount)))
+              (wrote .wrote q (left-room more there));
         }
 
     pairs-end : lefts ≤ k → (q : Query) → PairsRoom lay q w lefts rights was
         → pairs ≡ pairList (q .lefts) (q .rights) ++ drop (length (pairList (q .lefts) (q .rights))) was
     pairs-end past q there =
-        written-whole (writing-end (left .written q there) (pairs-none q k (omega (arith, there .leftCount)))) (list-room there)
+        written-whole (writing-end (writing .written q there) (pairs-none q k (omega (arith, there .leftCount)))) (list-room there)
 
 abbrev Inv-loop : tie.InvT-loop
 Inv-loop work₀ lay lefts rights pairs₀ n₀ k₀ work pairs n k =
-    PairsLeft lay work₀ lefts rights pairs₀ work pairs n k
+    PairsWriting lay work₀ lefts rights pairs₀ work pairs n k
 
 abbrev μ-loop : tie.MeasureT-loop
 μ-loop work₀ lay lefts rights pairs₀ n₀ k₀ work pairs n k =
@@ -82,12 +83,11 @@ loop-holds c =
 
 write-left-requires : tie.Need-write-left-requires Inv-loop μ-loop
 write-left-requires c κs =
-    let at-loop = c .before .before .before .loop in
-    let at-loop-test = c .before .before .loop-test in
-    let start = c .before .before .before .before .before .before in
+    let at-loop = c .before .before .before in
+    let asked = at-loop .before .before .before .pre in
     record {
-      query = start .pre .query;
-      holds = left-room (at-loop .inv) (at-loop-test .taken) (start .pre .query) (start .pre .holds);
+      query = asked .query;
+      holds = left-room (at-loop .loop .inv) (c .before .before .loop-test .taken) (asked .holds);
     }
 
 add-k : tie.Need-add-k Inv-loop μ-loop
@@ -100,10 +100,9 @@ loop-less c =
 
 loop-again : tie.Need-loop-again Inv-loop μ-loop
 loop-again c =
-    let at-loop = c .before .before .before .before .before .before .before .before .loop in
-    let at-loop-test = c .before .before .before .before .before .before .before .loop-test in
-    let at-write-left = c .before .before .before .before .write-left in
-    pairs-step (at-loop .inv) (at-loop-test .taken) (at-write-left .kept .0) (at-write-left .ensures)
+    let at-test = c .before .before .before .before .before .before .before in
+    let wrote = c .before .before .before .before .write-left in
+    pairs-step (at-test .before .loop .inv) (at-test .loop-test .taken) (wrote .kept .0) (wrote .ensures)
 
 same-length : tie.Need-same-length Inv-loop μ-loop
 same-length c =

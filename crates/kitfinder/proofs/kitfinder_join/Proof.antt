@@ -1,13 +1,13 @@
 -- `kitfinder_join` meets its contract: the words of the answer, and the lists that the join leaves.
 use mathlib.Core.Path.{ap, _∙_}
-use Rattle.kitfinder.specs.Words.{joinWords}
-use Rattle.kitfinder.proofs.ByNumber.{lists-after}
+use Rattle.join_spec.specs.Answer.{joinWords}
+use Rattle.join.proofs.ByNumber.{call-right}
 use borrow.Author.Needs.{needs}
 use Rattle.kitfinder.proofs.kitfinder_join.Statement.{statement}
 use Rattle.kitfinder.proofs.kitfinder_join.Tie as tie
 
-join-numbered-requires : tie.Need-join-numbered-requires
-join-numbered-requires c κs = search needs
+run-numbered-requires : tie.Need-run-numbered-requires
+run-numbered-requires c κs = search needs
 
 join-words-requires : tie.Need-join-words-requires
 join-words-requires c κs = search needs
@@ -20,10 +20,10 @@ same-length-2 c = search needs
 
 returns : tie.Need-returns
 returns c =
-    let given = c .before .before .before .before .before .join-numbered .ensures in
-    (c .join-words .ensures ∙ ap joinWords (given .0), lists-after _ _ _ _ _ _ _ (given .0) (given .1))
+    let given = c .before .before .before .before .before .run-numbered .ensures in
+    (c .join-words .ensures ∙ ap joinWords (given .answer), call-right given)
 
 pub kitfinder-join-spec : {M : Type 1} → statement M
 kitfinder-join-spec =
     tie.close
-    (tie.spec join-numbered-requires join-words-requires same-length same-length-2 returns)
+    (tie.spec run-numbered-requires join-words-requires same-length same-length-2 returns)

@@ -1,6 +1,6 @@
 -- `kitfinder_write` meets its contract: the words of what the writer answers, and the file that it leaves.
 use mathlib.Core.Path.{ap, _∙_}
-use Rattle.kitfinder.specs.Words.{writeWords}
+use Rattle.tag_writer.specs.Writer.{writeWords}
 use borrow.Author.Needs.{needs}
 use Rattle.kitfinder.proofs.kitfinder_write.Statement.{statement}
 use Rattle.kitfinder.proofs.kitfinder_write.Tie as tie
@@ -17,7 +17,7 @@ same-length c = search needs
 returns : tie.Need-returns
 returns c =
     let given = c .before .before .before .write .ensures in
-    (c .write-words .ensures ∙ ap writeWords (given .0), given .1)
+    (c .write-words .ensures ∙ ap writeWords (given .answered), given .file)
 
 pub kitfinder-write-spec : {M : Type 1} → statement M
 kitfinder-write-spec = tie.close (tie.spec write-requires write-words-requires same-length returns)

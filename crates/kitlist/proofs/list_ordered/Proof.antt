@@ -3,23 +3,19 @@ use mathlib.Core.Path.{sym, _∙_}
 use mathlib.Core.List.{List}
 use Prim.Native.Nat.{ℕ}
 use native.Mathlib.Omega.{arith}
-use lib.ListN.{length}
 use lib.Seq.{length-take-le}
 use Rattle.join_spec.specs.declared.Rule.the-variants.{Merge}
-use Rattle.join_spec.proofs.Inputs.{Collections, Settings}
+use Rattle.inputs.specs.Input.{inputOf}
+use Rattle.join_spec.specs.Query.{Settings, settingsOf}
+use Rattle.join_spec.specs.Answer.{roomOf}
 use Rattle.kitlist.proofs.PairPlaces.{places-enough, places-within}
 use borrow.Author.Needs.{needs}
 use Rattle.kitlist.proofs.list_ordered.Statement.{statement}
 use Rattle.kitlist.proofs.list_ordered.Tie as tie
 
--- what is joined, and the join that is asked for
-abbrev joined : ℕ → List ℕ → List ℕ → List ℕ → List ℕ → Collections
-joined t leftEnds leftItems rightEnds rightItems =
-    record { T = t; leftEnds = leftEnds; leftItems = leftItems; rightEnds = rightEnds; rightItems = rightItems }
-
-abbrev asked : List ℕ → ℕ → ℕ → Settings
-asked ranks words room =
-    record { limit = 2; ranks = ranks; budget = 4294967295; rule = Merge; words = words; room = room }
+-- the join that is asked for
+abbrev asked : List ℕ → Settings
+asked ranks = settingsOf 2 ranks 4294967295 Merge
 
 new-work-requires : tie.Need-new-work-requires
 new-work-requires c κs = search needs
@@ -56,10 +52,10 @@ array-share-prefix-pairs c =
     let work = lent .before in
     let start = work .before .before .before .before .before .before .before .before in
     let a = start .args in
-    let collections = joined (a .t) (a .left-ends .now) (a .left-items .now) (a .right-ends .now) (a .right-items .now) in
-    let settings = asked (a .ranks .now) (length (work .new-work .result)) (length (lent .new-pairs .result)) in
-    let joins = sym (run .run .ensures .0) ∙ told .answer .given .1 in
-    omega (arith, places-enough collections settings _ joins, run .run .kept .1 .1 .1 .1 .1 .1 .1 .1 .1 .1 .0)
+    let input = inputOf (a .t) (a .left-ends .now) (a .left-items .now) (a .right-ends .now) (a .right-items .now) in
+    let room = roomOf (work .new-work .result) (lent .new-pairs .result) in
+    let joins = sym (run .run .ensures .answer) ∙ told .answer .given .1 in
+    omega (arith, places-enough input (asked (a .ranks .now)) room _ joins, run .run .kept .1 .1 .1 .1 .1 .1 .1 .1 .1 .1 .0)
 
 slice-aggregate-print-pairs : tie.Need-slice-aggregate-print-pairs
 slice-aggregate-print-pairs c =
@@ -69,10 +65,10 @@ slice-aggregate-print-pairs c =
     let work = lent .before in
     let start = work .before .before .before .before .before .before .before .before in
     let a = start .args in
-    let collections = joined (a .t) (a .left-ends .now) (a .left-items .now) (a .right-ends .now) (a .right-items .now) in
-    let settings = asked (a .ranks .now) (length (work .new-work .result)) (length (lent .new-pairs .result)) in
-    let joins = sym (run .run .ensures .0) ∙ told .answer .given .1 in
-    let enough = places-enough collections settings _ joins in
+    let input = inputOf (a .t) (a .left-ends .now) (a .left-items .now) (a .right-ends .now) (a .right-items .now) in
+    let room = roomOf (work .new-work .result) (lent .new-pairs .result) in
+    let joins = sym (run .run .ensures .answer) ∙ told .answer .given .1 in
+    let enough = places-enough input (asked (a .ranks .now)) room _ joins in
     sym (length-take-le _ _ (omega (arith, enough, run .run .kept .1 .1 .1 .1 .1 .1 .1 .1 .1 .1 .0)))
 
 print-pairs-requires : tie.Need-print-pairs-requires
@@ -83,11 +79,11 @@ print-pairs-requires c κs =
     let work = lent .before in
     let start = work .before .before .before .before .before .before .before .before in
     let a = start .args in
-    let collections = joined (a .t) (a .left-ends .now) (a .left-items .now) (a .right-ends .now) (a .right-items .now) in
-    let settings = asked (a .ranks .now) (length (work .new-work .result)) (length (lent .new-pairs .result)) in
-    let joins = sym (run .run .ensures .0) ∙ told .answer .given .1 in
-    places-within collections settings _ joins _ _ (lent .new-pairs .result) _ _ (start .pre .0) (start .pre .1)
-    (run .run .ensures .0) (run .run .ensures .1 .0)
+    let input = inputOf (a .t) (a .left-ends .now) (a .left-items .now) (a .right-ends .now) (a .right-items .now) in
+    let room = roomOf (work .new-work .result) (lent .new-pairs .result) in
+    let joins = sym (run .run .ensures .answer) ∙ told .answer .given .1 in
+    places-within input (asked (a .ranks .now)) room _ joins _ _ (lent .new-pairs .result) _ _ (start .pre .0) (start .pre .1)
+    (run .run .ensures .answer) (run .run .ensures .pairs)
 
 enum-known-answer-2 : tie.Need-enum-known-answer-2
 enum-known-answer-2 c = search needs

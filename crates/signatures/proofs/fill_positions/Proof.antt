@@ -2,13 +2,12 @@
 -- the first k items are in the table. The measure is what is left of the table.
 use Prim.Native.Nat.{_-_}
 use native.Mathlib.Omega.{arith}
-use lib.ListN.{length}
-use Rattle.signatures.proofs.Signing.{PositionsLeft, positions-start, positions-step, positions-end}
+use Rattle.signatures.proofs.Signing.{PositionsFilling, positions-start, positions-step, positions-end}
 use Rattle.signatures.proofs.fill_positions.Statement.{statement}
 use Rattle.signatures.proofs.fill_positions.Tie as tie
 
 abbrev Inv-loop : tie.InvT-loop
-Inv-loop table₀ power₀ k₀ k-end table power k = PositionsLeft table₀ table power k k-end
+Inv-loop table₀ power₀ k₀ k-end table power k = PositionsFilling table₀ table power k k-end
 
 abbrev μ-loop : tie.MeasureT-loop
 μ-loop table₀ power₀ k₀ k-end table power k = k-end - k
@@ -32,23 +31,13 @@ loop-less : tie.Need-loop-less Inv-loop μ-loop
 loop-less c = omega arith
 
 loop-again : tie.Need-loop-again Inv-loop μ-loop
-loop-again c =
-    let at-loop = c .before in
-    let s = at-loop .before in
-    let a = s .args in
-    let l = at-loop .loop in
-    positions-step (a .table .now) (l .table) (l .power) (l .k) (length (a .table .now)) (l .inv) (omega arith)
+loop-again c = positions-step (c .before .loop .inv) (omega arith)
 
 same-length : tie.Need-same-length Inv-loop μ-loop
 same-length c = c .before .loop .inv .size
 
 returns : tie.Need-returns Inv-loop μ-loop
-returns c =
-    let at-loop = c .before in
-    let s = at-loop .before in
-    let a = s .args in
-    let l = at-loop .loop in
-    positions-end (a .table .now) (l .table) (l .power) (l .k) (length (a .table .now)) (l .inv) (omega arith)
+returns c = positions-end (c .before .loop .inv) (omega arith)
 
 pub fill-positions-spec : {M : Type 1} → statement M
 fill-positions-spec =

@@ -9,6 +9,16 @@ use borrow.Author.Needs.{needs}
 use Rattle.signatures.proofs.sign_collections.Statement.{statement}
 use Rattle.signatures.proofs.sign_collections.Tie as tie
 
+-- the part of the table that was filled has a place for each item
+abbrev start : tie.After-fill-positions → tie.Start
+start c = c .before .before .before .before .before .before .before .before
+
+table-length : (c : tie.After-fill-positions) → length (c .fill-positions .last .0) ≡ start c .args .t
+table-length c =
+    let table = c .before .before .empty-table in
+    c .fill-positions .kept .0
+    ∙ length-take-le (start c .args .t) (table .result) (omega (arith, table .ensures, start c .pre .few))
+
 empty-table-requires : tie.Need-empty-table-requires
 empty-table-requires c κs = search needs
 
@@ -26,35 +36,25 @@ fill-positions-requires c κs = search needs
 
 array-share-prefix-table : tie.Need-array-share-prefix-table
 array-share-prefix-table c =
-    let s = c .before .before .before .before .before .before .before .before .before .before in
-    let table = c .before .before .before .before .empty-table in
-    let bits = c .before .before .fill-positions in
-    let long = length-take-le (s .args .t) (table .result) (omega (arith, table .ensures, s .pre .few)) in
-    omega (arith, length-append (bits .last .0) (drop (s .args .t) (table .result)), bits .kept .0, long)
+    let filled = c .before .before in
+    let rest = drop (start filled .args .t) (filled .before .before .empty-table .result) in
+    omega (arith, length-append (filled .fill-positions .last .0) rest, table-length filled)
 
 slice-aggregate-sign-both : tie.Need-slice-aggregate-sign-both
 slice-aggregate-sign-both c =
-    let s = c .before .before .before .before .before .before .before .before .before .before .before in
-    let table = c .before .before .before .before .before .empty-table in
-    let bits = c .before .before .before .fill-positions in
-    let long : length (bits .last .0) ≡ s .args .t =
-    bits .kept .0 ∙ length-take-le (s .args .t) (table .result) (omega (arith, table .ensures, s .pre .few))
-    in
-    rw (take-at (bits .last .0) (drop (s .args .t) (table .result)) (s .args .t) long) (sym long)
+    let filled = c .before .before .before in
+    let rest = drop (start filled .args .t) (filled .before .before .empty-table .result) in
+    rw (take-at (filled .fill-positions .last .0) rest (start filled .args .t) (table-length filled)) (sym (table-length filled))
 
 sign-both-requires : tie.Need-sign-both-requires
 sign-both-requires c κs =
-    let s = c .before .before .before .before .before .before .before .before .before .before .before in
-    let a = s .args in
-    let table = c .before .before .before .before .before .empty-table in
-    let bits = c .before .before .before .fill-positions in
-    let long : length (bits .last .0) ≡ a .t =
-    bits .kept .0 ∙ length-take-le (a .t) (table .result) (omega (arith, table .ensures, s .pre .few))
-    in
-    rw (take-at (bits .last .0) (drop (a .t) (table .result)) (a .t) long) (
+    let filled = c .before .before .before in
+    let a = start filled .args in
+    let rest = drop (a .t) (filled .before .before .empty-table .result) in
+    rw (take-at (filled .fill-positions .last .0) rest (a .t) (table-length filled)) (
       subst (λ (n : ℕ). BothRoom n (a .right-at) (a .left-at) (a .right-ends .now) (a .right-items .now) (a .left-ends .now)
-          (a .left-items .now) (a .work .now)) (sym long) (s .pre),
-      bits .ensures,
+          (a .left-items .now) (a .work .now)) (sym (table-length filled)) (start filled .pre),
+      filled .fill-positions .ensures,
     )
 
 same-length : tie.Need-same-length

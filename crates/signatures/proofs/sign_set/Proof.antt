@@ -1,8 +1,9 @@
 -- `signatures::sign_set` meets its contract. The invariant: the word so far, with the bits of the items that are
 -- left, is the signature. The measure is how many items are left.
-use Prim.Native.Nat.{_-_, _≤_}
+use Prim.Native.Nat.{_-_, _≤_, _<_}
 use mathlib.Core.Path.{_≡_, refl, sym, _∙_}
 use native.Mathlib.Omega.{arith}
+use lib.ListN.{getD}
 use Rattle.sets.specs.Collections.{between}
 use Rattle.sets.specs.Signatures.{signatureFrom, signature}
 use Rattle.signatures.proofs.Signing.{bit-below, sign-step, sign-end}
@@ -16,6 +17,11 @@ Inv-loop items table start end mark₀ i₀ mark i =
 abbrev μ-loop : tie.MeasureT-loop
 μ-loop items table start end mark₀ i₀ mark i = end - i
 
+-- the bit of the item at hand is one of 64
+bit-low : (c : tie.In-loop Inv-loop μ-loop)
+    → getD (c .before .before .args .table .now) (getD (c .before .before .args .items .now) (c .before .loop .i) 0) 0 < 64
+bit-low c = bit-below (c .before .before .pre) (c .before .loop .i) (c .before .loop .inv .0) (omega arith)
+
 loop-holds : tie.Need-loop-holds Inv-loop μ-loop
 loop-holds c = (omega arith, refl)
 
@@ -26,44 +32,21 @@ shared-slice-read-item : tie.Need-shared-slice-read-item Inv-loop μ-loop
 shared-slice-read-item c = omega arith
 
 cast-item : tie.Need-cast-item Inv-loop μ-loop
-cast-item c =
-    let at-loop = c .before .before in
-    let s = at-loop .before in
-    let a = s .args in
-    let l = at-loop .loop in
-    omega (arith, c .shared-slice-known .given (l .i))
+cast-item c = omega (arith, c .shared-slice-known .given (c .before .before .loop .i))
 
 shared-slice-read-bit : tie.Need-shared-slice-read-bit Inv-loop μ-loop
 shared-slice-read-bit c =
     let at-loop = c .before .before .before in
-    let s = at-loop .before in
-    let a = s .args in
-    let l = at-loop .loop in
-    s .pre .below (l .i) (l .inv .0) (omega arith)
+    at-loop .before .pre .below (at-loop .loop .i) (at-loop .loop .inv .0) (omega arith)
 
 cast-bit : tie.Need-cast-bit Inv-loop μ-loop
-cast-bit c =
-    let at-loop = c .before .before .before in
-    let s = at-loop .before in
-    let a = s .args in
-    let l = at-loop .loop in
-    omega (arith, bit-below (a .start) (a .end) (a .items .now) (a .table .now) (s .pre) (l .i) (l .inv .0) (omega arith))
+cast-bit c = omega (arith, bit-low (c .before .before))
 
 cast-mark : tie.Need-cast-mark Inv-loop μ-loop
-cast-mark c =
-    let at-loop = c .before .before .before in
-    let s = at-loop .before in
-    let a = s .args in
-    let l = at-loop .loop in
-    omega (arith, bit-below (a .start) (a .end) (a .items .now) (a .table .now) (s .pre) (l .i) (l .inv .0) (omega arith))
+cast-mark c = omega (arith, bit-low (c .before .before))
 
 shl-mark : tie.Need-shl-mark Inv-loop μ-loop
-shl-mark c =
-    let at-loop = c .before .before .before in
-    let s = at-loop .before in
-    let a = s .args in
-    let l = at-loop .loop in
-    bit-below (a .start) (a .end) (a .items .now) (a .table .now) (s .pre) (l .i) (l .inv .0) (omega arith)
+shl-mark c = bit-low (c .before .before)
 
 add-i : tie.Need-add-i Inv-loop μ-loop
 add-i c = omega arith
@@ -74,20 +57,13 @@ loop-less c = omega arith
 loop-again : tie.Need-loop-again Inv-loop μ-loop
 loop-again c =
     let at-loop = c .before .before .before in
-    let s = at-loop .before in
-    let a = s .args in
-    let l = at-loop .loop in (
-      omega arith,
-      sign-step (a .start) (a .end) (a .items .now) (a .table .now) (s .pre) (l .i) (l .inv .0) (omega arith)
-          (l .mark) ∙ l .inv .1,
-    )
+    let l = at-loop .loop in
+    (omega arith, sign-step (at-loop .before .pre) (l .i) (l .inv .0) (omega arith) (l .mark) ∙ l .inv .1)
 
 returns : tie.Need-returns Inv-loop μ-loop
 returns c =
-    let at-loop = c .before in
-    let s = at-loop .before in
-    let a = s .args in
-    let l = at-loop .loop in
+    let a = c .before .before .args in
+    let l = c .before .loop in
     sym (sign-end (a .end) (l .i) (l .mark) (a .items .now) (omega arith)) ∙ l .inv .1
 
 pub sign-set-spec : {M : Type 1} → statement M

@@ -4,22 +4,22 @@ use Prim.Native.Nat.{_-_}
 use mathlib.Core.Path.{_≡_, refl}
 use native.Mathlib.Omega.{arith}
 use lib.ListN.{length}
-use Rattle.signatures.proofs.SigningSets.{SigningLeft, signing-start, signing-items, signing-step, signing-end}
+use Rattle.signatures.proofs.SigningSets.{SetsSigning, signing-start, signing-items, signing-step, signing-end}
 use Rattle.signatures.proofs.sign_sets.Statement.{statement}
 use Rattle.signatures.proofs.sign_sets.Tie as tie
 
 abbrev Inv-loop : tie.InvT-loop
 Inv-loop work₀ ends items table at start₀ k₀ k-end work start k =
-    (k-end ≡ length ends) × SigningLeft at ends items table work₀ work start k
+    (k-end ≡ length ends) × SetsSigning at ends items table work₀ work start k
 
 abbrev μ-loop : tie.MeasureT-loop
 μ-loop work₀ ends items table at start₀ k₀ k-end work start k = k-end - k
 
+abbrev start : tie.At-loop Inv-loop μ-loop → tie.Start Inv-loop μ-loop
+start c = c .before .before .before .before .before
+
 loop-holds : tie.Need-loop-holds Inv-loop μ-loop
-loop-holds c =
-    let s = c .before .before .before .before in
-    let a = s .args in
-    (refl, signing-start (a .at) (a .ends .now) (a .items .now) (a .table .now) (a .work .now) (s .pre))
+loop-holds c = (refl, signing-start (c .before .before .before .before .pre))
 
 mul-end : tie.Need-mul-end Inv-loop μ-loop
 mul-end c = omega arith
@@ -33,12 +33,7 @@ cast-end c = omega (arith, c .shared-slice-known4 .given (c .before .before .loo
 sign-set-requires : tie.Need-sign-set-requires Inv-loop μ-loop
 sign-set-requires c κs =
     let at-loop = c .before .before in
-    let s = at-loop .before .before .before .before .before in
-    let a = s .args in
-    let l = at-loop .loop in
-    signing-items (a .at) (a .ends .now) (a .items .now) (a .table .now) (a .work .now) (l .work) (l .start) (l .k) (s .pre)
-    (l .inv .1)
-    (omega arith)
+    signing-items (start at-loop .pre) (at-loop .loop .inv .1) (omega arith)
 
 mul-store-double : tie.Need-mul-store-double Inv-loop μ-loop
 mul-store-double c = omega arith
@@ -60,28 +55,16 @@ loop-less c = omega arith
 
 loop-again : tie.Need-loop-again Inv-loop μ-loop
 loop-again c =
-    let at-loop = c .before .before .before .before .before .before .before in
-    let s = at-loop .before .before .before .before .before in
-    let a = s .args in
-    let l = at-loop .loop in
-    let sign = c .before .before .before .before .sign-set in
-    let stored = c .before .before .store-double in (
-      refl,
-      signing-step (a .at) (a .ends .now) (a .items .now) (a .table .now) (a .work .now) (l .work) (l .start) (l .k) (s .pre)
-          (l .inv .1)
-          (omega arith) (stored .last .0) (sign .result) (sign .ensures) (stored .ensures),
-    )
+    let stored = c .before .before in
+    let signed = stored .before .before in
+    let at-loop = signed .before .before .before in
+    (refl, signing-step (start at-loop .pre) (at-loop .loop .inv .1) (omega arith) (signed .sign-set .ensures) (stored .store-double .ensures))
 
 same-length : tie.Need-same-length Inv-loop μ-loop
 same-length c = c .before .loop .inv .1 .signed .size
 
 returns : tie.Need-returns Inv-loop μ-loop
-returns c =
-    let at-loop = c .before in
-    let a = at-loop .before .before .before .before .before .args in
-    let l = at-loop .loop in
-    signing-end (a .at) (a .ends .now) (a .items .now) (a .table .now) (a .work .now) (l .work) (l .start) (l .k) (l .inv .1)
-    (omega arith)
+returns c = signing-end (c .before .loop .inv .1) (omega arith)
 
 pub sign-sets-spec : {M : Type 1} → statement M
 sign-sets-spec =

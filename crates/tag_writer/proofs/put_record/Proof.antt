@@ -9,21 +9,21 @@ use Rattle.sets.specs.declared.Side.{Side}
 use Rattle.tag_file.specs.Format.{tagLength, headLength, tagBytes, recordBytes}
 use lib.Seq.{sets}
 use Rattle.tag_writer.specs.Room.{ItemsFit}
-use Rattle.tag_writer.specs.Writer.{tagsOf}
+use Rattle.tag_writer.specs.Writer.{itemTags}
 use Rattle.lists.proofs.Filling.{sets-then}
 use Rattle.sets.proofs.Between.{length-between}
-use Rattle.tag_writer.proofs.Records.{headOf, length-head, length-tagsOf}
+use Rattle.tag_writer.proofs.Records.{headOf, length-head, length-itemTags}
 use Rattle.tag_writer.proofs.put_record.Statement.{statement}
 use Rattle.tag_writer.proofs.put_record.Tie as tie
 
 record-put : (side : Side) (number : ℕ) (tags items : List ℕ) (start end : ℕ) (file : List ℕ) (at : ℕ) (file′ file″ : List ℕ)
     → ItemsFit tags items start end → at + (headLength + tagLength * (end - start)) ≤ length file
     → file′ ≡ sets file at (headOf side number (end - start))
-    → file″ ≡ sets file′ (at + 5) (tagBytes (tagsOf tags (between start end items)))
-    → file″ ≡ sets file at (recordBytes side number (tagsOf tags (between start end items)))
+    → file″ ≡ sets file′ (at + 5) (tagBytes (itemTags tags (between start end items)))
+    → file″ ≡ sets file at (recordBytes side number (itemTags tags (between start end items)))
 record-put side number tags items start end file at file′ file″ fit room e₁ e₂ =
-    let n : length (tagsOf tags (between start end items)) ≡ end - start =
-    length-tagsOf tags (between start end items) ∙ length-between start end items (fit .inside) in
+    let n : length (itemTags tags (between start end items)) ≡ end - start =
+    length-itemTags tags (between start end items) ∙ length-between start end items (fit .inside) in
     e₂ ∙ rw (e₁, n) (sym (sets-then file at (headOf side number (end - start)) _ headLength (length-head side _ _)))
 
 sub-count : tie.Need-sub-count

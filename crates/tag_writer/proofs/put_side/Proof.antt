@@ -13,7 +13,7 @@ use Rattle.sets.proofs.Good.{GoodSet, good-step, good-next}
 use Rattle.tag_file.specs.Format.{tagLength, headLength, recordBytes}
 use lib.Seq.{sets, length-sets}
 use Rattle.tag_writer.specs.Room.{ItemsFit, GoodSide}
-use Rattle.tag_writer.specs.Writer.{tagsOf, recordsOf}
+use Rattle.tag_writer.specs.Writer.{itemTags, recordsOf}
 use Rattle.lists.proofs.Filling.{sets-then}
 use Rattle.tag_writer.proofs.Sides.{fit-items, length-record, records-next}
 use Rattle.tag_writer.proofs.put_side.Statement.{statement}
@@ -23,17 +23,17 @@ use Rattle.tag_writer.proofs.put_side.Tie as tie
 abbrev rest : Side → List ℕ → List ℕ → List ℕ → List ℕ → ℕ → ℕ → List ℕ
 rest side tags numbers ends items k start = recordsOf side tags (drop k numbers) (setsFrom start (drop k ends) items)
 
-record Writing (side : Side) (tags numbers ends items file₀ : List ℕ) (at : ℕ) (file : List ℕ) (k start to : ℕ) : Type 0 where
+record PuttingRecords (side : Side) (tags numbers ends items file₀ : List ℕ) (at : ℕ) (file : List ℕ) (k start to : ℕ) : Type 0 where
   within : k ≤ length ends
   long : length file ≡ length file₀
   good : firstBadFrom (length tags / tagLength) k start (drop k ends) items ≡ Good
   place : to + length (rest side tags numbers ends items k start) ≡ at + length (rest side tags numbers ends items 0 0)
-  left : sets file to (rest side tags numbers ends items k start) ≡ sets file₀ at (rest side tags numbers ends items 0 0)
+  together : sets file to (rest side tags numbers ends items k start) ≡ sets file₀ at (rest side tags numbers ends items 0 0)
 
-writing-start : (side : Side) (tags numbers ends items file : List ℕ) (at : ℕ) → GoodSide tags numbers ends items
-    → Writing side tags numbers ends items file at file 0 0 at
-writing-start side tags numbers ends items file at so =
-    record { within = omega arith; long = refl; good = so .good; place = refl; left = refl }
+putting-start : (side : Side) (tags numbers ends items file : List ℕ) (at : ℕ) → GoodSide tags numbers ends items
+    → PuttingRecords side tags numbers ends items file at file 0 0 at
+putting-start side tags numbers ends items file at so =
+    record { within = omega arith; long = refl; good = so .good; place = refl; together = refl }
 
 -- what a turn has: the set at place k is not bad, its tags are in the table, and its record has room
 record Turn (tags items file : List ℕ) (k start end to : ℕ) : Type 0 where
@@ -44,17 +44,17 @@ record Turn (tags items file : List ℕ) (k start end to : ℕ) : Type 0 where
 module _ (side : Side) (tags numbers ends items file₀ : List ℕ) (at : ℕ) (file : List ℕ) (k start to : ℕ)
     (whole : GoodSide tags numbers ends items)
     (fits : at + length (rest side tags numbers ends items 0 0) ≤ length file₀)
-    (more : k < length ends) (so : Writing side tags numbers ends items file₀ at file k start to) where
+    (more : k < length ends) (so : PuttingRecords side tags numbers ends items file₀ at file k start to) where
   -- the length of the record at place k
   size : GoodSet (length tags / tagLength) k start (getD ends k 0) items
-      → length (recordBytes side (getD numbers k 0) (tagsOf tags (between start (getD ends k 0) items)))
+      → length (recordBytes side (getD numbers k 0) (itemTags tags (between start (getD ends k 0) items)))
       ≡ headLength + tagLength * (getD ends k 0 - start)
   size here =
       length-record side (getD numbers k 0) tags (between start (getD ends k 0) items)
       ∙ rw (length-between start (getD ends k 0) items (here .within))
 
   split : length (rest side tags numbers ends items k start)
-      ≡ length (recordBytes side (getD numbers k 0) (tagsOf tags (between start (getD ends k 0) items)))
+      ≡ length (recordBytes side (getD numbers k 0) (itemTags tags (between start (getD ends k 0) items)))
       + length (rest side tags numbers ends items (k + 1) (getD ends k 0))
   split = rw (records-next side tags numbers ends items k start more (whole .numbered), length-append)
 
@@ -69,42 +69,42 @@ module _ (side : Side) (tags numbers ends items file₀ : List ℕ) (at : ℕ) (
         room = omega (arith, so .place, so .long);
       }
 
-  writing-step : (file′ : List ℕ)
-      → file′ ≡ sets file to (recordBytes side (getD numbers k 0) (tagsOf tags (between start (getD ends k 0) items)))
-      → Writing side tags numbers ends items file₀ at file′ (k + 1) (getD ends k 0)
+  putting-step : (file′ : List ℕ)
+      → file′ ≡ sets file to (recordBytes side (getD numbers k 0) (itemTags tags (between start (getD ends k 0) items)))
+      → PuttingRecords side tags numbers ends items file₀ at file′ (k + 1) (getD ends k 0)
       (to + (headLength + tagLength * (getD ends k 0 - start)))
-  writing-step file′ e =
+  putting-step file′ e =
       let n = size (turn .set) in
       let l = split in
-      let bytes = recordBytes side (getD numbers k 0) (tagsOf tags (between start (getD ends k 0) items)) in
+      let bytes = recordBytes side (getD numbers k 0) (itemTags tags (between start (getD ends k 0) items)) in
       record {
         within = omega arith;
         long = ap length e ∙ length-sets file to bytes ∙ so .long;
         good = good-next (length tags / tagLength) ends items k start more (so .good);
         place = omega (arith, so .place);
-        left =
+        together =
             rw e
             (sym (sets-then file to bytes (rest side tags numbers ends items (k + 1) (getD ends k 0)) _ n)
-            ∙ ap (sets file to) (sym (records-next side tags numbers ends items k start more (whole .numbered))) ∙ so .left);
+            ∙ ap (sets file to) (sym (records-next side tags numbers ends items k start more (whole .numbered))) ∙ so .together);
       }
 
-writing-end : (side : Side) (tags numbers ends items file₀ : List ℕ) (at : ℕ) (file : List ℕ) (k start to : ℕ)
-    → GoodSide tags numbers ends items → length ends ≤ k → Writing side tags numbers ends items file₀ at file k start to
+putting-end : (side : Side) (tags numbers ends items file₀ : List ℕ) (at : ℕ) (file : List ℕ) (k start to : ℕ)
+    → GoodSide tags numbers ends items → length ends ≤ k → PuttingRecords side tags numbers ends items file₀ at file k start to
     → file ≡ sets file₀ at (rest side tags numbers ends items 0 0)
 unfolding recordsOf setsFrom
-writing-end side tags numbers ends items file₀ at file k start to whole done so =
+putting-end side tags numbers ends items file₀ at file k start to whole done so =
     let none : drop k numbers ≡ [] = drop-of-length-le numbers {i = k} (omega (arith, whole .numbered)) in
-    ap (λ (l : List ℕ). sets file to (recordsOf side tags l (setsFrom start (drop k ends) items))) (sym none) ∙ so .left
+    ap (λ (l : List ℕ). sets file to (recordsOf side tags l (setsFrom start (drop k ends) items))) (sym none) ∙ so .together
 
 abbrev Inv-loop : tie.InvT-loop
 Inv-loop side tags numbers ends items file₀ at k₀ start₀ to₀ file k start to =
-    Writing side tags numbers ends items file₀ at file k start to
+    PuttingRecords side tags numbers ends items file₀ at file k start to
 
 abbrev μ-loop : tie.MeasureT-loop
 μ-loop side tags numbers ends items file₀ at k₀ start₀ to₀ file k start to = length ends - k
 
 loop-holds : tie.Need-loop-holds Inv-loop μ-loop
-loop-holds c = writing-start _ _ _ _ _ _ _ (c .before .before .before .before .before .pre .0)
+loop-holds c = putting-start _ _ _ _ _ _ _ (c .before .before .before .before .before .pre .0)
 
 mul-end : tie.Need-mul-end Inv-loop μ-loop
 mul-end c = omega arith
@@ -166,7 +166,7 @@ loop-again : tie.Need-loop-again Inv-loop μ-loop
 loop-again c =
     let test = c .before .before .before .before .before .before in
     let entry = test .before .before .before .before .before .before .before in
-    writing-step _ _ _ _ _ _ _ _ _ _ _ (entry .pre .0) (entry .pre .1) (test .loop-test .taken) (test .before .loop .inv) _
+    putting-step _ _ _ _ _ _ _ _ _ _ _ (entry .pre .0) (entry .pre .1) (test .loop-test .taken) (test .before .loop .inv) _
     (c .before .before .put-record .ensures)
 
 same-length : tie.Need-same-length Inv-loop μ-loop
@@ -175,7 +175,7 @@ same-length c = c .before .loop .inv .long
 returns : tie.Need-returns Inv-loop μ-loop
 returns c =
     let entry = c .before .before .before .before .before .before .before in
-    writing-end _ _ _ _ _ _ _ _ _ _ _ (entry .pre .0) (c .loop-test .left) (c .before .loop .inv)
+    putting-end _ _ _ _ _ _ _ _ _ _ _ (entry .pre .0) (c .loop-test .left) (c .before .loop .inv)
 
 pub put-side-spec : {M : Type 1} → statement M
 put-side-spec =

@@ -9,7 +9,7 @@ use Rattle.sets.specs.Collections.{between}
 use Rattle.tag_file.specs.Format.{tagLength, tagBytes}
 use lib.Seq.{sets, length-sets}
 use Rattle.tag_writer.specs.Room.{ItemsFit}
-use Rattle.tag_writer.specs.Writer.{tagsOf}
+use Rattle.tag_writer.specs.Writer.{itemTags}
 use Rattle.lists.proofs.Filling.{sets-then}
 use Rattle.tag_writer.proofs.Records.{tags-run}
 use Rattle.tag_writer.proofs.put_tags.Statement.{statement}
@@ -17,25 +17,25 @@ use Rattle.tag_writer.proofs.put_tags.Tie as tie
 
 -- the tags of the items from start up to end, as bytes
 abbrev run : List ℕ → List ℕ → ℕ → ℕ → List ℕ
-run tags items start end = tagBytes (tagsOf tags (between start end items))
+run tags items start end = tagBytes (itemTags tags (between start end items))
 
-record Copying (tags items : List ℕ) (start end : ℕ) (file₀ : List ℕ) (at : ℕ) (file : List ℕ) (i to : ℕ) : Type 0 where
+record PuttingTags (tags items : List ℕ) (start end : ℕ) (file₀ : List ℕ) (at : ℕ) (file : List ℕ) (i to : ℕ) : Type 0 where
   above : start ≤ i
   within : i ≤ end
   long : length file ≡ length file₀
   place : to + tagLength * (end - i) ≡ at + tagLength * (end - start)
-  left : sets file to (run tags items i end) ≡ sets file₀ at (run tags items start end)
+  together : sets file to (run tags items i end) ≡ sets file₀ at (run tags items start end)
 
-copying-start : (tags items : List ℕ) (start end : ℕ) (file : List ℕ) (at : ℕ) → start ≤ end
-    → Copying tags items start end file at file start at
-copying-start tags items start end file at h = record { above = omega arith; within = h; long = refl; place = refl; left = refl }
+putting-start : (tags items : List ℕ) (start end : ℕ) (file : List ℕ) (at : ℕ) → start ≤ end
+    → PuttingTags tags items start end file at file start at
+putting-start tags items start end file at h = record { above = omega arith; within = h; long = refl; place = refl; together = refl }
 
-copying-step : (tags items : List ℕ) (start end : ℕ) (file₀ : List ℕ) (at : ℕ) (file : List ℕ) (i to : ℕ) (file′ : List ℕ)
+putting-step : (tags items : List ℕ) (start end : ℕ) (file₀ : List ℕ) (at : ℕ) (file : List ℕ) (i to : ℕ) (file′ : List ℕ)
     → ItemsFit tags items start end → at + tagLength * (end - start) ≤ length file₀ → ((k : ℕ) → getD tags k 0 < 256)
-    → i < end → Copying tags items start end file₀ at file i to
+    → i < end → PuttingTags tags items start end file₀ at file i to
     → file′ ≡ sets file to (take tagLength (drop (tagLength * getD items i 0) tags))
-    → Copying tags items start end file₀ at file′ (i + 1) (to + tagLength)
-copying-step tags items start end file₀ at file i to file′ fit room low more so e =
+    → PuttingTags tags items start end file₀ at file′ (i + 1) (to + tagLength)
+putting-step tags items start end file₀ at file i to file′ fit room low more so e =
     let known : tagLength * getD items i 0 + tagLength ≤ length tags = fit .known i (so .above) more in
     let tag = take tagLength (drop (tagLength * getD items i 0) tags) in
     let n : length tag ≡ tagLength =
@@ -45,27 +45,27 @@ copying-step tags items start end file₀ at file i to file′ fit room low more
       within = omega arith;
       long = ap length e ∙ length-sets file to tag ∙ so .long;
       place = omega (arith, so .place);
-      left =
+      together =
           rw e
           (sym (sets-then file to tag (run tags items (i + 1) end) tagLength n)
-          ∙ ap (sets file to) (sym (tags-run tags items i end more (fit .inside) known low)) ∙ so .left);
+          ∙ ap (sets file to) (sym (tags-run tags items i end more (fit .inside) known low)) ∙ so .together);
     }
 
-copying-end : (tags items : List ℕ) (start end : ℕ) (file₀ : List ℕ) (at : ℕ) (file : List ℕ) (i to : ℕ)
-    → end ≤ i → Copying tags items start end file₀ at file i to → file ≡ sets file₀ at (run tags items start end)
+putting-end : (tags items : List ℕ) (start end : ℕ) (file₀ : List ℕ) (at : ℕ) (file : List ℕ) (i to : ℕ)
+    → end ≤ i → PuttingTags tags items start end file₀ at file i to → file ≡ sets file₀ at (run tags items start end)
 unfolding tagBytes
-copying-end tags items start end file₀ at file i to done so =
+putting-end tags items start end file₀ at file i to done so =
     let none : end - i ≡ 0 = omega arith in
-    ap (λ (k : ℕ). sets file to (tagBytes (tagsOf tags (take k (drop i items))))) (sym none) ∙ so .left
+    ap (λ (k : ℕ). sets file to (tagBytes (itemTags tags (take k (drop i items))))) (sym none) ∙ so .together
 
 abbrev Inv-loop : tie.InvT-loop
-Inv-loop tags items start end file₀ at i₀ to₀ file i to = Copying tags items start end file₀ at file i to
+Inv-loop tags items start end file₀ at i₀ to₀ file i to = PuttingTags tags items start end file₀ at file i to
 
 abbrev μ-loop : tie.MeasureT-loop
 μ-loop tags items start end file₀ at i₀ to₀ file i to = end - i
 
 loop-holds : tie.Need-loop-holds Inv-loop μ-loop
-loop-holds c = copying-start _ _ _ _ _ _ (c .before .before .before .pre .0 .rise)
+loop-holds c = putting-start _ _ _ _ _ _ (c .before .before .before .pre .0 .rise)
 
 mul-from : tie.Need-mul-from Inv-loop μ-loop
 mul-from c = omega arith
@@ -101,14 +101,14 @@ loop-again c =
     let test = c .before .before .before .before .before in
     let bytes = test .before .before .before .before in
     let entry = bytes .before in
-    copying-step _ _ _ _ _ _ _ _ _ _ (entry .pre .0) (entry .pre .1) (λ k. bytes .shared-slice-known .given k .fits)
+    putting-step _ _ _ _ _ _ _ _ _ _ (entry .pre .0) (entry .pre .1) (λ k. bytes .shared-slice-known .given k .fits)
     (test .loop-test .taken) (test .before .loop .inv) (c .before .before .put-tag .ensures)
 
 same-length : tie.Need-same-length Inv-loop μ-loop
 same-length c = c .before .loop .inv .long
 
 returns : tie.Need-returns Inv-loop μ-loop
-returns c = copying-end _ _ _ _ _ _ _ _ _ (c .loop-test .left) (c .before .loop .inv)
+returns c = putting-end _ _ _ _ _ _ _ _ _ (c .loop-test .left) (c .before .loop .inv)
 
 pub put-tags-spec : {M : Type 1} → statement M
 put-tags-spec =

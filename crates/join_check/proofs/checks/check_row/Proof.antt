@@ -11,14 +11,15 @@ use Rattle.join_index.specs.declared.Layout.{Layout}
 use Rattle.join_check.specs.declared.Tally.{Tally}
 use Rattle.join_check.specs.declared.checks.Probe.{Probe}
 use Rattle.word_lists.specs.Words.{Word}
-use Rattle.join_check.specs.Checks.{checkAt, rowCount, checksIn, RowThere}
+use Rattle.join_check.specs.Checks.{checkAt, rowCount, RowThere}
+use Rattle.join_check.specs.Counters.{checksIn}
 use Rattle.join_check.specs.Probes.{Probed, OneChecked}
 use Rattle.join_check.proofs.Places.{place-right, count-past, count-next}
 use Rattle.join_check.proofs.Tallying.{Leaving, leaving-start, leaving-step, leaving-end, probe-rising, probe-check}
 use Rattle.join_check.proofs.checks.check_row.Statement.{statement}
 use Rattle.join_check.proofs.checks.check_row.Tie as tie
 
-record RowLeft (lay : Layout) (w : List ℕ) (k e from to : ℕ) (t r : Tally) (i : ℕ) : Type 0 where
+record RowChecking (lay : Layout) (w : List ℕ) (k e from to : ℕ) (t r : Tally) (i : ℕ) : Type 0 where
   low : from ≤ i
   grown : checksIn r + (to - i) ≡ checksIn t + (to - from)
   tallied :
@@ -26,26 +27,26 @@ record RowLeft (lay : Layout) (w : List ℕ) (k e from to : ℕ) (t r : Tally) (
       → Leaving (λ is. rowCount q is (slice i to w) k) (λ is. rowCount q is (slice from to w) k) t r
 
 row-step : (lay : Layout) (w : List ℕ) (k e from to : ℕ) (t r : Tally) (i : ℕ) (p : Probe) (s : ℕ) (u : Tally)
-    → RowLeft lay w k e from to t r i → i < to → Probed lay w k e p → Word w i s → OneChecked lay w p s r u
-    → RowLeft lay w k e from to t u (i + 1)
-row-step lay w k e from to t r i p s u left more probed word one-more =
+    → RowChecking lay w k e from to t r i → i < to → Probed lay w k e p → Word w i s → OneChecked lay w p s r u
+    → RowChecking lay w k e from to t u (i + 1)
+row-step lay w k e from to t r i p s u so more probed word one-more =
     record {
-      low = omega (arith, left .low);
-      grown = omega (arith, left .grown, one-more .grown);
+      low = omega (arith, so .low);
+      grown = omega (arith, so .grown, one-more .grown);
       tallied = λ q there.
-          leaving-step (left .tallied q there) {later = λ is. rowCount q is (slice (i + 1) to w) k}
-          (one-more .tallied q (place-right (there .places) i s (left .low) more word))
+          leaving-step (so .tallied q there) {later = λ is. rowCount q is (slice (i + 1) to w) k}
+          (one-more .tallied q (place-right (there .places) i s (so .low) more word))
           (λ is.
           count-next (λ (x : ℕ). is (checkAt q k x)) w i to more (there .places .within)
           ∙ ap (λ (n : ℕ). n + rowCount q is (slice (i + 1) to w) k)
           (ap (λ (x : ℕ). one (is (checkAt q k x))) (sym (word .is))
           ∙ ap (λ (o : Outcome). one (is o)) (sym
-          (probe-check there (probed .is q (there .left)) i s (left .low) more word))));
+          (probe-check there (probed .is q (there .left)) i s (so .low) more word))));
     }
 
 abbrev Inv-loop : tie.InvT-loop
 Inv-loop work lay k e from to p r₀ i₀ r i =
-    RowLeft lay work k e from to r₀ r i
+    RowChecking lay work k e from to r₀ r i
 
 abbrev μ-loop : tie.MeasureT-loop
 μ-loop work lay k e from to p r₀ i₀ r i =
@@ -63,7 +64,7 @@ loop-holds c =
       grown = refl;
       tallied = λ q there. leaving-start
           (λ is. rowCount q is (slice (start .args .from) (start .args .to) (start .args .work .now)) (start .args .k))
-          (start .args .t);
+          (start .args .tally);
     }
 
 word-at-requires : tie.Need-word-at-requires Inv-loop μ-loop
@@ -103,7 +104,7 @@ loop-again c =
     let at-probe-left = at-loop .before in
     let start = at-probe-left .before .before in
     let a = start .args in
-    row-step (a .lay) (a .work .now) (a .k) (a .e) (a .from) (a .to) (a .t) (at-loop .loop .r) (at-loop .loop .i)
+    row-step (a .lay) (a .work .now) (a .k) (a .e) (a .from) (a .to) (a .tally) (at-loop .loop .r) (at-loop .loop .i)
     (at-probe-left .probe-left .result) (c .before .word-at .result) (c .check-one .result)
     (at-loop .loop .inv) (at-loop-test .loop-test .taken) (at-probe-left .probe-left .ensures) (c .before .word-at .ensures)
     (c .check-one .ensures)

@@ -1,9 +1,9 @@
--- `join_check::subtree::gather`, which calls itself on each child, meets its contract. The loop's invariant is `RunsLeft`: the
+-- `join_check::subtree::gather`, which calls itself on each child, meets its contract. The loop's invariant is `RunsChecking`: the
 -- counters, with the checks of the left sets that are left, are what they were with all. The measures: the limit less the
 -- depth, and how many left sets are left.
 use native.Mathlib.Omega.{arith}
 use Rattle.join_check.proofs.Orders.{run-left}
-use Rattle.join_check.proofs.Gathering.{runs-within, runs-part, runs-run, RunsLeft}
+use Rattle.join_check.proofs.Gathering.{runs-within, runs-part, runs-run, RunsChecking}
 use Rattle.join_check.proofs.Gathering.{runs-start, runs-room, runs-step, runs-end}
 use Prim.Native.Nat.{ℕ, _-_, _<_}
 use borrow.Fn.Kinds.{In}
@@ -43,7 +43,7 @@ callees t = (
 
 abbrev Inv-loop : gather-lts.InvT-loop
 Inv-loop work lay limit d e lo hi from to order r₀ i₀ r i =
-    RunsLeft lay work e lo hi from to r₀ r i
+    RunsChecking lay work e lo hi from to r₀ r i
 
 abbrev μ-loop : gather-lts.MeasureT-loop
 μ-loop work lay limit d e lo hi from to order r₀ i₀ r i =
@@ -61,7 +61,7 @@ gather-returns t c =
 gather-loop-holds : (t : ℕ) → gather-lts.Need-loop-holds (callees t) (gather-at t) gather.Post Inv-loop μ-loop
 gather-loop-holds t c =
     let a = c .before .before .args in
-    runs-start (a .lay) (a .work .now) (a .e) (a .lo) (a .hi) (a .from) (a .to) (a .t)
+    runs-start (a .lay) (a .work .now) (a .e) (a .lo) (a .hi) (a .from) (a .to) (a .tally)
 
 gather-add-word-at : (t : ℕ) → gather-lts.Need-add-word-at (callees t) (gather-at t) gather.Post Inv-loop μ-loop
 gather-add-word-at t c =
@@ -105,7 +105,7 @@ gather-check-run-requires-2 t c κs =
         holds = runs-part (start .pre .1 .0 .holds) (at-loop .loop .i) (c .before .run-end .result) (at-loop .loop .inv .low)
             (omega (arith, run .more)) (run .within);
       },
-      runs-room (a .lay) (a .work .now) (a .e) (a .lo) (a .hi) (a .from) (a .to) (a .t) (at-loop .loop .r) (at-loop .loop .i)
+      runs-room (a .lay) (a .work .now) (a .e) (a .lo) (a .hi) (a .from) (a .to) (a .tally) (at-loop .loop .r) (at-loop .loop .i)
           (at-loop .loop .inv) (c .before .run-end .result)
           (omega (arith, run .more)) (run .within) (start .pre .1 .1),
     )
@@ -129,7 +129,7 @@ gather-gather-requires t c κs =
           holds = runs-part (start .pre .1 .0 .holds) (at-loop .loop .i) (c .before .run-end .result)
               (at-loop .loop .inv .low) (omega (arith, run .more)) (run .within);
         },
-        runs-room (a .lay) (a .work .now) (a .e) (a .lo) (a .hi) (a .from) (a .to) (a .t) (at-loop .loop .r)
+        runs-room (a .lay) (a .work .now) (a .e) (a .lo) (a .hi) (a .from) (a .to) (a .tally) (at-loop .loop .r)
             (at-loop .loop .i) (at-loop .loop .inv) (c .before .run-end .result)
             (omega (arith, run .more)) (run .within) (start .pre .1 .1),
       ),
@@ -148,7 +148,7 @@ gather-loop-again t c =
     let start = at-loop .before .before .before in
     let a = start .args in
     let run = at-run-end .run-end .ensures in
-    runs-step (a .lay) (a .work .now) (a .e) (a .lo) (a .hi) (a .from) (a .to) (a .t) (at-loop .loop .r) (at-loop .loop .i)
+    runs-step (a .lay) (a .work .now) (a .e) (a .lo) (a .hi) (a .from) (a .to) (a .tally) (at-loop .loop .r) (at-loop .loop .i)
     (at-loop .loop .inv) (at-run-end .run-end .result)
     (c .check-run2 .result) (omega (arith, run .more)) (run .within) (c .check-run2 .ensures)
 
@@ -165,7 +165,7 @@ gather-loop-again-2 t c =
     let start = at-loop .before .before .before in
     let a = start .args in
     let run = at-run-end .run-end .ensures in
-    runs-step (a .lay) (a .work .now) (a .e) (a .lo) (a .hi) (a .from) (a .to) (a .t) (at-loop .loop .r) (at-loop .loop .i)
+    runs-step (a .lay) (a .work .now) (a .e) (a .lo) (a .hi) (a .from) (a .to) (a .tally) (at-loop .loop .r) (at-loop .loop .i)
     (at-loop .loop .inv) (at-run-end .run-end .result)
     (c .gather .result) (omega (arith, run .more)) (run .within) (c .gather .ensures)
 
@@ -173,7 +173,7 @@ gather-returns-2 : (t : ℕ) → gather-lts.Need-returns-2 (callees t) (gather-a
 gather-returns-2 t c =
     let start = c .before .before .before .before in
     let a = start .args in
-    runs-end (a .lay) (a .work .now) (a .e) (a .lo) (a .hi) (a .from) (a .to) (a .t) (c .before .loop .r) (c .before .loop .i)
+    runs-end (a .lay) (a .work .now) (a .e) (a .lo) (a .hi) (a .from) (a .to) (a .tally) (c .before .loop .r) (c .before .loop .i)
     (c .before .loop .inv) (c .loop-test .left)
 
 pub +gather-spec : {M : Type 1} → statement M

@@ -13,10 +13,7 @@ word-at-requires c κs = search needs
 
 add-from : tie.Need-add-from
 add-from c =
-    let start = c .before .before in
-    let a = start .args in
-    let s = inverted-stored (a .lay) (start .pre .query) (a .work .now) (a .r) (start .pre .holds) in
-    omega arith
+    let s = inverted-stored (c .before .before .pre .holds) in omega arith
 
 add-word-at-2 : tie.Need-add-word-at-2
 add-word-at-2 c = search needs
@@ -29,10 +26,7 @@ word-at-requires-2 c κs = search needs
 
 add-to : tie.Need-add-to
 add-to c =
-    let start = c .before .before .before in
-    let a = start .args in
-    let s = inverted-stored (a .lay) (start .pre .query) (a .work .now) (a .r) (start .pre .holds) in
-    omega arith
+    let s = inverted-stored (c .before .before .before .pre .holds) in omega arith
 
 returns : tie.Need-returns
 returns c = search needs

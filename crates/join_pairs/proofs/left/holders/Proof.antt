@@ -22,10 +22,7 @@ word-at-requires-2 c κs = search needs
 
 sub-result : tie.Need-sub-result
 sub-result c =
-    let start = c .before .before .before in
-    let a = start .args in
-    let s = inverted-stored (a .lay) (start .pre .query) (a .work .now) (a .r) (start .pre .holds) in
-    omega arith
+    let s = inverted-stored (c .before .before .before .pre .holds) in omega arith
 
 returns : tie.Need-returns
 returns c = search needs

@@ -1,11 +1,11 @@
--- `join_pairs::left::is_contained` meets its contract: where no rank is left the right set contains the left set, where its
--- signature lacks a bit it does not, else the ranks decide.
-use mathlib.Core.Path.{ap, _∙_}
-use native.Mathlib.Omega.{arith}
-use Rattle.lists.specs.Lists.{subset, slice}
-use Rattle.join_check.proofs.Reading.{right-stored}
-use Rattle.join_check.proofs.Probing.{right-part, right-part-rising}
-use Rattle.join_pairs.proofs.Passing.{contains-none, contains-dropped}
+-- `join_pairs::left::is_contained` meets its contract: where no rank is left the right set contains the left set, else the check
+-- decides.
+use mathlib.Core.Path.{sym, ap, _∙_}
+use mathlib.Core.Bool.{Bool}
+use Rattle.join_spec.specs.Counting.{isConfirmed}
+use Rattle.join_check.specs.declared.checks.Checked.{Checked}
+use Rattle.join_check.specs.Probes.{outcomeOf}
+use Rattle.join_pairs.proofs.Passing.{contains-none, contains-confirmed}
 use borrow.Author.Needs.{needs}
 use Rattle.join_pairs.proofs.left.is_contained.Statement.{statement}
 use Rattle.join_pairs.proofs.left.is_contained.Tie as tie
@@ -14,87 +14,41 @@ returns : tie.Need-returns
 returns c =
     λ q k there. contains-none there (c .if1 .taken)
 
-mul-double-at : tie.Need-mul-double-at
-mul-double-at c = search needs
+-- whether the check ends with a confirmed pair
+abbrev confirms : Checked → Bool
+confirms end = isConfirmed (outcomeOf end)
 
-add-double-at : tie.Need-add-double-at
-add-double-at c = search needs
+check-probe-requires : tie.Need-check-probe-requires
+check-probe-requires c κs = search needs
 
-double-at-requires : tie.Need-double-at-requires
-double-at-requires c κs = search needs
+enum-told : tie.Need-enum-told
+enum-told c = search needs
+
+enum-told-2 : tie.Need-enum-told-2
+enum-told-2 c = search needs
+
+enum-told-3 : tie.Need-enum-told-3
+enum-told-3 c = search needs
 
 returns-2 : tie.Need-returns-2
 returns-2 c =
-    let sign = c .before .double-at in λ q k there. contains-dropped there (sign .result) (sign .ensures) (c .if2 .taken)
-
-add-word-at : tie.Need-add-word-at
-add-word-at c = search needs
-
-word-at-requires : tie.Need-word-at-requires
-word-at-requires c κs = search needs
-
-add-from : tie.Need-add-from
-add-from c =
-    let start = c .before .before .before .before .before .before in
-    let a = start .args in
-    let s = right-stored (a .lay) (start .pre .0 .query) (a .work .now) (a .s) (start .pre .0 .holds) in
-    omega arith
-
-add-word-at-2 : tie.Need-add-word-at-2
-add-word-at-2 c = search needs
-
-add-word-at-3 : tie.Need-add-word-at-3
-add-word-at-3 c = search needs
-
-word-at-requires-2 : tie.Need-word-at-requires-2
-word-at-requires-2 c κs = search needs
-
-add-to : tie.Need-add-to
-add-to c =
-    let start = c .before .before .before .before .before .before .before in
-    let a = start .args in
-    let s = right-stored (a .lay) (start .pre .0 .query) (a .work .now) (a .s) (start .pre .0 .holds) in
-    omega arith
-
-subset-words-requires : tie.Need-subset-words-requires
-subset-words-requires c κs =
-    let start = c .before .before .before .before .before .before .before in
-    let a = start .args in
-    let first = c .before .word-at in
-    let second = c .word-at2 in (
-      start .pre .1,
-      right-part-rising (a .lay) (start .pre .0 .query) (a .work .now) (a .s) (first .result) (second .result) (first .ensures)
-          (second .ensures) (start .pre .0 .holds),
-    )
+    λ q k there.
+    sym (ap confirms (c .enum-told .given .1)) ∙ ap isConfirmed (c .before .before .check-probe .ensures q (there .right))
+    ∙ contains-confirmed there
 
 returns-3 : tie.Need-returns-3
 returns-3 c =
-    let start = c .before .before .before .before .before .before .before .before in
-    let a = start .args in
-    let first = c .before .before .word-at in
-    let second = c .before .word-at2 in
     λ q k there.
-    c .subset-words .ensures
-    ∙ ap (subset (slice (a .p .from) (a .p .to) (a .work .now)))
-    (right-part (a .lay) q (a .work .now) (a .s) (first .result) (second .result) (first .ensures) (second .ensures)
-    (there .right))
-    ∙ there .decides
+    sym (ap confirms (c .enum-told2 .given .1)) ∙ ap isConfirmed (c .before .before .check-probe .ensures q (there .right))
+    ∙ contains-confirmed there
+
+returns-4 : tie.Need-returns-4
+returns-4 c =
+    λ q k there.
+    sym (ap confirms (c .enum-told3 .given .1)) ∙ ap isConfirmed (c .before .before .check-probe .ensures q (there .right))
+    ∙ contains-confirmed there
 
 pub is-contained-spec : {M : Type 1} → statement M
 is-contained-spec =
     tie.close
-    (tie.spec
-    returns
-    mul-double-at
-    add-double-at
-    double-at-requires
-    returns-2
-    add-word-at
-    word-at-requires
-    add-from
-    add-word-at-2
-    add-word-at-3
-    word-at-requires-2
-    add-to
-    subset-words-requires
-    returns-3)
+    (tie.spec returns check-probe-requires enum-told enum-told-2 enum-told-3 returns-2 returns-3 returns-4)

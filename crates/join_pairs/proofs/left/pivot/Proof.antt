@@ -1,5 +1,5 @@
--- `join_pairs::left::pivot` meets its contract. The invariant: the rank is one of those passed. The measure is how many are
--- left.
+-- `join_pairs::left::pivot` meets its contract. The invariant: the rank is one of those passed. The measure is how many
+-- remain.
 use Prim.Native.Nat.{ℕ, _-_, _≤_}
 use mathlib.Core.Path.{_≡_, sym, subst}
 use mathlib.Core.Logic.{⊎-elim}
@@ -11,13 +11,13 @@ use Rattle.join_pairs.proofs.Inverted.{slice-memb, slice-rank}
 use Rattle.join_pairs.proofs.left.pivot.Statement.{statement}
 use Rattle.join_pairs.proofs.left.pivot.Tie as tie
 
-record Chosen (w : List ℕ) (from to rank i : ℕ) : Type 0 where
+record Choosing (w : List ℕ) (from to rank i : ℕ) : Type 0 where
   low : from ≤ i
   there : memb rank (slice from to w) ≡ true
 
 abbrev Inv-loop : tie.InvT-loop
 Inv-loop work lay from to rank₀ least₀ i₀ rank least i =
-    Chosen work from to rank i
+    Choosing work from to rank i
 
 abbrev μ-loop : tie.MeasureT-loop
 μ-loop work lay from to rank₀ least₀ i₀ rank least i =

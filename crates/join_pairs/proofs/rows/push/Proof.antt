@@ -13,8 +13,8 @@ use borrow.Author.Needs.{needs}
 use Rattle.join_pairs.proofs.rows.push.Statement.{statement}
 use Rattle.join_pairs.proofs.rows.push.Tie as tie
 
-pair-room : (at k s : ℕ) {b : Bool} {w : List ℕ} → PushRoom at k s b w → b ≡ true → at + 2 ≤ length w
-pair-room at k s r e = rw e at (r .room)
+pair-room : {at k s : ℕ} {b : Bool} {w : List ℕ} → PushRoom at k s b w → b ≡ true → at + 2 ≤ length w
+pair-room r e = rw e at (r .room)
 
 put-pair : (at k s : ℕ) (b : Bool) (w : List ℕ) → b ≡ true
     → Put w at (ontoPair b k s []) (at + 2) (set (set w at k) (at + 1) s)
@@ -30,8 +30,7 @@ mul-pairs : tie.Need-mul-pairs
 mul-pairs c = search needs
 
 slice-write-pairs : tie.Need-slice-write-pairs
-slice-write-pairs c =
-    let a = c .before .args in omega (arith, pair-room (a .at) (a .k) (a .s) (c .before .pre) (c .if1 .taken))
+slice-write-pairs c = omega (arith, pair-room (c .before .pre) (c .if1 .taken))
 
 cast-pairs-2 : tie.Need-cast-pairs-2
 cast-pairs-2 c = search needs
@@ -43,9 +42,7 @@ mul-pairs-2 : tie.Need-mul-pairs-2
 mul-pairs-2 c = search needs
 
 slice-write-pairs-2 : tie.Need-slice-write-pairs-2
-slice-write-pairs-2 c =
-    let a = c .before .args in
-    simp length-set (omega (arith, pair-room (a .at) (a .k) (a .s) (c .before .pre) (c .if1 .taken)))
+slice-write-pairs-2 c = simp length-set (omega (arith, pair-room (c .before .pre) (c .if1 .taken)))
 
 add-result : tie.Need-add-result
 add-result c = search needs

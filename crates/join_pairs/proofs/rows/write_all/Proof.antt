@@ -1,5 +1,5 @@
--- `join_pairs::rows::write_all` meets its contract. The invariant: the pairs with the right places from s on are left to be
--- written. The measure is how many places are left.
+-- `join_pairs::rows::write_all` meets its contract. The invariant: the pairs with the right places from s on remain to be
+-- written. The measure is how many places remain.
 use Prim.Native.Nat.{_+_, _-_}
 use mathlib.Core.Bool.{true}
 use mathlib.Core.List.{[]}
@@ -10,7 +10,7 @@ use Rattle.lists.proofs.Ranges.{length-range}
 use Rattle.lists.proofs.Writing.{Writing, writing-start, writing-step, writing-end, writing-room}
 use Rattle.join_spec.specs.PairList.{ontoPair}
 use Rattle.join_pairs.specs.Containing.{pairsWith}
-use Rattle.join_pairs.proofs.Kept.{length-pairs, all-next, all-none}
+use Rattle.join_pairs.proofs.RowPairs.{length-pairs, all-next, all-none}
 use Rattle.join_pairs.proofs.rows.write_all.Statement.{statement}
 use Rattle.join_pairs.proofs.rows.write_all.Tie as tie
 
@@ -53,12 +53,10 @@ loop-less c =
 
 loop-again : tie.Need-loop-again Inv-loop μ-loop
 loop-again c =
-    let start = c .before .before .before .before .before .before .before in
-    let at-loop = c .before .before .before .before .before .loop in
-    let at-loop-test = c .before .before .before .before .loop-test in
-    let at-push = c .before .before .push in
-    let a = start .args in
-    writing-step (at-loop .inv) (all-next (a .k) (at-loop .s) (a .rights) (at-loop-test .taken)) (at-push .ensures)
+    let at-test = c .before .before .before .before in
+    let loop = at-test .before .loop in
+    let a = at-test .before .before .before .args in
+    writing-step (loop .inv) (all-next (a .k) (loop .s) (a .rights) (at-test .loop-test .taken)) (c .before .before .push .ensures)
 
 same-length : tie.Need-same-length Inv-loop μ-loop
 same-length c =
@@ -66,8 +64,7 @@ same-length c =
 
 returns : tie.Need-returns Inv-loop μ-loop
 returns c =
-    let start = c .before .before .before in
-    let a = start .args in
+    let a = c .before .before .before .args in
     writing-end (c .before .loop .inv) (all-none (a .k) (c .before .loop .s) (a .rights) (c .loop-test .left))
 
 pub write-all-spec : {M : Type 1} → statement M

@@ -1,7 +1,7 @@
 -- `join_pairs::rows::write_left` meets its contract: an empty left set pairs with every right set, any other with those of its
 -- candidates that contain it.
 use mathlib.Core.Path.{refl}
-use Rattle.join_pairs.proofs.Finding.{ranks-there, narrow-there, empty-room, empty-put, narrowed-room, narrowed-put}
+use Rattle.join_pairs.proofs.Finding.{ranks-there, find-there, empty-room, empty-put, shortlist-room, shortlist-put}
 use borrow.Author.Needs.{needs}
 use Rattle.join_pairs.proofs.rows.write_left.Statement.{statement}
 use Rattle.join_pairs.proofs.rows.write_left.Tie as tie
@@ -11,11 +11,8 @@ probe-left-requires c κs = search needs
 
 write-all-requires : tie.Need-write-all-requires
 write-all-requires c κs =
-    let at-probe-left = c .before .before .before .probe-left in
-    let start = c .before .before .before .before .before .before .before in
-    let a = start .args in
-    empty-room (at-probe-left .ensures) (start .pre .query) (a .rights) (a .at) (a .pairs .now) (start .pre .holds)
-    (c .before .if1 .taken)
+    let at-probe = c .before .before .before in
+    empty-room (at-probe .probe-left .ensures) (at-probe .before .before .before .before .pre .holds) (c .before .if1 .taken)
 
 same-length : tie.Need-same-length
 same-length c = search needs
@@ -25,52 +22,39 @@ same-length-2 c = search needs
 
 returns : tie.Need-returns
 returns c =
-    let start = c .before .before .before .before .before .before .before .before .before .before in
-    let at-probe-left = c .before .before .before .before .before .before .probe-left in
-    let at-if1 = c .before .before .before .before .if1 in
-    let at-write-all = c .before .before .write-all in
-    let a = start .args in
-    record {
-      frame = refl;
-      wrote = λ q there.
-          empty-put (at-probe-left .ensures) q (a .rights) (a .at) (a .pairs .now) there (at-if1 .taken) (at-write-all .ensures);
-    }
+    let at-if1 = c .before .before .before .before in
+    let found = at-if1 .before .before .probe-left .ensures in
+    record { frame = refl; wrote = λ q there. empty-put found there (at-if1 .if1 .taken) (c .before .before .write-all .ensures) }
 
 pivot-requires : tie.Need-pivot-requires
 pivot-requires c κs =
-    let at-probe-left = c .before .before .before .probe-left in
-    let start = c .before .before .before .before .before .before .before in
+    let at-probe = c .before .before .before in
+    let asked = at-probe .before .before .before .before .pre in
     record {
-      query = start .pre .query;
-      holds = ranks-there (at-probe-left .ensures) (start .pre .query) (start .pre .holds .left) (c .before .if1 .left);
+      query = asked .query;
+      holds = ranks-there (at-probe .probe-left .ensures) (asked .holds .left) (c .before .if1 .left);
     }
 
-narrow-requires : tie.Need-narrow-requires
-narrow-requires c κs =
-    let at-probe-left = c .before .before .before .before .before .probe-left in
-    let start = c .before .before .before .before .before .before .before .before .before in
-    let found = c .before .pivot in
+find-candidates-requires : tie.Need-find-candidates-requires
+find-candidates-requires c κs =
+    let at-probe = c .before .before .before .before .before in
+    let asked = at-probe .before .before .before .before .pre in
     record {
-      query = start .pre .query;
-      holds =
-          narrow-there (at-probe-left .ensures) (start .pre .query) (start .pre .holds .left) (found .result) (found .ensures);
+      query = asked .query;
+      holds = find-there (at-probe .probe-left .ensures) (asked .holds .left) (c .before .pivot .ensures);
     }
 
 write-row-requires : tie.Need-write-row-requires
 write-row-requires c κs =
-    let at-narrow = c .before .before .before .before in
-    let at-pivot = at-narrow .before .before in
+    let at-list = c .before .before .before .before in
+    let at-pivot = at-list .before .before in
     let at-probe = at-pivot .before .before .before .before in
-    let start = at-probe .before .before .before .before in
-    let a = start .args in
-    let left = at-probe .probe-left .ensures in
-    let found = at-pivot .pivot in
-    let cut = at-narrow .narrow in
+    let asked = at-probe .before .before .before .before .pre in
+    let list = at-list .find-candidates in
     record {
-      query = start .pre .query;
+      query = asked .query;
       holds =
-          narrowed-room left (found .result) (found .ensures) (cut .last .0) (cut .result) (cut .ensures) (cut .kept .0)
-          (start .pre .query) (a .rights) (a .at) (a .pairs .now) (start .pre .holds);
+          shortlist-room (at-probe .probe-left .ensures) (at-pivot .pivot .ensures) (list .ensures) (list .kept .0) (asked .holds);
     }
 
 same-length-3 : tie.Need-same-length-3
@@ -82,21 +66,16 @@ same-length-4 c = search needs
 returns-2 : tie.Need-returns-2
 returns-2 c =
     let at-row = c .before .before in
-    let at-narrow = at-row .before .before .before .before .before in
-    let at-pivot = at-narrow .before .before in
-    let at-probe = at-pivot .before .before .before .before in
-    let a = at-probe .before .before .before .before .args in
-    let left = at-probe .probe-left .ensures in
-    let found = at-pivot .pivot in
-    let cut = at-narrow .narrow in
+    let at-list = at-row .before .before .before .before .before in
+    let at-pivot = at-list .before .before in
+    let found = at-pivot .before .before .before .before .probe-left .ensures in
+    let pivot = at-pivot .pivot .ensures in
+    let list = at-list .find-candidates in
     record {
-      frame = cut .ensures .frame;
+      frame = list .ensures .frame;
       wrote = λ q there.
-          narrowed-put left (found .result) (found .ensures) (cut .last .0) (cut .result) (cut .ensures) (cut .kept .0)
-          q (a .rights) (a .at) (a .pairs .now) there
-          (at-row .write-row .ensures q
-          (narrowed-room left (found .result) (found .ensures) (cut .last .0) (cut .result) (cut .ensures) (cut .kept .0)
-          q (a .rights) (a .at) (a .pairs .now) there));
+          shortlist-put found pivot (list .ensures) (list .kept .0) there
+          (at-row .write-row .ensures q (shortlist-room found pivot (list .ensures) (list .kept .0) there));
     }
 
 pub write-left-spec : {M : Type 1} → statement M
@@ -109,7 +88,7 @@ write-left-spec =
     same-length-2
     returns
     pivot-requires
-    narrow-requires
+    find-candidates-requires
     write-row-requires
     same-length-3
     same-length-4

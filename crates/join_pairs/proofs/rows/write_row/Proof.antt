@@ -1,5 +1,5 @@
--- `join_pairs::rows::write_row` meets its contract. The invariant: the pairs with the places from i on are left to be
--- written. The measure is how many places are left.
+-- `join_pairs::rows::write_row` meets its contract. The invariant: the pairs with the places from i on remain to be written. The
+-- measure is how many places remain.
 use Prim.Native.Nat.{ℕ, _+_, _-_, _≤_, _<_}
 use mathlib.Core.Path.{_≡_, sym, ap, _∙_}
 use mathlib.Core.List.{List, [], _∷_, _++_}
@@ -17,12 +17,12 @@ use Rattle.word_lists.specs.Words.{Word}
 use Rattle.join_check.proofs.Places.{place-right}
 use Rattle.join_pairs.specs.Containing.{containedAt, rowOf, CheckThere}
 use Rattle.join_pairs.specs.Writing.{PushRoom, RowRoom}
-use Rattle.join_pairs.proofs.Kept.{row-next, row-none}
+use Rattle.join_pairs.proofs.RowPairs.{row-next, row-none}
 use Rattle.join_pairs.proofs.Inverted.{slice-memb}
 use Rattle.join_pairs.proofs.rows.write_row.Statement.{statement}
 use Rattle.join_pairs.proofs.rows.write_row.Tie as tie
 
-record RowLeft (lay : Layout) (w : List ℕ) (p : Probe) (k from to at : ℕ) (was : List ℕ) (n : ℕ) (pairs : List ℕ) (i : ℕ)
+record RowWriting (lay : Layout) (w : List ℕ) (p : Probe) (k from to at : ℕ) (was : List ℕ) (n : ℕ) (pairs : List ℕ) (i : ℕ)
     : Type 0 where
   low : from ≤ i
   written :
@@ -34,15 +34,15 @@ row-past q k w i to past =
     ap (rowOf q k) (slice-past i to w past) ∙ row-none (containedAt q k) k
 
 module _ {lay : Layout} {w : List ℕ} {p : Probe} {k from to at : ℕ} {was : List ℕ} {n : ℕ} {pairs : List ℕ} {i s : ℕ} {b : Bool}
-    (left : RowLeft lay w p k from to at was n pairs i) (more : i < to) (word : Word w i s)
+    (writing : RowWriting lay w p k from to at was n pairs i) (more : i < to) (word : Word w i s)
     (tested : (q : Query) (k : ℕ) → CheckThere lay q w p k s → b ≡ containedAt q k s)
   where
     -- what is left begins with the pair, if it is one
     row-split : (q : Query) → RowRoom lay q w p k from to at was
         → rowOf q k (slice i to w) ≡ ontoPair b k s [] ++ rowOf q k (slice (i + 1) to w)
     row-split q there =
-        let right = place-right (there .places) i s (left .low) more word in
-        let here = slice-memb w from to i s (left .low) more (there .places .within) (word .is) in
+        let right = place-right (there .places) i s (writing .low) more word in
+        let here = slice-memb w from to i s (writing .low) more (there .places .within) (word .is) in
         let test : containedAt q k s ≡ b =
         sym (tested q k (record { right = right; signed = there .signed; decides = there .decides s here })) in
         ap (rowOf q k)
@@ -50,26 +50,26 @@ module _ {lay : Layout} {w : List ℕ} {p : Probe} {k from to at : ℕ} {was : L
         ∙ row-next (containedAt q k) k s (slice (i + 1) to w)
         ∙ ap (λ (t : Bool). ontoPair t k s [] ++ rowOf q k (slice (i + 1) to w)) test
 
-    row-step : {r : ℕ} {u : List ℕ} → Put pairs n (ontoPair b k s []) r u → RowLeft lay w p k from to at was r u (i + 1)
+    row-step : {r : ℕ} {u : List ℕ} → Put pairs n (ontoPair b k s []) r u → RowWriting lay w p k from to at was r u (i + 1)
     row-step put =
         record {
-          low = omega (arith, left .low);
-          written = λ q there. writing-step (left .written q there) (row-split q there) put;
+          low = omega (arith, writing .low);
+          written = λ q there. writing-step (writing .written q there) (row-split q there) put;
         }
 
-    row-room : (q : Query) → RowRoom lay q w p k from to at was → PushRoom n k s b pairs
-    row-room q there =
-        let right = place-right (there .places) i s (left .low) more word in
+    row-room : {q : Query} → RowRoom lay q w p k from to at was → PushRoom n k s b pairs
+    row-room {q} there =
+        let right = place-right (there .places) i s (writing .low) more word in
         record {
           left = omega (arith, there .left .below, there .left .index .ground .leftFew);
           right = omega (arith, right .below, right .index .ground .rightFew);
           room =
-              writing-room (left .written q there) (ontoPair b k s []) (rowOf q k (slice (i + 1) to w)) (row-split q there);
+              writing-room (writing .written q there) (ontoPair b k s []) (rowOf q k (slice (i + 1) to w)) (row-split q there);
         }
 
 abbrev Inv-loop : tie.InvT-loop
 Inv-loop work lay p k from to pairs₀ at n₀ i₀ pairs n i =
-    RowLeft lay work p k from to at pairs₀ n pairs i
+    RowWriting lay work p k from to at pairs₀ n pairs i
 
 abbrev μ-loop : tie.MeasureT-loop
 μ-loop work lay p k from to pairs₀ at n₀ i₀ pairs n i =
@@ -107,12 +107,9 @@ is-contained-requires c κs =
 
 push-requires : tie.Need-push-requires Inv-loop μ-loop
 push-requires c κs =
-    let at-loop = c .before .before .before .before .loop in
-    let at-loop-test = c .before .before .before .loop-test in
-    let at-word-at = c .before .before .word-at in
-    let start = c .before .before .before .before .before .before .before in
-    row-room (at-loop .inv) (at-loop-test .taken) (at-word-at .ensures) (c .before .is-contained .ensures)
-    (start .pre .query) (start .pre .holds)
+    let at-loop = c .before .before .before .before in
+    row-room (at-loop .loop .inv) (c .before .before .before .loop-test .taken) (c .before .before .word-at .ensures)
+    (c .before .is-contained .ensures) (at-loop .before .before .before .pre .holds)
 
 add-i : tie.Need-add-i Inv-loop μ-loop
 add-i c =
@@ -125,12 +122,9 @@ loop-less c =
 
 loop-again : tie.Need-loop-again Inv-loop μ-loop
 loop-again c =
-    let at-loop = c .before .before .before .before .before .before .before .loop in
-    let at-loop-test = c .before .before .before .before .before .before .loop-test in
-    let at-word-at = c .before .before .before .before .before .word-at in
-    let at-is-contained = c .before .before .before .before .is-contained in
-    let at-push = c .before .before .push in
-    row-step (at-loop .inv) (at-loop-test .taken) (at-word-at .ensures) (at-is-contained .ensures) (at-push .ensures)
+    let at-test = c .before .before .before .before .before .before in
+    row-step (at-test .before .loop .inv) (at-test .loop-test .taken) (c .before .before .before .before .before .word-at .ensures)
+    (c .before .before .before .before .is-contained .ensures) (c .before .before .push .ensures)
 
 same-length : tie.Need-same-length Inv-loop μ-loop
 same-length c =

@@ -1,21 +1,25 @@
--- `check_block` meets its contract: where the checks are more than what is left of the budget nothing is checked; else `gather`
+-- `check_block` meets its contract: where the checks are more than what the budget has to spare nothing is checked; else `gather`
 -- makes them all.
 use native.Mathlib.Omega.{arith}
 use native.Mathlib.Nat.{mul-le-mul}
 use mathlib.Core.Path.{refl}
+use Rattle.lists.specs.Lists.{sum}
 use Rattle.lists.proofs.Bools.{true-false}
 use borrow.Author.Needs.{needs}
 use Rattle.join_walk.proofs.blocks.check_block.Statement.{statement}
 use Rattle.join_walk.proofs.blocks.check_block.Tie as tie
 
 add-made : tie.Need-add-made
+unfolding sum
 add-made c = search needs
 
 add-made-2 : tie.Need-add-made-2
+unfolding sum
 add-made-2 c = search needs
 
-sub-left : tie.Need-sub-left
-sub-left c = search needs
+sub-spare : tie.Need-sub-spare
+unfolding sum
+sub-spare c = search needs
 
 sub-checks : tie.Need-sub-checks
 sub-checks c = search needs
@@ -29,9 +33,11 @@ mul-checks c =
     omega (arith, mul-le-mul (small .lefts) (small .rights))
 
 cast-if1 : tie.Need-cast-if1
+unfolding sum
 cast-if1 c = search needs
 
 returns : tie.Need-returns
+unfolding sum
 returns c =
     let small = c .before .before .before .before .pre .1 in
     record {
@@ -41,9 +47,11 @@ returns c =
     }
 
 gather-requires : tie.Need-gather-requires
+unfolding sum
 gather-requires c κs = search needs
 
 returns-2 : tie.Need-returns-2
+unfolding sum
 returns-2 c =
     let enough = c .before in
     let small = enough .before .before .before .before .pre .1 in
@@ -59,7 +67,7 @@ check-block-spec =
     (tie.spec
     add-made
     add-made-2
-    sub-left
+    sub-spare
     sub-checks
     sub-checks-2
     mul-checks

@@ -1,13 +1,22 @@
 -- `walk` meets its contract: no left set, nothing to count; else the empty left sets stand first, and the partitions follow.
-use mathlib.Core.Path.{refl}
+use mathlib.Core.Path.{_≡_, refl}
 use native.Mathlib.Omega.{arith}
 use borrow.Author.Needs.{needs}
+use Rattle.join_spec.specs.Kinds.{Kind, pathPair, confirmedCheck, droppedCheck, falseCheck}
+use Rattle.join_check.specs.Counters.{counter}
 use Rattle.join_walk.proofs.WalkSteps.{walk-none, walk-run, paths-room, walk-partitions, walk-done}
 use Rattle.join_walk.proofs.walk.walk.Statement.{statement}
 use Rattle.join_walk.proofs.walk.walk.Tie as tie
 
+-- no counter has anything at first
+none-zero : (kind : Kind) → counter kind (record { «by_path» = 0; confirmed = 0; dropped = 0; «false_drops» = 0 }) ≡ 0
+none-zero pathPair = refl
+none-zero confirmedCheck = refl
+none-zero droppedCheck = refl
+none-zero falseCheck = refl
+
 returns : tie.Need-returns
-returns c = λ q ready. walk-none ready (c .if1 .taken) refl refl refl refl
+returns c = λ q ready. walk-none ready (c .if1 .taken) none-zero
 
 merged-end-requires : tie.Need-merged-end-requires
 merged-end-requires c κs =
@@ -30,7 +39,7 @@ visit-partitions-requires c κs =
     record {
       query = start .pre .query;
       holds =
-          walk-partitions (start .pre .holds) (omega (arith, some .if1 .left)) (end .merged-end .ensures) refl refl
+          walk-partitions (start .pre .holds) (omega (arith, some .if1 .left)) (end .merged-end .ensures) none-zero
           (merged .add-paths .ensures);
     }
 
@@ -45,8 +54,8 @@ returns-2 c =
     let some = end .before .before in
     λ q ready.
     let parts =
-    walk-partitions ready (omega (arith, some .if1 .left)) (end .merged-end .ensures) refl refl (merged .add-paths .ensures) in
-    walk-done ready (omega (arith, some .if1 .left)) (end .merged-end .ensures) refl refl (merged .add-paths .ensures)
+    walk-partitions ready (omega (arith, some .if1 .left)) (end .merged-end .ensures) none-zero (merged .add-paths .ensures) in
+    walk-done ready (omega (arith, some .if1 .left)) (end .merged-end .ensures) none-zero (merged .add-paths .ensures)
     (visited .visit-partitions .ensures q parts)
 
 pub walk-spec : {M : Type 1} → statement M

@@ -2,15 +2,16 @@
 -- of the whole, and both rise. The measure is what is left of the second part.
 use mathlib.Core.Path.{_≡_, refl, sym, _∙_}
 use mathlib.Core.List.{List}
-use mathlib.Core.Bool.{true}
+use mathlib.Core.Bool.{true, false}
 use mathlib.Core.Logic.{⊎-elim}
 use Prim.Native.Nat.{ℕ, _+_, _-_, _≤_, _<_}
 use native.Mathlib.Omega.{arith}
-use lib.ListN.{length, getD}
+use lib.ListN.{getD}
 use Rattle.lists.specs.Lists.{rising, subset, slice}
 use Rattle.lists.proofs.Throughout.{subset-nil}
 use Rattle.lists.proofs.Slices.{slice-past}
 use Rattle.lists.proofs.Merging.{rising-next, merge-stop, merge-low, merge-same, merge-high}
+use Rattle.word_lists.specs.Merges.{Rising}
 use Rattle.word_lists.proofs.merge.merge_words.Statement.{statement}
 use Rattle.word_lists.proofs.merge.merge_words.Tie as tie
 
@@ -19,22 +20,36 @@ record Merging (w : List ℕ) (a b c e i j : ℕ) : Type 0 where
   right : rising (slice j e w) ≡ true
   same : subset (slice i b w) (slice j e w) ≡ subset (slice a b w) (slice c e w)
 
-module _ (w : List ℕ) (a b c e i j : ℕ) (leftIn : b ≤ length w) (rightIn : e ≤ length w) (more : i < b) (other : j < e) where
-  merging-same : Merging w a b c e i j → getD w i 0 ≡ getD w j 0 → Merging w a b c e (i + 1) (j + 1)
-  merging-same m h =
-      record {
-        left = rising-next i b w more leftIn (m .left);
-        right = rising-next j e w other rightIn (m .right);
-        same = sym (merge-same w i b j e leftIn rightIn more other (m .left) (m .right) h) ∙ m .same;
-      }
+module _ {w : List ℕ} {a b c e i j : ℕ} (m : Merging w a b c e i j) where
+  merging-end : b ≤ i → true ≡ subset (slice a b w) (slice c e w)
+  merging-end past =
+      let none = slice-past i b w past in
+      sym (rw none (subset-nil (slice j e w))) ∙ m .same
 
-  merging-high : Merging w a b c e i j → getD w j 0 < getD w i 0 → Merging w a b c e i (j + 1)
-  merging-high m h =
-      record {
-        left = m .left;
-        right = rising-next j e w other rightIn (m .right);
-        same = sym (merge-high w i b j e leftIn rightIn more other (m .left) (m .right) h) ∙ m .same;
-      }
+  module _ (first : Rising a b w) (second : Rising c e w) (more : i < b) where
+    merging-stop : e ≤ j → false ≡ subset (slice a b w) (slice c e w)
+    merging-stop past = sym (merge-stop w i b j e (first .within) (second .within) more past) ∙ m .same
+
+    module _ (other : j < e) where
+      merging-low : getD w i 0 < getD w j 0 → false ≡ subset (slice a b w) (slice c e w)
+      merging-low h =
+          sym (merge-low w i b j e (first .within) (second .within) more other (m .left) (m .right) h) ∙ m .same
+
+      merging-same : getD w i 0 ≡ getD w j 0 → Merging w a b c e (i + 1) (j + 1)
+      merging-same h =
+          record {
+            left = rising-next i b w more (first .within) (m .left);
+            right = rising-next j e w other (second .within) (m .right);
+            same = sym (merge-same w i b j e (first .within) (second .within) more other (m .left) (m .right) h) ∙ m .same;
+          }
+
+      merging-high : getD w j 0 < getD w i 0 → Merging w a b c e i (j + 1)
+      merging-high h =
+          record {
+            left = m .left;
+            right = rising-next j e w other (second .within) (m .right);
+            same = sym (merge-high w i b j e (first .within) (second .within) more other (m .left) (m .right) h) ∙ m .same;
+          }
 
 abbrev Inv-loop : tie.InvT-loop
 Inv-loop work a b c e i₀ j₀ i j = Merging work a b c e i j
@@ -48,12 +63,8 @@ loop-holds c = record { left = c .pre .0 .rise; right = c .pre .1 .rise; same = 
 returns : tie.Need-returns Inv-loop μ-loop
 returns c =
     let at-loop = c .before .before in
-    let a = at-loop .before .args in
-    let none =
-    merge-stop (a .work .now) (at-loop .loop .i) (a .b) (at-loop .loop .j) (a .e) (omega arith) (omega arith) (omega arith)
+    merging-stop (at-loop .loop .inv) (at-loop .before .pre .0) (at-loop .before .pre .1) (c .before .loop-test .taken)
     (c .if1 .taken)
-    in
-    sym none ∙ at-loop .loop .inv .same
 
 mul-x : tie.Need-mul-x Inv-loop μ-loop
 mul-x c = omega arith
@@ -69,16 +80,10 @@ shared-slice-read-y c = omega arith
 
 returns-2 : tie.Need-returns-2 Inv-loop μ-loop
 returns-2 c =
-    let at-before = c .before .before .before .before in
-    let at-loop = c .before .before .before .before .before in
-    let a = at-loop .before .args in
-    let m = at-loop .loop .inv in
-    let none =
-    merge-low (a .work .now) (at-loop .loop .i) (a .b) (at-loop .loop .j) (a .e) (omega arith) (omega arith) (omega arith)
-    (omega arith)
-    (m .left) (m .right) (c .if2 .taken)
-    in
-    sym none ∙ m .same
+    let at-if1 = c .before .before .before in
+    let at-loop = at-if1 .before .before in
+    merging-low (at-loop .loop .inv) (at-loop .before .pre .0) (at-loop .before .pre .1) (at-if1 .before .loop-test .taken)
+    (at-if1 .if1 .left) (c .if2 .taken)
 
 add-i : tie.Need-add-i Inv-loop μ-loop
 add-i c = omega arith
@@ -91,26 +96,18 @@ loop-less c = omega arith
 
 loop-again : tie.Need-loop-again Inv-loop μ-loop
 loop-again c =
-    let at-before = c .before .before .before .before .before in
-    let at-loop = c .before .before .before .before .before .before in
-    let a = at-loop .before .args in
-    let m = at-loop .loop .inv in
+    let at-if1 = c .before .before .before .before in
+    let at-loop = at-if1 .before .before in
+    let asked = at-loop .before .pre in
+    let more = at-if1 .before .loop-test .taken in
     ⊎-elim
-    (λ t. rw (t .1)
-    (merging-same (a .work .now) (a .a) (a .b) (a .c) (a .e) (at-loop .loop .i) (at-loop .loop .j)
-    (omega arith) (omega arith) (omega arith) (omega arith) m (t .0 .taken)))
+    (λ t. rw (t .1) (merging-same (at-loop .loop .inv) (asked .0) (asked .1) more (at-if1 .if1 .left) (t .0 .taken)))
     (λ f. rw (f .1)
-    (merging-high (a .work .now) (a .a) (a .b) (a .c) (a .e) (at-loop .loop .i) (at-loop .loop .j)
-    (omega arith) (omega arith) (omega arith) (omega arith) m (omega (arith, f .0 .left))))
+    (merging-high (at-loop .loop .inv) (asked .0) (asked .1) more (at-if1 .if1 .left) (omega (arith, f .0 .left))))
     (c .if3 .came)
 
 returns-3 : tie.Need-returns-3 Inv-loop μ-loop
-returns-3 c =
-    let at-loop = c .before in
-    let a = at-loop .before .args in
-    let none = slice-past (at-loop .loop .i) (a .b) (a .work .now) (c .loop-test .left) in
-    let whole = subset-nil (slice (at-loop .loop .j) (a .e) (a .work .now)) in
-    sym (rw none whole) ∙ at-loop .loop .inv .same
+returns-3 c = merging-end (c .before .loop .inv) (c .loop-test .left)
 
 pub merge-words-spec : {M : Type 1} → statement M
 merge-words-spec =

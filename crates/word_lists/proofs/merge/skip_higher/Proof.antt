@@ -3,7 +3,6 @@
 use mathlib.Core.Path.{refl}
 use Prim.Native.Nat.{_-_}
 use native.Mathlib.Omega.{arith}
-use lib.ListN.{getD}
 use Rattle.word_lists.proofs.Trimming.{Skipping, skipped, skipping-next}
 use Rattle.word_lists.proofs.merge.skip_higher.Statement.{statement}
 use Rattle.word_lists.proofs.merge.skip_higher.Tie as tie
@@ -37,11 +36,7 @@ shared-slice-read-if1 : tie.Need-shared-slice-read-if1 Inv-loop μ-loop
 shared-slice-read-if1 c = omega arith
 
 returns : tie.Need-returns Inv-loop μ-loop
-returns c =
-    let at-loop = c .before .before .before in
-    let a = at-loop .before .before .args in
-    skipped (a .work .now) (a .a) (a .b) (a .c) (a .e) (getD (a .work .now) (a .b - 1) 0) (at-loop .loop .j) (at-loop .loop .inv)
-    (λ h. omega (arith, c .if1 .taken))
+returns c = skipped (c .before .before .before .loop .inv) (λ h. omega (arith, c .if1 .taken))
 
 sub-j : tie.Need-sub-j Inv-loop μ-loop
 sub-j c = omega arith
@@ -52,17 +47,12 @@ loop-less c = omega arith
 loop-again : tie.Need-loop-again Inv-loop μ-loop
 loop-again c =
     let at-loop = c .before .before .before in
-    let start = at-loop .before .before in
-    let a = start .args in
-    skipping-next (a .work .now) (a .a) (a .b) (a .c) (a .e) (getD (a .work .now) (a .b - 1) 0) (at-loop .loop .j)
-    (at-loop .loop .inv) (start .pre .0) (start .pre .1 .0) (start .pre .1 .1 .within) (omega arith) (omega (arith, c .if1 .left))
+    let asked = at-loop .before .before .pre in
+    skipping-next (at-loop .loop .inv) (asked .0) (asked .1 .0) (asked .1 .1) (c .before .before .loop-test .taken)
+    (omega (arith, c .if1 .left))
 
 returns-2 : tie.Need-returns-2 Inv-loop μ-loop
-returns-2 c =
-    let at-loop = c .before in
-    let a = at-loop .before .before .args in
-    skipped (a .work .now) (a .a) (a .b) (a .c) (a .e) (getD (a .work .now) (a .b - 1) 0) (at-loop .loop .j) (at-loop .loop .inv)
-    (λ h. absurd (omega (arith, c .loop-test .left)))
+returns-2 c = skipped (c .before .loop .inv) (λ h. omega (arith, h, c .loop-test .left))
 
 pub skip-higher-spec : {M : Type 1} → statement M
 skip-higher-spec =

@@ -2,7 +2,7 @@
 use mathlib.Core.Path.{refl}
 use Prim.Native.Nat.{_-_}
 use native.Mathlib.Omega.{arith}
-use Rattle.word_lists.proofs.Trimming.{Trimming, trimming-skip, trimming-stop, trimming-low, trimming-same, trimming-end}
+use Rattle.word_lists.proofs.Trimming.{Trimming, trimming-stop, trimming-other, trimming-same, trimming-end}
 use Rattle.word_lists.proofs.merge.skip_words.Statement.{statement}
 use Rattle.word_lists.proofs.merge.skip_words.Tie as tie
 
@@ -32,15 +32,9 @@ returns : tie.Need-returns Inv-loop μ-loop
 returns c =
     let skip = c .before in
     let at-loop = skip .before .before in
-    let start = at-loop .before .before in
-    let a = start .args in
-    let m =
-    trimming-skip (a .work .now) (a .a) (a .b) (a .c) (a .e) (at-loop .loop .i) (at-loop .loop .j) (skip .skip-higher .result)
-    (at-loop .loop .inv) (skip .skip-higher .ensures)
-    in
-    trimming-stop (a .work .now) (a .a) (a .b) (a .c) (a .e) (at-loop .loop .i)
-    (skip .skip-higher .result) (start .pre .0 .within)
-    (start .pre .1 .within) m (skip .before .loop-test .taken) (c .if1 .taken)
+    let asked = at-loop .before .before .pre in
+    trimming-stop (at-loop .loop .inv) (skip .skip-higher .ensures) (asked .0) (asked .1) (skip .before .loop-test .taken)
+    (c .if1 .taken)
 
 sub-if2 : tie.Need-sub-if2 Inv-loop μ-loop
 sub-if2 c = omega arith
@@ -64,17 +58,9 @@ returns-2 : tie.Need-returns-2 Inv-loop μ-loop
 returns-2 c =
     let skip = c .before .before .before .before in
     let at-loop = skip .before .before in
-    let start = at-loop .before .before in
-    let a = start .args in
-    let m =
-    trimming-skip (a .work .now) (a .a) (a .b) (a .c) (a .e) (at-loop .loop .i) (at-loop .loop .j) (skip .skip-higher .result)
-    (at-loop .loop .inv) (skip .skip-higher .ensures)
-    in
-    let other = c .before .before .before .if1 .left in
-    trimming-low (a .work .now) (a .a) (a .b) (a .c) (a .e) (at-loop .loop .i)
-    (skip .skip-higher .result) (start .pre .0 .within)
-    (start .pre .1 .within) m (skip .before .loop-test .taken) (omega (arith, other))
-    (omega (arith, skip .skip-higher .ensures .stop (omega (arith, other)), c .if2 .taken))
+    let asked = at-loop .before .before .pre in
+    trimming-other (at-loop .loop .inv) (skip .skip-higher .ensures) (asked .0) (asked .1) (skip .before .loop-test .taken)
+    (omega (arith, c .before .before .before .if1 .left)) (c .if2 .taken)
 
 sub-i : tie.Need-sub-i Inv-loop μ-loop
 sub-i c = omega arith
@@ -89,25 +75,12 @@ loop-again : tie.Need-loop-again Inv-loop μ-loop
 loop-again c =
     let skip = c .before .before .before .before in
     let at-loop = skip .before .before in
-    let start = at-loop .before .before in
-    let a = start .args in
-    let m =
-    trimming-skip (a .work .now) (a .a) (a .b) (a .c) (a .e) (at-loop .loop .i) (at-loop .loop .j) (skip .skip-higher .result)
-    (at-loop .loop .inv) (skip .skip-higher .ensures)
-    in
-    let other = c .before .before .before .if1 .left in
-    trimming-same (a .work .now) (a .a) (a .b) (a .c) (a .e) (at-loop .loop .i)
-    (skip .skip-higher .result) (start .pre .0 .within)
-    (start .pre .1 .within) m (skip .before .loop-test .taken) (omega (arith, other))
-    (omega (arith, c .if2 .left))
+    let asked = at-loop .before .before .pre in
+    trimming-same (at-loop .loop .inv) (skip .skip-higher .ensures) (asked .0) (asked .1) (skip .before .loop-test .taken)
+    (omega (arith, c .before .before .before .if1 .left)) (c .if2 .left)
 
 returns-3 : tie.Need-returns-3 Inv-loop μ-loop
-returns-3 c =
-    let at-loop = c .before in
-    let start = at-loop .before .before in
-    let a = start .args in
-    trimming-end (a .work .now) (a .a) (a .b) (a .c) (a .e) (at-loop .loop .i) (at-loop .loop .j) (start .pre .0 .within)
-    (start .pre .1 .within) (at-loop .loop .inv) (c .loop-test .left)
+returns-3 c = trimming-end (c .before .loop .inv) (c .loop-test .left)
 
 pub skip-words-spec : {M : Type 1} → statement M
 skip-words-spec =

@@ -1,0 +1,77 @@
+-- `is_contained` meets its contract. The invariant: containment of what is left of both sets decides that of the whole, and
+-- both rise. The measure is what is left of the right set.
+use mathlib.Core.Logic.{⊎-elim}
+use Prim.Native.Nat.{_-_}
+use native.Mathlib.Omega.{arith}
+use lib.ListN.{length}
+use Rattle.inputs.proofs.Containing.{Containing, containing-start, containing-stop, containing-end}
+use Rattle.inputs.proofs.Containing.{containing-low, containing-same, containing-high}
+use Rattle.inputs.proofs.is_contained.Statement.{statement}
+use Rattle.inputs.proofs.is_contained.Tie as tie
+
+abbrev Inv-loop : tie.InvT-loop
+Inv-loop left right i₀ j₀ i j = Containing left right i j
+
+abbrev μ-loop : tie.MeasureT-loop
+μ-loop left right i₀ j₀ i j = length right - j
+
+loop-holds : tie.Need-loop-holds Inv-loop μ-loop
+loop-holds c = containing-start _ _ (c .pre .0) (c .pre .1)
+
+returns : tie.Need-returns Inv-loop μ-loop
+returns c = containing-stop (c .before .before .loop .inv) (omega arith) (c .if1 .taken)
+
+mul-x : tie.Need-mul-x Inv-loop μ-loop
+mul-x c = omega arith
+
+shared-slice-read-x : tie.Need-shared-slice-read-x Inv-loop μ-loop
+shared-slice-read-x c = omega arith
+
+mul-y : tie.Need-mul-y Inv-loop μ-loop
+mul-y c = omega arith
+
+shared-slice-read-y : tie.Need-shared-slice-read-y Inv-loop μ-loop
+shared-slice-read-y c = omega arith
+
+returns-2 : tie.Need-returns-2 Inv-loop μ-loop
+returns-2 c =
+    containing-low (c .before .before .before .before .before .loop .inv) (omega arith) (omega arith) (c .if2 .taken)
+
+add-i : tie.Need-add-i Inv-loop μ-loop
+add-i c = omega arith
+
+add-j : tie.Need-add-j Inv-loop μ-loop
+add-j c = omega arith
+
+loop-less : tie.Need-loop-less Inv-loop μ-loop
+loop-less c = omega arith
+
+loop-again : tie.Need-loop-again Inv-loop μ-loop
+loop-again c =
+    let m = c .before .before .before .before .before .before .loop .inv in
+    ⊎-elim
+    (λ t. rw (t .1) (containing-same m (omega arith) (omega arith) (t .0 .taken)))
+    (λ f. rw (f .1) (containing-high m (omega arith) (omega arith) (omega (arith, f .0 .left))))
+    (c .if3 .came)
+
+returns-3 : tie.Need-returns-3 Inv-loop μ-loop
+returns-3 c = containing-end (c .before .loop .inv) (c .loop-test .left)
+
+pub is-contained-spec : {M : Type 1} → statement M
+is-contained-spec =
+    tie.close
+    (tie.spec
+    Inv-loop
+    μ-loop
+    loop-holds
+    returns
+    mul-x
+    shared-slice-read-x
+    mul-y
+    shared-slice-read-y
+    returns-2
+    add-i
+    add-j
+    loop-less
+    loop-again
+    returns-3)

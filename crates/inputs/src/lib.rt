@@ -1,0 +1,127 @@
+// The tests of what is lent, shared by the operations over both collections: each answers `Tested`, and an operation makes those
+// that it has in the order of the refusal table. And containment of one set of items in another.
+use sets::MAX_ITEMS;
+use sets::Refusal;
+use sets::Side;
+use sets::Tested;
+use sets::Verdict;
+use sets::count_entries;
+use sets::first_bad;
+use sets::good_items;
+ghost use mathlib.Core.Path.{_≡_};
+ghost use mathlib.Core.Bool.{true};
+ghost use Rattle.lists.specs.Lists.{rising};
+ghost use Rattle.sets.specs.Collections.{contained};
+ghost use Rattle.inputs.specs.Input.{inputOf};
+ghost use Rattle.inputs.specs.Tests.{itemsTest, sideTest, setsTest, loneTest, wordsNeeded, workTest};
+ghost use Rattle.inputs.specs.Inner.{Sized};
+
+// T is within its limit.
+pub fn test_items(t: u32) -> Tested
+    ensures { λ r. ⌜ r ≡ itemsTest t ⌝ }
+{
+    if MAX_ITEMS < t {
+        return Tested::Failed(Refusal::BadSettings);
+    }
+    Tested::Passed
+}
+
+// A side has no bad set.
+pub fn test_side(t: u32, side: Side, ends: &[u32], items: &[u16]) -> Tested
+    ensures { λ r. ⌜ r ≡ sideTest t side (record { ends = now (ends .entry); items = now (items .entry) }) ⌝ }
+{
+    let verdict = first_bad(t, ends, items);
+    match verdict {
+        Verdict::Good => Tested::Passed,
+        Verdict::Bad(place) => Tested::Failed(Refusal::BadSet(side, place)),
+    }
+}
+
+// Neither side has a bad set, the left side first.
+pub fn test_sets(
+    t: u32,
+    left_ends: &[u32],
+    left_items: &[u16],
+    right_ends: &[u32],
+    right_items: &[u16],
+) -> Tested
+    ensures { λ r. ⌜ r ≡ setsTest (inputOf t (now («left_ends» .entry)) (now («left_items» .entry))
+        (now («right_ends» .entry)) (now («right_items» .entry))) ⌝ }
+{
+    let left = test_side(t, Side::Left, left_ends, left_items);
+    match left {
+        Tested::Failed(why) => Tested::Failed(why),
+        Tested::Passed => test_side(t, Side::Right, right_ends, right_items),
+    }
+}
+
+// A lone right set, lent as its items alone, is not bad; the place is the one that it would have.
+pub fn test_lone(t: u32, place: usize, set: &[u16]) -> Tested
+    ensures { λ r. ⌜ r ≡ loneTest t place (now (set .entry)) ⌝ }
+{
+    let n = set.len();
+    if good_items(t, 0, n, set) {
+        return Tested::Passed;
+    }
+    Tested::Failed(Refusal::BadSet(Side::Right, place))
+}
+
+// The words that a work list must have.
+pub fn words_needed(
+    t: u32,
+    left_ends: &[u32],
+    left_items: &[u16],
+    right_ends: &[u32],
+    right_items: &[u16],
+) -> usize
+    requires { ⌜ Sized t (now «left_ends») (now «right_ends») ⌝ }
+    ensures { λ r. ⌜ r ≡ wordsNeeded (inputOf t (now («left_ends» .entry)) (now («left_items» .entry))
+        (now («right_ends» .entry)) (now («right_items» .entry))) ⌝ }
+{
+    let sets = left_ends.len() + right_ends.len();
+    let entries = count_entries(left_ends) + count_entries(right_ends);
+    16 * (sets + entries + (t as usize)) + 64
+}
+
+// The work list is long enough.
+pub fn test_work(
+    t: u32,
+    left_ends: &[u32],
+    left_items: &[u16],
+    right_ends: &[u32],
+    right_items: &[u16],
+    words: usize,
+) -> Tested
+    requires { ⌜ Sized t (now «left_ends») (now «right_ends») ⌝ }
+    ensures { λ r. ⌜ r ≡ workTest (inputOf t (now («left_ends» .entry)) (now («left_items» .entry))
+        (now («right_ends» .entry)) (now («right_items» .entry))) words ⌝ }
+{
+    if words < words_needed(t, left_ends, left_items, right_ends, right_items) {
+        return Tested::Failed(Refusal::ShortWork);
+    }
+    Tested::Passed
+}
+
+// Whether one set of items is contained in another: both strictly rise, and one pass over them decides.
+pub fn is_contained(left: &[u16], right: &[u16]) -> bool
+    requires { ⌜ (rising (now left) ≡ true) × (rising (now right) ≡ true) ⌝ }
+    ensures { λ r. ⌜ r ≡ contained (now (left .entry)) (now (right .entry)) ⌝ }
+{
+    let mut i: usize = 0;
+    let mut j: usize = 0;
+    while i < left.len() {
+        if right.len() <= j {
+            return false;
+        }
+        let x = left[i];
+        let y = right[j];
+        if x < y {
+            return false;
+        }
+        if x == y {
+            i += 1;
+        }
+        j += 1;
+    }
+    true
+}

@@ -1,0 +1,2 @@
+-- Laws of the tests before the walk.
+pub mod SettingsLaws

@@ -1,2 +1,0 @@
--- Contents: a join whose rule is a number.
-pub mod ByNumber

@@ -1,2 +1,0 @@
--- Contents: the rule as a number.
-pub mod Numbered
