@@ -1,6 +1,6 @@
 -- The loader's answer: what an accepted load says of the file and of the lists, when a load is accepted and when it is refused;
 -- what room for all lists says of each; and the lists after a call as one.
-use mathlib.Core.Path.{_≡_, refl, sym, ap, _∙_}
+use mathlib.Core.Path.{_≡_, refl}
 use Prim.Native.Nat.{ℕ, _≤_}
 use mathlib.Core.List.{List}
 use mathlib.Core.Bool.{Bool, true, false, not, _&&_}
@@ -54,7 +54,7 @@ module _ (file : List ℕ) (lent : Lists) where
 
 -- ---- room for all lists is room for each
 
-pub record Room (part lent : Lists) : Type 0 where
+pub record RoomForEach (part lent : Lists) : Type 0 where
   pub tags : length (part .tags) ≤ length (lent .tags)
   pub leftNumbers : length (part .leftNumbers) ≤ length (lent .leftNumbers)
   pub leftEnds : length (part .leftEnds) ≤ length (lent .leftEnds)
@@ -63,7 +63,7 @@ pub record Room (part lent : Lists) : Type 0 where
   pub rightEnds : length (part .rightEnds) ≤ length (lent .rightEnds)
   pub rightItems : length (part .rightItems) ≤ length (lent .rightItems)
 
-pub room-each : (part lent : Lists) → roomFor part lent ≡ true → Room part lent
+pub room-each : (part lent : Lists) → roomFor part lent ≡ true → RoomForEach part lent
 unfolding roomFor
 room-each part lent t =
     let a = fits (part .tags) (lent .tags) in

@@ -55,7 +55,7 @@ unfolding tagBytes
 length-tagBytes [] = refl
 length-tagBytes (t ∷ ts) = length-append (bytesOf tagLength t) (tagBytes ts) ∙ omega (arith, length-bytesOf tagLength t, length-tagBytes ts)
 
-pub length-endsFrom : (start : ℕ) (sets : List (List ℕ)) → length (endsFrom start sets) ≡ length sets
+length-endsFrom : (start : ℕ) (sets : List (List ℕ)) → length (endsFrom start sets) ≡ length sets
 unfolding endsFrom
 length-endsFrom start [] = refl
 length-endsFrom start (s ∷ ss) = ap suc (length-endsFrom (start + length s) ss)

@@ -24,13 +24,13 @@ cond-same false x = refl
 
 -- two bytes that are not these two, as one number
 module _ (a b x y : ℕ) (x-byte : x < 256) (y-byte : y < 256) where
-  pub bytes-same : x * 256 + y ≡ a * 256 + b → a < 256 → b < 256 → (eqb a x && (eqb b y && true)) ≡ true
+  bytes-same : x * 256 + y ≡ a * 256 + b → a < 256 → b < 256 → (eqb a x && (eqb b y && true)) ≡ true
   bytes-same e ha hb =
       let first : a ≡ x = omega arith in
       let second : b ≡ y = omega arith in
       rw (eq-eqb a x first, eq-eqb b y second)
 
-  pub bytes-other : (x * 256 + y ≡ a * 256 + b → ⊥) → (eqb a x && (eqb b y && true)) ≡ false
+  bytes-other : (x * 256 + y ≡ a * 256 + b → ⊥) → (eqb a x && (eqb b y && true)) ≡ false
   bytes-other ne = first (eqb a x) refl
     where
       second : a ≡ x → (t : Bool) → eqb b y ≡ t → (t && true) ≡ false

@@ -114,8 +114,8 @@ module _ (file : List ℕ) (at : ℕ) (s : Side) (n c p next : ℕ) where
 
 -- what is read of a whole record by place: it goes on, within the file, and a file of bytes has small numbers
 module _ (file : List ℕ) (at : ℕ) {s : Side} {n c p next : ℕ} (e : readAt file at ≡ Record s n c p next) where
-  pub read-from : at ≤ p
-  read-from = omega (arith, read-whole file at s n c p next e .place)
+  pub read-after : at < p
+  read-after = omega (arith, read-whole file at s n c p next e .place)
 
   pub read-past : next ≡ pastTags p c
   read-past = read-whole file at s n c p next e .past
@@ -141,7 +141,7 @@ module _ (file : List ℕ) (at : ℕ) {s : Side} {n c p next : ℕ} (e : readAt 
 -- ---- the walk
 
 -- with fuel for every byte that is left, the records are the same
-pub records-fuel : (f g : ℕ) (file : List ℕ) (at : ℕ) → length file ≤ at + f → length file ≤ at + g
+records-fuel : (f g : ℕ) (file : List ℕ) (at : ℕ) → length file ≤ at + f → length file ≤ at + g
     → recordsFrom f file at ≡ recordsFrom g file at
 unfolding recordsFrom
 records-fuel zero zero file at hf hg = refl

@@ -8,9 +8,9 @@ use lib.ListN.{length, getD, set, drop, length-set, drop-of-length-le}
 use lib.Seq.{drop-cons, sets, set-comm}
 use Rattle.lists.specs.Writing.{Put}
 use Rattle.lists.proofs.Filling.{sets-append}
+use Rattle.sets.specs.Limits.{fullWords}
 use Rattle.tag_file.specs.Format.{tagLength, bytesOf, tagBytes}
 use Rattle.tag_file.proofs.ItemCount.{length-bytesOf}
-use Rattle.tag_index.specs.Index.{wordSpan}
 
 -- a store beyond a run may come before it
 sets-past : (l : List ℕ) (at i v : ℕ) (run : List ℕ) → at + length run ≤ i → sets (set l i v) at run ≡ set (sets l at run) i v
@@ -55,10 +55,10 @@ module _ {was : List ℕ} {at width number : ℕ} {is : List ℕ} {rest left : �
       }
 
 -- the bytes of a tag are those of its head and its tail
-pub tag-parts : (head tail : ℕ) → tail < wordSpan → bytesOf tagLength (head * wordSpan + tail) ≡ bytesOf 8 head ++ bytesOf 4 tail
+pub tag-parts : (head tail : ℕ) → tail < fullWords → bytesOf tagLength (head * fullWords + tail) ≡ bytesOf 8 head ++ bytesOf 4 tail
 unfolding bytesOf
 tag-parts head tail small =
-    let v = head * wordSpan + tail in
+    let v = head * fullWords + tail in
     let high : v / 256 / 256 / 256 / 256 ≡ head = omega arith in
     let a : v / 256 / 256 / 256 % 256 ≡ tail / 256 / 256 / 256 % 256 = omega arith in
     let b : v / 256 / 256 % 256 ≡ tail / 256 / 256 % 256 = omega arith in

@@ -1,5 +1,5 @@
 -- The pass over one more file: with the place where it begins added to that of its fault, and over one file alone.
-use mathlib.Core.Path.{_≡_, refl, sym, ap, subst, _∙_}
+use mathlib.Core.Path.{_≡_, refl, sym, ap, _∙_}
 use mathlib.Core.List.{List, []}
 use Prim.Native.Nat.{ℕ, _+_, _≤_}
 use native.Mathlib.Omega.{arith}
@@ -13,7 +13,7 @@ use Rattle.tag_file.specs.declared.LoadAnswer.{LoadAnswer}
 use Rattle.tag_file.specs.declared.LoadAnswer.the-variants as load
 use Rattle.tag_file.specs.Records.{TagRecord, records}
 use Rattle.tag_file.specs.Loading.{totalsOf}
-use Rattle.tag_scan.specs.Scan.{Taken, fileFaultAfter, movedBy, ScannedAfter, ScannedOn, Scanned}
+use Rattle.tag_scan.specs.Scan.{fileFaultAfter, movedBy, ScannedAfter, ScannedOn, Scanned}
 use Rattle.tag_scan.proofs.AfterFaults.{fault-alone, moved-none}
 
 -- what is answered where the tests fail or not, with another way to refuse

@@ -25,7 +25,8 @@ use Rattle.tag_file.specs.declared.ReadAnswer.{ReadAnswer}
 use Rattle.tag_file.specs.declared.ReadAnswer.the-variants.{Record, NoMore, Refused}
 use Rattle.tag_file.proofs.Tables.{length-insertAll-bound}
 use Rattle.tag_file.proofs.ReadLaws.{read-refused}
-use Rattle.tag_file.proofs.RecordLaws.{length-tagsAt, records-next, totalLength-last, read-past, read-within, read-length}
+use Rattle.tag_file.proofs.RecordLaws.{length-tagsAt, read-after, read-past, read-within, read-length}
+use Rattle.tag_file.proofs.RecordLaws.{records-next, totalLength-last}
 use Rattle.tag_index.specs.Index.{indexRoom, AddReady, AllAdded}
 use Rattle.tag_scan.specs.Scan.{keyOf, grownBy, isOver, Taken, faultAfter, firstFaultAfter, fileFaultAfter, ScannedAfter}
 use Rattle.tag_scan.proofs.AfterFaults.{after-used, after-past, after-none}
@@ -70,7 +71,7 @@ same-refusal : (a b : Refusal) → load.Refused a ≡ load.Refused b → a ≡ b
 same-refusal a b e = cc
 
 -- a fault is what the file is refused with
-pub scanning-refused : {earlier : List TagRecord} {file heads tails order : List ℕ} (why : Refusal)
+scanning-refused : {earlier : List TagRecord} {file heads tails order : List ℕ} (why : Refusal)
     → fileFaultAfter earlier file ≡ Failed why → rowOf why .first ≤ length file
     → ScannedAfter earlier file heads tails order (load.Refused why)
 scanning-refused {earlier} {file} why e small =
@@ -144,7 +145,7 @@ module _ {earlier : List TagRecord} {file used heads tails order places : List �
         record {
           sorted = s .taken .sorted;
           wide = s .wide;
-          before = λ j h. omega (arith, s .before j h, read-past file at e, read-length file at e);
+          before = λ j h. omega (arith, s .before j h, read-after file at e);
           inside = omega (arith, read-past file at e, read-within file at e);
           room = omega (arith, s .taken .limited .tags);
         }

@@ -3,7 +3,7 @@
 -- measure is how many bytes are left.
 use mathlib.Core.Path.{_≡_, sym, subst, _∙_}
 use mathlib.Core.List.{List}
-use Prim.Native.Nat.{ℕ, _-_, _<_, _≤_}
+use Prim.Native.Nat.{_-_, _<_, _≤_}
 use lib.ListN.{length}
 use Rattle.sets.specs.Limits.{maxSetLength, halfWords}
 use Rattle.tag_file.specs.declared.LoadAnswer.{LoadAnswer}

@@ -1,5 +1,4 @@
 -- `tag_scan::scan_on` meets its contract: what `scan_file` promises, with the place of a fault moved on.
-use mathlib.Core.List.{List}
 use Rattle.tag_scan.proofs.Passes.{on-loaded, on-room, on-refused}
 use borrow.Author.Needs.{needs}
 use Rattle.tag_scan.proofs.scan_on.Statement.{statement}
