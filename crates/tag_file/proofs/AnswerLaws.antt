@@ -20,7 +20,7 @@ use Rattle.tag_file.specs.declared.LoadAnswer.{LoadAnswer}
 use Rattle.tag_file.specs.declared.LoadAnswer.the-variants as load
 
 -- no fault, room in every list, and the totals
-pub record Accepted (file : List ℕ) (lent : Lists) (totals : Loaded) : Type 0 where
+pub record LoadAccepted (file : List ℕ) (lent : Lists) (totals : Loaded) : Type 0 where
   pub clear : fileFault file ≡ Passed
   pub room : roomFor (filled (records file)) lent ≡ true
   pub counted : totalsOf (records file) ≡ totals
@@ -33,7 +33,7 @@ accepted-if Passed false given totals e = let z : _≡_ {A = ℕ} 0 1 = cc in ab
 accepted-if Passed true given totals e = (refl, (refl, cc))
 
 module _ (file : List ℕ) (lent : Lists) where
-  pub accepted : (totals : Loaded) → loadAnswer file lent ≡ load.Loaded totals → Accepted file lent totals
+  pub accepted : (totals : Loaded) → loadAnswer file lent ≡ load.Loaded totals → LoadAccepted file lent totals
   unfolding loadAnswer
   accepted totals e =
       let parts = accepted-if (fileFault file) (roomFor (filled (records file)) lent) (totalsOf (records file)) totals e in

@@ -46,7 +46,7 @@ memb-tagsAt (suc n) file at (suc k) h =
     or-right (eqb (tagAt file (pastTags at (suc k))) (tagAt file at)) (memb (tagAt file (pastTags at (suc k))) rest)
     (subst (λ (m : ℕ). memb (tagAt file m) rest ≡ true) e (memb-tagsAt n file (at + tagLength) k (le-of-suc-le-suc h)))
 
-pub record Filling (file : List ℕ) (side : Side) (numbers₀ ends₀ items₀ : List ℕ)
+pub record SideFilling (file : List ℕ) (side : Side) (numbers₀ ends₀ items₀ : List ℕ)
     (marks numbers ends items : List ℕ) (done : Filled) (at : ℕ) : Type 0 where
   pub for-numbers : Writing numbers₀ 0 (numbersOf side (records file)) numbers (done .sets) (numbersOf side (recordsAt file at))
   pub for-ends : Writing ends₀ 0 (endsOf side (records file)) ends (done .sets)
@@ -56,10 +56,10 @@ pub record Filling (file : List ℕ) (side : Side) (numbers₀ ends₀ items₀ 
   pub held : (y : ℕ) → memb y (allTags (recordsAt file at)) ≡ true → memb y (tagTable (records file)) ≡ true
   pub unmarked : Unmarked marks
 
-pub filling-start : {file heads tails : List ℕ} {n : ℕ} {order ranks : List ℕ} {side : Side} {numbers ends items : List ℕ}
+pub side-filling-start : {file heads tails : List ℕ} {n : ℕ} {order ranks : List ℕ} {side : Side} {numbers ends items : List ℕ}
     → FillReady file heads tails n order ranks side numbers ends items
-    → Filling file side numbers ends items (replicate markWords 0) numbers ends items (record { sets = 0; entries = 0 }) 0
-filling-start {file} {heads} {tails} {n} {order} {ranks} {side} {numbers} {ends} {items} r =
+    → SideFilling file side numbers ends items (replicate markWords 0) numbers ends items (record { sets = 0; entries = 0 }) 0
+side-filling-start {file} {heads} {tails} {n} {order} {ranks} {side} {numbers} {ends} {items} r =
     record {
       for-numbers = writing-start numbers 0 (numbersOf side (records file)) (omega (arith, r .for-numbers));
       for-ends = writing-start ends 0 (endsOf side (records file)) (omega (arith, r .for-ends));
@@ -69,7 +69,7 @@ filling-start {file} {heads} {tails} {n} {order} {ranks} {side} {numbers} {ends}
     }
 
 module _ {file : List ℕ} {side : Side} {numbers₀ ends₀ items₀ marks numbers ends items : List ℕ} {done : Filled} {at : ℕ}
-    (f : Filling file side numbers₀ ends₀ items₀ marks numbers ends items done at) where
+    (f : SideFilling file side numbers₀ ends₀ items₀ marks numbers ends items done at) where
   module _ (stop : recordsAt file at ≡ []) where
     pub filled-numbers : numbers ≡ filledOver (numbersOf side (records file)) numbers₀
     unfolding keep
@@ -166,7 +166,7 @@ module _ {file : List ℕ} {side : Side} {numbers₀ ends₀ items₀ marks numb
         → Put numbers (done .sets) (onto mine n []) (r .sets) numbers′
         → Put ends (done .sets) (onto mine (done .entries + length new) []) (r .sets) ends′
         → Put items (done .entries) (join (onto mine new [])) (r .entries) items′
-        → Unmarked marks′ → Filling file side numbers₀ ends₀ items₀ marks′ numbers′ ends′ items′ r next
+        → Unmarked marks′ → SideFilling file side numbers₀ ends₀ items₀ marks′ numbers′ ends′ items′ r next
     filling-by mine is {r} put-number put-end put-items none =
         record {
           for-numbers = writing-step (f .for-numbers) (rw is at numbers-next) put-number;
@@ -178,10 +178,10 @@ module _ {file : List ℕ} {side : Side} {numbers₀ ends₀ items₀ marks numb
 
     pub filling-own : sameSide side kind ≡ true → {r : Filled} {marks′ numbers′ ends′ items′ : List ℕ}
         → OneFilled (done .sets) (done .entries) n new numbers ends items r numbers′ ends′ items′
-        → Unmarked marks′ → Filling file side numbers₀ ends₀ items₀ marks′ numbers′ ends′ items′ r next
+        → Unmarked marks′ → SideFilling file side numbers₀ ends₀ items₀ marks′ numbers′ ends′ items′ r next
     filling-own is o none = filling-by true is (o .put-number) (o .put-end) (rw join-one (o .put-items)) none
 
-    pub filling-other : sameSide side kind ≡ false → Filling file side numbers₀ ends₀ items₀ marks numbers ends items done next
+    pub filling-other : sameSide side kind ≡ false → SideFilling file side numbers₀ ends₀ items₀ marks numbers ends items done next
     unfolding join
     filling-other is =
         filling-by false is (record { written = refl; past = omega arith }) (record { written = refl; past = omega arith })

@@ -23,7 +23,7 @@ use Rattle.tag_file.proofs.RecordLaws.{length-tagsAt, tagsAt-last}
 use Rattle.tag_index.specs.Index.{tagOfId, tableOf, tagValue, Lower, Seen, NewTag, Adding, OneMore, AddReady, AllAdded}
 use Rattle.tag_index.specs.Index.{indexRoom}
 use Rattle.tag_index.specs.declared.Tag.{Tag}
-use Rattle.tag_index.proofs.Ids.{position, sorted-size, sorted-at, sorted-lower, same-id}
+use Rattle.tag_index.proofs.Ids.{id-position, sorted-size, sorted-at, sorted-lower, same-id}
 use Rattle.tag_index.proofs.Ids.{last-id, listed-put, tag-other, tag-this, table-put}
 
 -- ---- one more tag at the end of a list of tags
@@ -109,7 +109,7 @@ module _ {file heads tails : List ℕ} {start k tags fresh : ℕ} {order seen : 
       where
         kept : insert x table ≡ table
         kept =
-            let p = position (a .sorted .listed) id h in
+            let p = id-position (a .sorted .listed) id h in
             let here : tagOfId heads tails (getD order (p .at) 0) ≡ x = ap (tagOfId heads tails) (p .here) ∙ e in
             insert-known x table (p .at) (omega (arith, p .below, sorted-size (a .sorted)))
             (sorted-lower (a .sorted) (p .at) x (p .below) here .below)
@@ -191,7 +191,7 @@ module _ {file heads tails : List ℕ} {start k tags fresh : ℕ} {order seen : 
 
         differs : (id : ℕ) → id < tags → tagOfId heads tails id ≡ x → ⊥
         differs id g q =
-            let at-id = position (a .sorted .listed) id g in
+            let at-id = id-position (a .sorted .listed) id g in
             apart (at-id .at) (at-id .below)
             (sorted-at (a .sorted) (at-id .at) (at-id .below) ∙ ap (tagOfId heads tails) (at-id .here) ∙ q)
 

@@ -1,5 +1,5 @@
 -- `tag_fill::fill_side` meets its contract. The invariant: what is written of each list and what the records still to come give
--- are together what is wanted, and no item is marked (`Filling`). The measure is how many bytes are left.
+-- are together what is wanted, and no item is marked (`SideFilling`). The measure is how many bytes are left.
 use mathlib.Core.Path.{_≡_, sym, _∙_}
 use Prim.Native.Nat.{_-_}
 use borrow.Author.Tests.{not-true, not-false}
@@ -9,7 +9,7 @@ use Rattle.tag_file.specs.declared.ReadAnswer.the-variants.{Record}
 use Rattle.tag_file.proofs.Ended.{no-records}
 use Rattle.tag_file.proofs.RecordLaws.{read-less}
 use Rattle.tag_index.specs.Index.{tableOf}
-use Rattle.tag_fill.proofs.Filling.{Filling, filling-start, filled-numbers, filled-ends, filled-items}
+use Rattle.tag_fill.proofs.Filling.{SideFilling, side-filling-start, filled-numbers, filled-ends, filled-items}
 use Rattle.tag_fill.proofs.Filling.{filling-known, filling-items, filling-room, filling-own, filling-other}
 use Rattle.tag_fill.proofs.Marks.{unmarked-marked}
 use Rattle.tag_fill.proofs.fill_side.Statement.{statement}
@@ -17,7 +17,7 @@ use Rattle.tag_fill.proofs.fill_side.Tie as tie
 
 abbrev Inv-loop : tie.InvT-loop
 Inv-loop file heads tails order ranks hints n side numbers₀ ends₀ items₀ marks₀ done₀ at₀ numbers ends items marks done at =
-    Filling file side numbers₀ ends₀ items₀ marks numbers ends items done at
+    SideFilling file side numbers₀ ends₀ items₀ marks numbers ends items done at
 
 abbrev μ-loop : tie.MeasureT-loop
 μ-loop file heads tails order ranks hints n side numbers₀ ends₀ items₀ marks₀ done₀ at₀ numbers ends items marks done at =
@@ -32,7 +32,7 @@ read : (a : tie.After-answer Inv-loop μ-loop)
 read a = sym (a .before .before .read-record .ensures) ∙ a .answer .given .1
 
 loop-holds : tie.Need-loop-holds Inv-loop μ-loop
-loop-holds c = filling-start (c .before .before .before .before .pre)
+loop-holds c = side-filling-start (c .before .before .before .before .pre)
 
 read-record-requires : tie.Need-read-record-requires Inv-loop μ-loop
 read-record-requires c κs = tt
