@@ -1,47 +1,93 @@
--- The answer and the rank list by the causes of a refusal, in their order.
-use mathlib.Core.Path.{_≡_, refl}
+-- Laws of the order's test, answer and rank list: the case of each return, what an input has that passed, and the call.
+use mathlib.Core.Path.{_≡_, sym, ap, _∙_}
 use mathlib.Core.List.{List}
-use mathlib.Core.Bool.{Bool}
-use Prim.Native.Nat.{ℕ, _<_, _≤_}
-use borrow.Author.Tests.{lt-ltb, le-ltb, eq-eqb, ne-eqb}
+use mathlib.Core.Bool.{Bool, true, false, not}
+use Prim.Native.Nat.{ℕ}
+use native.Mathlib.Omega.{arith}
+use borrow.Author.Tests.{eq-eqb, ne-eqb, eqb-true, ltb-false, not-false}
+use lib.Dec.{eqb, ltb}
 use lib.ListN.{length}
 use Rattle.sets.specs.Limits.{maxItems}
-use Rattle.sets.specs.Collections.{setsOf, firstBad}
-use Rattle.sets.specs.declared.Verdict.the-variants.{Good, Bad}
-use Rattle.sets.specs.declared.Side.the-variants.{Left, Right}
+use Rattle.sets.specs.Refusals.{clears, refuseIf, unless}
+use Rattle.sets.specs.Lent.{afterRefusal}
 use Rattle.sets.specs.declared.Refusal.{Refusal}
-use Rattle.sets.specs.declared.Refusal.the-variants.{BadSet, BadSettings}
+use Rattle.sets.specs.declared.Refusal.the-variants.{BadSettings}
+use Rattle.sets.specs.declared.Tested.{Tested}
+use Rattle.sets.specs.declared.Tested.the-variants.{Passed, Failed}
+use Rattle.inputs.specs.Input.{Input, leftSets, rightSets}
+use Rattle.inputs.specs.Tests.{itemsTest, setsTest}
+use Rattle.inputs.proofs.TestLaws.{both-passed, refuse-passed, sets-good, sets-keep, failed-same}
+use Rattle.item_order.specs.declared.OrderAnswer.{OrderAnswer}
 use Rattle.item_order.specs.declared.OrderAnswer.the-variants.{Ordered, Refused}
-use Rattle.item_order.specs.Order.{orderAnswer, orderRanks, rankTable}
+use Rattle.item_order.specs.Order.{lengthTest, orderTest, orderAnswer, orderRanks, ranksAfter, rankTable, OrderCall}
+use Rattle.item_order.specs.Steps.{CanFill}
 
-module _ (T : ℕ) (leftEnds leftItems rightEnds rightItems : List ℕ) (falling : Bool) (ranks : List ℕ) where
-  -- what the contract asks of a refusal, and of an order
-  abbrev pub RefusedBy : Refusal → Type 0
-  RefusedBy why =
-      (Refused why ≡ orderAnswer T leftEnds leftItems rightEnds rightItems ranks)
-      × (ranks ≡ orderRanks T leftEnds leftItems rightEnds rightItems falling ranks)
+module _ (i : Input) (places : ℕ) where
+  -- the case of each return
+  pub test-items : {why : Refusal} → itemsTest (i .T) ≡ Failed why → Failed why ≡ orderTest i places
+  unfolding orderTest
+  test-items failed = rw failed
 
-  pub refused-large : maxItems < T → RefusedBy BadSettings
-  unfolding orderAnswer orderRanks
-  refused-large large = rw (lt-ltb maxItems T large) (refl, refl)
+  module _ (few : itemsTest (i .T) ≡ Passed) where
+    pub test-length : (places ≡ i .T → ⊥) → Failed BadSettings ≡ orderTest i places
+    unfolding orderTest
+    test-length other = rw (few, ne-eqb places (i .T) other)
 
-  pub refused-length : T ≤ maxItems → (length ranks ≡ T → ⊥) → RefusedBy BadSettings
-  unfolding orderAnswer orderRanks
-  refused-length few other = rw (le-ltb maxItems T few, ne-eqb (length ranks) T other) (refl, refl)
+    pub test-sets : places ≡ i .T → setsTest i ≡ orderTest i places
+    unfolding orderTest
+    test-sets long = rw (few, eq-eqb places (i .T) long)
 
-  module _ (few : T ≤ maxItems) (long : length ranks ≡ T) where
-    pub refused-left : (place : ℕ) → firstBad T leftEnds leftItems ≡ Bad place → RefusedBy (BadSet Left place)
-    unfolding orderAnswer orderRanks
-    refused-left place bad = rw (le-ltb maxItems T few, eq-eqb (length ranks) T long, bad) (refl, refl)
+  -- its refusals change nothing
+  pub test-keep : (why : Refusal) → orderTest i places ≡ Failed why → clears why ≡ false
+  unfolding orderTest
+  test-keep why e = go (ltb maxItems (i .T)) (not (eqb places (i .T))) e
+    where
+      go : (large other : Bool)
+          → unless Failed (refuseIf large BadSettings) (unless Failed (refuseIf other BadSettings) (setsTest i)) ≡ Failed why
+          → clears why ≡ false
+      go true other e = ap clears (sym (failed-same BadSettings why e))
+      go false true e = ap clears (sym (failed-same BadSettings why e))
+      go false false e = sets-keep i why e
 
-    pub refused-right : (place : ℕ) → firstBad T leftEnds leftItems ≡ Good → firstBad T rightEnds rightItems ≡ Bad place
-        → RefusedBy (BadSet Right place)
-    unfolding orderAnswer orderRanks
-    refused-right place good bad = rw (le-ltb maxItems T few, eq-eqb (length ranks) T long, good, bad) (refl, refl)
+-- what an input has that passed
+pub can-fill : (i : Input) (ranks : List ℕ) → orderTest i (length ranks) ≡ Passed
+    → CanFill (i .T) (i .left .ends) (i .left .items) (i .right .ends) (i .right .items) ranks
+unfolding orderTest
+can-fill i ranks e =
+    let first = both-passed (itemsTest (i .T)) _ e in
+    let later = both-passed (lengthTest (i .T) (length ranks)) (setsTest i) (first .1) in
+    let good = sets-good i (later .1) in
+    record {
+      few = ltb-false maxItems (i .T) (refuse-passed (ltb maxItems (i .T)) BadSettings (first .0));
+      long = eqb-true _ _ (not-false (eqb (length ranks) (i .T)) (refuse-passed _ BadSettings (later .0)));
+      left = good .left;
+      right = good .right;
+    }
 
-    pub accepted : firstBad T leftEnds leftItems ≡ Good → firstBad T rightEnds rightItems ≡ Good
-        → (Ordered ≡ orderAnswer T leftEnds leftItems rightEnds rightItems ranks)
-        × (rankTable falling T (setsOf leftEnds leftItems) (setsOf rightEnds rightItems)
-        ≡ orderRanks T leftEnds leftItems rightEnds rightItems falling ranks)
-    unfolding orderAnswer orderRanks
-    accepted left right = rw (le-ltb maxItems T few, eq-eqb (length ranks) T long, left, right) (refl, refl)
+-- the call: an input that is refused, and one that passed its test
+module _ (i : Input) (falling : Bool) (ranks : List ℕ) where
+  kept-after : (why : Refusal) → clears why ≡ false → ranks ≡ afterRefusal why ranks
+  kept-after why keeps = rw keeps
+
+  -- the rank list by the answer
+  ranks-by : (answer : OrderAnswer) → orderAnswer i (length ranks) ≡ answer
+      → orderRanks i falling ranks ≡ ranksAfter answer (rankTable falling (i .T) (leftSets i) (rightSets i)) ranks
+  unfolding orderRanks
+  ranks-by answer e =
+      ap (λ (a : OrderAnswer). ranksAfter a (rankTable falling (i .T) (leftSets i) (rightSets i)) ranks) e
+
+  pub call-refused : (why : Refusal) → orderTest i (length ranks) ≡ Failed why → OrderCall i falling ranks ranks (Refused why)
+  unfolding orderAnswer
+  call-refused why failed =
+      let answer : orderAnswer i (length ranks) ≡ Refused why = rw failed in
+      record {
+        answered = sym answer;
+        ranks = kept-after why (test-keep i (length ranks) why failed) ∙ sym (ranks-by (Refused why) answer);
+      }
+
+  pub call-ordered : (ranks′ : List ℕ) → orderTest i (length ranks) ≡ Passed
+      → ranks′ ≡ rankTable falling (i .T) (leftSets i) (rightSets i) → OrderCall i falling ranks ranks′ Ordered
+  unfolding orderAnswer
+  call-ordered ranks′ passed e =
+      let answer : orderAnswer i (length ranks) ≡ Ordered = rw passed in
+      record { answered = sym answer; ranks = e ∙ sym (ranks-by Ordered answer) }

@@ -1,6 +1,6 @@
 -- What the ranks are, for any two collections: a permutation of 0 .. T-1, which a join accepts; and in the order of frequency,
 -- equal frequencies by item.
-use mathlib.Core.Path.{_≡_, sym, _∙_}
+use mathlib.Core.Path.{_≡_, sym, ap, subst, _∙_}
 use mathlib.Core.List.{List}
 use mathlib.Core.Bool.{Bool, true, false, cond, or-true}
 use Prim.Native.Nat.{ℕ, _+_, _<_, _≤_}
@@ -13,10 +13,11 @@ use Rattle.lists.proofs.Counting.{count-same, count-bound}
 use Rattle.lists.proofs.Ranges.{length-table, getD-table}
 use Rattle.lists.proofs.CountingSort.{keyBefore, rank-below, rank-less, rank-apart}
 use Rattle.sets.specs.Ordered.{isPermutation}
-use Rattle.sets.specs.Collections.{setsOf}
+use Rattle.inputs.specs.Input.{Input, leftSets, rightSets}
+use Rattle.item_order.specs.declared.OrderAnswer.{OrderAnswer}
 use Rattle.item_order.specs.declared.OrderAnswer.the-variants.{Ordered}
 use Rattle.sets.proofs.Permutation.{permutation-make}
-use Rattle.item_order.specs.Order.{frequency, comesBefore, rankOf, rankTable, orderAnswer, orderRanks}
+use Rattle.item_order.specs.Order.{frequency, comesBefore, rankOf, rankTable, orderRanks, ranksAfter, OrderCall}
 use Rattle.item_order.specs.Steps.{sortKey}
 use Rattle.item_order.proofs.Keys.{key-before}
 
@@ -85,9 +86,11 @@ module _ (T : ℕ) (left right : List (List ℕ)) (i j : ℕ) (here : i < T) (th
       (rw (eq-eqb a b same, lt-ltb j i less) (or-true (cond falling (ltb b a) (ltb a b))))
 
 -- so an accepted order gives a rank table that the join accepts
-pub order-permutation : (T : ℕ) (leftEnds leftItems rightEnds rightItems : List ℕ) (falling : Bool) (ranks : List ℕ)
-    → orderAnswer T leftEnds leftItems rightEnds rightItems ranks ≡ Ordered
-    → isPermutation T (orderRanks T leftEnds leftItems rightEnds rightItems falling ranks) ≡ true
+pub order-permutation : {i : Input} {falling : Bool} {before after : List ℕ} → OrderCall i falling before after Ordered
+    → isPermutation (i .T) after ≡ true
 unfolding orderRanks
-order-permutation T leftEnds leftItems rightEnds rightItems falling ranks e =
-    rw e (ranks-permutation falling T (setsOf leftEnds leftItems) (setsOf rightEnds rightItems))
+order-permutation {i} {falling} {before} {after} call =
+    subst (λ (l : List ℕ). isPermutation (i .T) l ≡ true)
+    (ap (λ (a : OrderAnswer). ranksAfter a (rankTable falling (i .T) (leftSets i) (rightSets i)) before) (call .answered)
+    ∙ sym (call .ranks))
+    (ranks-permutation falling (i .T) (leftSets i) (rightSets i))

@@ -38,7 +38,7 @@ module _ {w : List ℕ} {top lo hi : ℕ} {l : List ℕ} (h : RegionHolds w top 
   holds-rest e = sym (drop-drop e lo (take hi w)) ∙ ap (drop e) (h .is)
 
 -- a set whose ranks begin at one start and end at the next
-pub record Stored (w : List ℕ) (starts ranks k : ℕ) (l : List ℕ) : Type 0 where
+pub record RanksStored (w : List ℕ) (starts ranks k : ℕ) (l : List ℕ) : Type 0 where
   pub rise : getD w (starts + k) 0 ≤ getD w (starts + k + 1) 0
   pub within : ranks + getD w (starts + k + 1) 0 ≤ length w
   pub size : length l ≡ getD w (starts + k + 1) 0 - getD w (starts + k) 0
@@ -46,7 +46,7 @@ pub record Stored (w : List ℕ) (starts ranks k : ℕ) (l : List ℕ) : Type 0 
   pub rest : (e : ℕ) → slice (ranks + getD w (starts + k) 0 + e) (ranks + getD w (starts + k + 1) 0) w ≡ drop e l
 
 stored : (w : List ℕ) (top starts ranks k : ℕ) (l : List ℕ) → top ≤ length w
-    → RegionHolds w top (startOf w starts ranks k) (startOf w starts ranks (suc k)) l → Stored w starts ranks k l
+    → RegionHolds w top (startOf w starts ranks k) (startOf w starts ranks (suc k)) l → RanksStored w starts ranks k l
 stored w top starts ranks k l room h =
     let here : starts + k + 1 ≡ starts + suc k = omega arith in
     let next : getD w (starts + k + 1) 0 ≡ getD w (starts + suc k) 0 = ap (λ (i : ℕ). getD w i 0) here in
@@ -60,13 +60,13 @@ stored w top starts ranks k l room h =
     }
 
 pub left-stored : (lay : Layout) (q : Query) (w : List ℕ) (k : ℕ) → LeftThere lay q w k
-    → Stored w (lay .«left_starts») (lay .«left_ranks») k (leftAt q k)
+    → RanksStored w (lay .«left_starts») (lay .«left_ranks») k (leftAt q k)
 left-stored lay q w k there =
     stored w (lay .slots) (lay .«left_starts») (lay .«left_ranks») k (leftAt q k) (there .index .room)
     (there .index .ground .left k (there .below))
 
 pub right-stored : (lay : Layout) (q : Query) (w : List ℕ) (s : ℕ) → RightThere lay q w s
-    → Stored w (lay .«right_starts») (lay .«right_ranks») s (rightAt q s)
+    → RanksStored w (lay .«right_starts») (lay .«right_ranks») s (rightAt q s)
 right-stored lay q w s there =
     stored w (lay .slots) (lay .«right_starts») (lay .«right_ranks») s (rightAt q s) (there .index .room)
     (there .index .ground .right s (there .below))

@@ -1,5 +1,5 @@
--- Checks of left sets against right sets, and the counters that they raise. Document 01, "The run": where the walk doesn't go on
--- at a node, all kits below it are checked against each of the candidate stacks.
+-- Inner: checks of left sets against right sets, and the counters that they raise. Document 01, "The run": where the walk doesn't
+-- go on at a node, all kits below it are checked against each of the candidate stacks.
 use Prim.Native.Nat.{ℕ, _+_, _-_, _*_, _≤_}
 use mathlib.Core.Path.{_≡_}
 use mathlib.Core.List.{List, []}

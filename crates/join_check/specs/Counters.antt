@@ -1,4 +1,4 @@
--- The counters of a walk, one for each kind of outcome, and how they grow.
+-- Inner: the counters of a walk, one for each kind of outcome, and how they grow.
 use Prim.Native.Nat.{ℕ, _+_}
 use mathlib.Core.Path.{_≡_}
 use mathlib.Core.Bool.{Bool}

@@ -1,4 +1,4 @@
--- One check: what is left of a left set to be checked, and what becomes of it with a right set.
+-- Inner: one check, what remains of a left set to be checked, and what becomes of it with a right set.
 use Prim.Native.Nat.{ℕ, _+_, _≤_}
 use mathlib.Core.Path.{_≡_}
 use mathlib.Core.List.{List, []}
@@ -27,7 +27,7 @@ pub record Probed (lay : Layout) (w : List ℕ) (k e : ℕ) (p : Probe) : Type 0
   pub within : p .to ≤ lay .slots
   pub is : (q : Query) → LeftThere lay q w k → ProbeOf q w k e p
 
--- what becomes of what is left of a left set with the right set s: signatures first, then ranks
+-- what becomes of what remains of a left set with the right set s: signatures first, then ranks
 abbrev pub probeOutcome : Query → List ℕ → Probe → ℕ → Outcome
 probeOutcome q w p s =
     cond (drops (p .signature) (signature (getD (q .rights) s []))) dropped

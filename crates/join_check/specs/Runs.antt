@@ -1,4 +1,4 @@
--- The left sets that stand together in the order.
+-- Inner: the left sets that stand together in the order.
 use Prim.Native.Nat.{ℕ, suc, _+_, _≤_, _<_}
 use mathlib.Core.Path.{_≡_}
 use mathlib.Core.List.{List, [], _∷_}

@@ -14,7 +14,7 @@ ghost use Rattle.join_check.specs.Checks.{RowThere, RowChecked};
 ghost use Rattle.join_check.specs.Counters.{checksIn};
 ghost use Rattle.join_check.specs.Probes.{Probed, outcomeOf, probeOutcome, OneChecked};
 
-// What is left of a left set to be checked: its signature, and where its ranks that are not on the merged path lie.
+// What remains of a left set to be checked: its signature, and where its ranks that are not on the merged path lie.
 pub struct Probe {
     pub signature: u64,
     pub from: usize,
@@ -28,7 +28,7 @@ pub enum Checked {
     Confirmed,
 }
 
-// What is left of the left set k after its first e ranks; no rank where it has fewer.
+// What remains of the left set k after its first e ranks; no rank where it has fewer.
 pub fn probe_left(work: &[u32], lay: Layout, k: usize, e: usize) -> Probe
     requires { ⌜ Some (λ q. LeftThere lay q (now work) k) ⌝ }
     ensures { λ p. ⌜ Probed lay (now (work .entry)) k e p ⌝ }
@@ -53,7 +53,7 @@ pub fn probe_left(work: &[u32], lay: Layout, k: usize, e: usize) -> Probe
     }
 }
 
-// Checks what is left of a left set against the right set s: signatures first, then ranks.
+// Checks what remains of a left set against the right set s: signatures first, then ranks.
 pub fn check_probe(work: &[u32], lay: Layout, p: Probe, s: usize) -> Checked
     requires { ⌜ Some (λ q. RightThere lay q (now work) s) ⌝ }
     requires { ⌜ Rising (p .from) (p .to) (now work) ⌝ }

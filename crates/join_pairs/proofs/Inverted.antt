@@ -17,6 +17,7 @@ use Rattle.join_spec.specs.Query.{Query}
 use Rattle.join_index.specs.Grouping.{rightAt}
 use Rattle.join_index.specs.Ground.{invertedList}
 use Rattle.join_index.specs.declared.Layout.{Layout}
+use Rattle.word_lists.specs.Words.{Word}
 use Rattle.word_lists.specs.Merges.{Rising}
 use Rattle.word_lists.specs.Flags.{flagRoom, Below}
 use Rattle.join_check.specs.Asking.{PlacesThere}
@@ -86,18 +87,18 @@ slice-at w from to i low high =
     getD-slice 0 from to (i - from) w (omega arith) ∙ ap (λ (n : ℕ). getD w n 0) there
 
 -- a word of a part is in it
-pub slice-memb : (w : List ℕ) (from to i r : ℕ) → from ≤ i → i < to → to ≤ length w → r ≡ getD w i 0
+pub slice-memb : {w : List ℕ} {i r : ℕ} → Word w i r → (from to : ℕ) → from ≤ i → i < to → to ≤ length w
     → memb r (slice from to w) ≡ true
-slice-memb w from to i r low high within word =
-    subst (λ (n : ℕ). memb n (slice from to w) ≡ true) (slice-at w from to i low high ∙ sym word)
+slice-memb {w} {i} word from to low high within =
+    subst (λ (n : ℕ). memb n (slice from to w) ≡ true) (slice-at w from to i low high ∙ sym (word .is))
     (memb-at (slice from to w) (i - from) 0 (omega (arith, length-slice from to w within)))
 
 -- a word of a part that holds ranks is a rank
 pub slice-rank : {lay : Layout} {q : Query} {w : List ℕ} {from to : ℕ} → RanksThere lay q w from to
-    → (i r : ℕ) → from ≤ i → i < to → r ≡ getD w i 0 → RankThere lay q w r
-slice-rank {lay} {q} {w} {from} {to} there i r low high word =
+    → {i r : ℕ} → Word w i r → from ≤ i → i < to → RankThere lay q w r
+slice-rank {lay} {q} {w} {from} {to} there {i} {r} word low high =
     let test = all-slice (λ (k : ℕ). ltb k (q .T)) from to w (there .within) (there .below) i low high in
     record {
       index = there .index;
-      below = ltb-true r (q .T) (ap (λ (k : ℕ). ltb k (q .T)) word ∙ test);
+      below = ltb-true r (q .T) (ap (λ (k : ℕ). ltb k (q .T)) (word .is) ∙ test);
     }

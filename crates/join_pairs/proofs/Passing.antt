@@ -1,4 +1,4 @@
--- One right set and what is left of a left set to be looked for in it: where no rank is left it contains the left set, else the
+-- One right set and the rest of a left set to be looked for in it: where the rest has no rank it contains the left set, else the
 -- check decides, since a right set that contains it has all bits of its signature.
 use Prim.Native.Nat.{ℕ, _≤_}
 use mathlib.Core.Path.{_≡_, refl, sym, ap, _∙_}

@@ -95,6 +95,9 @@ module _ {lay : Layout} {q : Query} {w : List ℕ} {from to pivot : ℕ} (there 
       rank-is : r ≡ getD w i 0
       rank-is = word .is ∙ frame-at 0 i (lay .slots) w v (omega (arith, there .within)) frame
 
+      rank-word : Word w i r
+      rank-word = record { is = rank-is; small = word .small }
+
       same-offset : (x : ℕ) → x ≤ q .T → getD v (lay .offsets + x) 0 ≡ getD w (lay .offsets + x) 0
       same-offset x h =
           frame-at 0 (lay .offsets + x) (lay .slots) w v (omega (arith, there .index .ground .offsetsWithin)) frame
@@ -152,7 +155,7 @@ module _ {lay : Layout} {q : Query} {w : List ℕ} {from to pivot : ℕ} (there 
               complete = ap (keep (λ (x : ℕ). subset (slice from to w) (rightAt q x))) part
                   ∙ keep-through (λ (x : ℕ). subset (slice from to w) (rightAt q x)) (λ (x : ℕ). memb r (rightAt q x))
                   (λ (x : ℕ). ltb x (length (q .rights))) (slice a b v) (sifting .places .below)
-                  (λ x good h. subset-elim (slice from to w) (rightAt q x) h r (slice-memb w from to i r low more within rank-is))
+                  (λ x good h. subset-elim (slice from to w) (rightAt q x) h r (slice-memb rank-word from to low more within))
                   ∙ sifting .complete;
               decides = λ x m.
                   let both = sym (memb-keep (λ (y : ℕ). memb r (rightAt q y)) (slice a b v) x) ∙ sym (ap (memb x) part) ∙ m in

@@ -33,7 +33,7 @@ rowOf q k places = pairsWith k (keep (containedAt q k) places)
 abbrev pub rowAt : Query → ℕ → List ℕ
 rowAt q k = rowFrom (contained (getD (q .lefts) k [])) k 0 (q .rights)
 
--- p is what is left of the left set k to be looked for in the right set s: containing its ranks is containing the left set
+-- p is the rest of the left set k, to be looked for in the right set s: containing its ranks is containing the left set
 pub record CheckThere (lay : Layout) (q : Query) (w : List ℕ) (p : Probe) (k s : ℕ) : Type 0 where
   pub right : RightThere lay q w s
   pub signed : p .signature ≡ signature (getD (q .lefts) k [])

@@ -29,7 +29,7 @@ pub record AllRoom (at k rights : ℕ) (pairs : List ℕ) : Type 0 where
   pub right : rights ≤ maxSets
   pub room : at + 2 * rights ≤ length pairs
 
--- p is what is left of the left set k to be looked for in the right sets whose places stand from one place up to another, and
+-- p is the rest of the left set k, to be looked for in the right sets whose places stand from one place up to another, and
 -- there is room for their pairs
 pub record RowRoom (lay : Layout) (q : Query) (w : List ℕ) (p : Probe) (k from to at : ℕ) (pairs : List ℕ) : Type 0 where
   pub left : LeftThere lay q w k

@@ -41,8 +41,8 @@ pub fn pivot(work: &[u32], lay: Layout, from: usize, to: usize) -> usize
     rank
 }
 
-// Whether the right set s contains the left set of which p is what is left to be looked for: it does where no rank is left, else it
-// is checked.
+// Whether the right set s contains the left set of which p is the rest to be looked for: it does where there is no rank in the
+// rest, else it is checked.
 pub fn is_contained(work: &[u32], lay: Layout, p: Probe, s: usize) -> bool
     requires { ⌜ Some (λ q. RightThere lay q (now work) s) ⌝ }
     requires { ⌜ Rising (p .from) (p .to) (now work) ⌝ }

@@ -44,7 +44,7 @@ fn write_all(pairs: &mut [u16], at: usize, k: usize, rights: usize) -> usize
 }
 
 // Writes the pairs of the left set k with those right sets that contain it, of the ones whose places stand from one place of
-// the work list up to another; p is what is left of it to be looked for.
+// the work list up to another; p is the rest of it, which is to be looked for.
 fn write_row(
     work: &[u32],
     lay: Layout,

@@ -27,7 +27,7 @@ use Rattle.join_check.specs.Checks.{rowCount, runCount, holdFirst, RunsThere}
 use Rattle.join_walk.specs.Rows.{goes, row, pathPairs}
 use Rattle.join_walk.proofs.Prefixes.{prefix-take, prefix-length}
 use Rattle.join_walk.proofs.Narrowing.{candidate-path, listing-same}
-use Rattle.join_walk.proofs.RowLaws.{Met, row-stops, row-limit, row-merges}
+use Rattle.join_walk.proofs.RowLaws.{MetOnly, row-stops, row-limit, row-merges}
 use Rattle.join_walk.proofs.PathLaws.{paths-many}
 
 -- every left set of a list begins with the path
@@ -124,7 +124,7 @@ module _ (q : Query) (p : ℕ) (ps : List ℕ) where
             begins;
       }
 
-  module _ (is : Outcome → Bool) (met : Met is) where
+  module _ (is : Outcome → Bool) (met : MetOnly is) where
     -- rows where the walk does not go on
     pub rows-stop : (lefts list : List ℕ) → Begin q (p ∷ ps) lefts → goes q (p ∷ ps) ≡ false
         → Listing (length (q .rights)) (λ s. isCandidate (length (p ∷ ps) - 1) (p ∷ ps) (rightAt q s)) list

@@ -25,7 +25,7 @@ use Rattle.join_walk.specs.Rows.{row, pathPairs}
 use Rattle.join_walk.specs.Visiting.{Added, Merged, Visited}
 use Rattle.join_walk.specs.Blocks.{Blocked}
 use Rattle.join_walk.specs.declared.visit.Walked.{Walked}
-use Rattle.join_walk.proofs.RowLaws.{Met}
+use Rattle.join_walk.proofs.RowLaws.{MetOnly}
 use Rattle.join_walk.proofs.PathLaws.{sum-const}
 
 -- a check is one
@@ -47,7 +47,7 @@ module _ (q : Query) (list lefts : List ℕ) where
 -- a block of checks answers for its left sets where their rows are its checks
 pub block-visited : {lay : Layout} {q : Query} {w : List ℕ} {budget d e lo hi from to : ℕ} {t : Tally} {r : Walked}
     → RunsThere lay q w e lo hi from to → length (run lay w lo hi) ≡ hi - lo → length (slice from to w) ≡ to - from
-    → ((is : Outcome → Bool) → Met is → sum (row is q d) (run lay w lo hi) ≡ runCount q is (slice from to w) (run lay w lo hi))
+    → ((is : Outcome → Bool) → MetOnly is → sum (row is q d) (run lay w lo hi) ≡ runCount q is (slice from to w) (run lay w lo hi))
     → Blocked lay w budget e lo hi from to t r → Visited q budget d (run lay w lo hi) t r
 block-visited {lay} {q} {w} {budget} {d} {e} {lo} {hi} {from} {to} {t} {r} there lefts rights rows block =
     record {
@@ -66,6 +66,6 @@ block-visited {lay} {q} {w} {budget} {d} {e} {lo} {hi} {from} {to} {t} {r} there
 
 -- left sets that pair by path with every candidate after the node
 pub merged-added : {q : Query} {d m c : ℕ} (lefts : List ℕ) {t r : Tally}
-    → ((is : Outcome → Bool) → Met is → sum (row is q d) lefts ≡ pathPairs m c is) → Merged m c t r → Added q d lefts t r
+    → ((is : Outcome → Bool) → MetOnly is → sum (row is q d) lefts ≡ pathPairs m c is) → Merged m c t r → Added q d lefts t r
 merged-added lefts rows merged =
     record { tallied = tallied-same (λ kind. sym (rows (isOf kind) (kind-met kind))) (merged .tallied) }

@@ -34,7 +34,7 @@ use Rattle.join_walk.specs.Visiting.{Underway, Node, Child, Children, Af
 use Rattle.join_walk.specs.Visiting.{Visited, Framed, RunVisited, NodeVisited}
 use Rattle.join_walk.specs.declared.visit.Settings.{Settings}
 use Rattle.join_walk.specs.declared.visit.Walked.{Walked}
-use Rattle.join_walk.proofs.Groups.{First}
+use Rattle.join_walk.proofs.Groups.{FirstGroup}
 use Rattle.join_walk.proofs.Prefixes.{keep-further, prefix-take, prefix-length}
 use Rattle.join_walk.proofs.Narrowing.{candidate-path, listing-kept}
 use Rattle.join_walk.proofs.RunLaws.{Cut, begins-first}
@@ -76,7 +76,7 @@ module _ {lay : Layout} {st : Settings} {q : Query} {path w : List ℕ} {d i hi 
   pub kids-run : RunThere lay q w i hi
   kids-run = record { index = kids .index; some = more; within = kids .few }
 
-  first : First (keyAt q d) (kids .x) (kids .n) rest (leftIn lay w i)
+  first : FirstGroup (keyAt q d) (kids .x) (kids .n) rest (leftIn lay w i)
   first = group-first d (kids .x) (kids .n) rest kids-run (kids .lefts)
 
   -- the child's own rank, and its path
@@ -232,7 +232,7 @@ module _ {lay : Layout} {st : Settings} {q : Query} {path w : List ℕ} {d i hi 
   next-node = subst (λ (e : ℕ). Node lay st q longer w e i j from to t) (sym (add-one d)) child-node
 
   -- and its visit as that of a part of the children
-  pub child-done : {w′ : List ℕ} {one : Walked} → NodeVisited lay st q longer w w′ (d + 1) i j t one
+  child-done : {w′ : List ℕ} {one : Walked} → NodeVisited lay st q longer w w′ (d + 1) i j t one
       → PartDone lay (st .budget) (suc d) hi (λ path w. slotOf lay w (suc (lastOf path)))
       (λ q path w i r. ChildrenAt lay st q path w d i hi from to r) q path w i t w′ j one
   child-done {w′} {one} done =
@@ -258,3 +258,12 @@ module _ {lay : Layout} {st : Settings} {q : Query} {path w : List ℕ} {d i hi 
               };
             };
       }
+
+-- every child's visit so, from what the visit of a node promises
+pub children-done : {lay : Layout} {st : Settings} {w w′ : List ℕ} {d i j hi from to : ℕ} {t : Tally} {one : Walked} → i < hi
+    → RunEnd lay w d i hi j
+    → ((q : Query) (path : List ℕ) → Node lay st q path w (d + 1) i j from to t → NodeVisited lay st q path w w′ (d + 1) i j t one)
+    → (q : Query) (path : List ℕ) → ChildrenAt lay st q path w d i hi from to t
+    → PartDone lay (st .budget) (suc d) hi (λ path w. slotOf lay w (suc (lastOf path)))
+    (λ q path w i r. ChildrenAt lay st q path w d i hi from to r) q path w i t w′ j one
+children-done more end each q path at = child-done at more end (each q (childPath (at .kids) more) (next-node at more end))

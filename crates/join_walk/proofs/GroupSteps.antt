@@ -21,7 +21,7 @@ use Rattle.join_check.specs.Runs.{run, lead, leftIn, RunEnd}
 use Rattle.join_check.proofs.Orders.{order-within, run-next, run-key, run-fail}
 use Rattle.join_walk.specs.Visiting.{beginners}
 use Rattle.join_walk.specs.Blocks.{MergedEnd}
-use Rattle.join_walk.proofs.Groups.{First, groups-first, groups-above, keep-groups}
+use Rattle.join_walk.proofs.Groups.{FirstGroup, groups-first, groups-above, keep-groups}
 use Rattle.join_walk.proofs.RunLaws.{Cut, cut}
 
 -- no group from key x on has a lesser key
@@ -37,7 +37,7 @@ module _ {lay : Layout} {q : Query} {w : List ℕ} {i hi : ℕ} (d x n : ℕ) (r
   abbrev key : ℕ
   key = keyAt q d (leftIn lay w i)
 
-  pub group-first : First (keyAt q d) x n rest (leftIn lay w i)
+  pub group-first : FirstGroup (keyAt q d) x n rest (leftIn lay w i)
   group-first =
       groups-first (keyAt q d) x n rest (leftIn lay w i) (run lay w (i + 1) hi)
       (sym grouped ∙ run-next lay w i hi (there .some) (omega (arith, order-within lay q w (there .index), there .within)))

@@ -101,18 +101,18 @@ module _ (key : ℕ → ℕ) where
       (groups-above (suc x) n l))
 
   -- the first element of the groups begins the whole group of its key, and the groups of greater keys follow
-  pub record First (x n : ℕ) (l : List ℕ) (a : ℕ) : Type 0 where
+  pub record FirstGroup (x n : ℕ) (l : List ℕ) (a : ℕ) : Type 0 where
     pub low : x ≤ key a
     pub high : key a < x + n
     pub split : groupsFrom key x n l ≡ keep (λ b. eqb (key b) (key a)) l ++ groupsFrom key (suc (key a)) (x + n - suc (key a)) l
 
-  pub groups-first : (x n : ℕ) (l : List ℕ) (a : ℕ) (rest : List ℕ) → groupsFrom key x n l ≡ a ∷ rest → First x n l a
+  pub groups-first : (x n : ℕ) (l : List ℕ) (a : ℕ) (rest : List ℕ) → groupsFrom key x n l ≡ a ∷ rest → FirstGroup x n l a
   unfolding groupsFrom
   groups-first x zero l a rest e = absurd (nil≢cons e)
   groups-first x (suc n) l a rest e = go (keep (λ b. eqb (key b) x) l) refl e (groups-first (suc x) n l a rest)
     where
       go : (g : List ℕ) → keep (λ b. eqb (key b) x) l ≡ g → g ++ groupsFrom key (suc x) n l ≡ a ∷ rest
-          → (groupsFrom key (suc x) n l ≡ a ∷ rest → First (suc x) n l a) → First x (suc n) l a
+          → (groupsFrom key (suc x) n l ≡ a ∷ rest → FirstGroup (suc x) n l a) → FirstGroup x (suc n) l a
       go [] none f later =
           let next = later f in
           let count : suc x + n - suc (key a) ≡ x + suc n - suc (key a) = omega arith in

@@ -1,4 +1,5 @@
 -- Laws of the walk, without code: what a row is where a walk ends or goes on, and how runs of left sets split by their next rank.
+pub mod Asked
 pub mod PathLaws
 pub mod RowLaws
 pub mod Groups

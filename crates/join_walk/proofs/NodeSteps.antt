@@ -30,7 +30,7 @@ use Rattle.join_check.specs.Counters.{checksIn}
 use Rattle.join_check.specs.declared.Tally.{Tally}
 use Rattle.join_walk.specs.Rows.{goes, row, pathPairs}
 use Rattle.join_walk.specs.Narrowing.{Candidates, Narrowed, slotOf}
-use Rattle.join_walk.specs.Visiting.{OnPath, Node, ChildrenAt, NodeVisited, ChildrenVisited, Visited, Added, Merged}
+use Rattle.join_walk.specs.Visiting.{OnPath, NodeAt, Node, ChildrenAt, NodeVisited, ChildrenVisited, Visited, Added, Merged}
 use Rattle.join_walk.specs.Visiting.{Framed, beginners}
 use Rattle.join_walk.specs.Blocks.{AtLimit, MergedEnd}
 use Rattle.join_walk.specs.declared.narrow.Part.{Part}
@@ -48,224 +48,236 @@ use Rattle.join_walk.proofs.BlockVisits.{merged-added}
 use Rattle.join_walk.proofs.LimitLaws.{candidates-most}
 use Rattle.join_walk.proofs.VisitLaws.{visited-then, visited-rows, underway-next}
 use Rattle.join_walk.proofs.FrameLaws.{index-framed, slot-framed, run-framed, framed-then}
-use Rattle.join_walk.proofs.NodeStops.{node-begins}
+use Rattle.join_walk.proofs.NodeStops.{goes-on, node-begins}
 
-module _ {lay : Layout} {st : Settings} {q : Query} {path w : List ℕ} {d lo hi from to : ℕ} {t : Tally}
-    (node : Node lay st q path w d lo hi from to t) where
+-- a node where the walk goes on, its candidates narrowed to a part of the work list, which became w′
+pub record Onward (lay : Layout) (st : Settings) (q : Query) (path w w′ : List ℕ) (d lo hi from to : ℕ) (t : Tally)
+    (part : Part) : Type 0 where
+  pub node : Node lay st q path w d lo hi from to t
+  pub narrowed : Narrowed lay q path d w w′ part
+  pub on : true ≡ goes q path
+
+-- as the decision was answered, the path's last rank read, and the candidates narrowed by it
+pub onward-read : {lay : Layout} {st : Settings} {q : Query} {path w w′ : List ℕ} {d lo hi from to : ℕ} {t : Tally} {part : Part}
+    {b : Bool} {rank : ℕ} → Node lay st q path w d lo hi from to t
+    → ((q : Query) (path : List ℕ) → NodeAt lay q path w d lo hi from to → q .rule ≡ st .rule → b ≡ goes q path) → not b ≡ false
+    → ((q : Query) (path : List ℕ) → OnPath lay q path w lo (d - 1) → rank ≡ getD path (d - 1) 0)
+    → ((q : Query) (path : List ℕ) → Candidates lay q path w d from to → rank ≡ lastOf path → Narrowed lay q path d w w′ part)
+    → Onward lay st q path w w′ d lo hi from to t part
+onward-read {q = q} {path = path} node decided test read narrowed =
+    record {
+      node = node;
+      narrowed = narrowed q path (node .at .candidates) (last-read (node .at) read);
+      on = goes-on node decided test;
+    }
+
+module _ {lay : Layout} {st : Settings} {q : Query} {path w w′ : List ℕ} {d lo hi from to : ℕ} {t : Tally} {part : Part}
+    (so : Onward lay st q path w w′ d lo hi from to t part) where
   cands : Candidates lay q path w d from to
-  cands = node .at .candidates
+  cands = so .node .at .candidates
 
   index : Index lay q w
   index = cands .index
 
-  -- the candidates as they were narrowed, by the path's last rank as it was read
-  pub narrowed-read : {rank : ℕ} {w′ : List ℕ} {part : Part}
-      → ((q : Query) (path : List ℕ) → OnPath lay q path w lo (d - 1) → rank ≡ getD path (d - 1) 0)
-      → ((q : Query) (path : List ℕ) → Candidates lay q path w d from to → rank ≡ lastOf path → Narrowed lay q path d w w′ part)
-      → Narrowed lay q path d w w′ part
-  narrowed-read read narrowed = narrowed q path cands (last-read (node .at) read)
+  framed : Framed (slotOf lay w (lastOf path)) w w′
+  framed = record { size = so .narrowed .size; frame = so .narrowed .frame }
 
-  -- going on, the candidates narrowed
-  module _ {w′ : List ℕ} {part : Part} (narrowed : Narrowed lay q path d w w′ part) (on : true ≡ goes q path) where
-    framed : Framed (slotOf lay w (lastOf path)) w w′
-    framed = record { size = narrowed .size; frame = narrowed .frame }
+  low : lay .slots ≤ slotOf lay w (lastOf path)
+  low = omega arith
 
-    low : lay .slots ≤ slotOf lay w (lastOf path)
-    low = omega arith
+  pub index-after : Index lay q w′
+  index-after = index-framed index framed low
 
-    pub index-after : Index lay q w′
-    index-after = index-framed index framed low
+  part-inside : part .to ≤ length w′
+  part-inside = omega (arith, so .narrowed .below, index .ground .room (lastOf path) (cands .last), so .narrowed .size)
 
-    part-inside : part .to ≤ length w′
-    part-inside = omega (arith, narrowed .below, index .ground .room (lastOf path) (cands .last), narrowed .size)
+  after-length : length (slice (part .«from») (part .to) w′) ≡ part .to - part .«from»
+  after-length = length-slice (part .«from») (part .to) w′ part-inside
 
-    after-length : length (slice (part .«from») (part .to) w′) ≡ part .to - part .«from»
-    after-length = length-slice (part .«from») (part .to) w′ part-inside
+  after-few : part .to - part .«from» ≤ length (q .rights)
+  after-few = omega (arith, after-length, ap length (so .narrowed .holds), candidates-most q path d)
 
-    after-few : part .to - part .«from» ≤ length (q .rights)
-    after-few = omega (arith, after-length, ap length (narrowed .holds), candidates-most q path d)
+  -- at the limit
+  pub node-limit : st .limit ≤ d → AtLimit lay st q path w′ d lo hi (part .«from») (part .to) t
+  node-limit deepest =
+      record {
+        index = index-after;
+        underway = so .node .underway;
+        depth = cands .depth;
+        deep = cands .deep;
+        limit = omega (arith, so .node .underway .limit, so .node .at .within);
+        on = sym (so .on);
+        upto = omega (arith, so .node .at .some);
+        few = so .node .at .few;
+        begins =
+            subst (λ (l : List ℕ). Begin q path l) (sym (run-framed index framed low lo hi (so .node .at .few))) (node-begins (so .node));
+        rise = so .narrowed .rise;
+        within = part-inside;
+        holds = so .narrowed .holds;
+      }
 
-    -- at the limit
-    pub node-limit : st .limit ≤ d → AtLimit lay st q path w′ d lo hi (part .«from») (part .to) t
-    node-limit deepest =
-        record {
-          index = index-after;
-          underway = node .underway;
-          depth = cands .depth;
-          deep = cands .deep;
-          limit = omega (arith, node .underway .limit, node .at .within);
-          on = sym on;
-          upto = omega (arith, node .at .some);
-          few = node .at .few;
-          begins =
-              subst (λ (l : List ℕ). Begin q path l) (sym (run-framed index framed low lo hi (node .at .few))) (node-begins node);
-          rise = narrowed .rise;
-          within = part-inside;
-          holds = narrowed .holds;
-        }
+  pub limit-visited : {r : Walked} → Visited q (st .budget) d (run lay w′ lo hi) t r
+      → NodeVisited lay st q path w w′ d lo hi t r
+  limit-visited {r} done =
+      record {
+        framed = framed;
+        visited =
+            subst (λ (l : List ℕ). Visited q (st .budget) d l t r) (run-framed index framed low lo hi (so .node .at .few)) done;
+      }
 
-    pub limit-visited : {r : Walked} → Visited q (st .budget) d (run lay w′ lo hi) t r
-        → NodeVisited lay st q path w w′ d lo hi t r
-    limit-visited {r} done =
-        record {
-          framed = framed;
-          visited =
-              subst (λ (l : List ℕ). Visited q (st .budget) d l t r) (run-framed index framed low lo hi (node .at .few)) done;
-        }
+  pub node-run : RunThere lay q w′ lo hi
+  node-run = record { index = index-after; some = so .node .at .some; within = so .node .at .few }
 
-    pub node-run : RunThere lay q w′ lo hi
-    node-run = record { index = index-after; some = node .at .some; within = node .at .few }
+  -- below the limit the left sets that end at the node come first
+  module _ (deeper : d < st .limit) where
+    rest : List ℕ
+    rest = beginners q path (suc d)
 
-    -- below the limit the left sets that end at the node come first
-    module _ (deeper : d < st .limit) where
-      rest : List ℕ
-      rest = beginners q path (suc d)
+    grouped-lefts : run lay w lo hi ≡ endedAt q d rest ++ goingOn q d rest
+    unfolding rest
+    grouped-lefts = so .node .at .lefts ∙ beginners-grouped q path d (omega (arith, so .node .underway .limit))
 
-      grouped-lefts : run lay w lo hi ≡ endedAt q d rest ++ goingOn q d rest
+    module _ {mid : ℕ} (end : MergedEnd lay w′ d lo hi mid) where
+      parted : Cut lay w′ lo mid hi (endedAt q d rest) (goingOn q d rest)
+      parted = ended-cut rest node-run (run-framed index framed low lo hi (so .node .at .few) ∙ grouped-lefts) end
+
+      ended-lefts : run lay w lo mid ≡ endedAt q d rest
+      ended-lefts = sym (run-framed index framed low lo mid (omega (arith, end .high, so .node .at .few))) ∙ parted .front
+
+      child-lefts : run lay w mid hi ≡ goingOn q d rest
+      child-lefts = sym (run-framed index framed low mid hi (so .node .at .few)) ∙ parted .back
+
+      front-length : length (run lay w lo mid) ≡ mid - lo
+      front-length = run-length lay q w lo mid index (omega (arith, end .high, so .node .at .few))
+
+      pub merged-room : t .«by_path» + pathPairs (mid - lo) (part .to - part .«from») isByPath ≤ maxPairs
+      unfolding sum
+      merged-room =
+          let product : (mid - lo) * (part .to - part .«from») ≤ (hi - lo) * length (q .rights) =
+          mul-le-mul {n₁ = mid - lo} {n₂ = hi - lo} (omega (arith, end .high)) after-few in
+          omega (arith, so .node .underway .bounded, product, paths-all (mid - lo) (part .to - part .«from»))
+
+      ended-begin : Begin q path (run lay w lo mid)
       unfolding rest
-      grouped-lefts = node .at .lefts ∙ beginners-grouped q path d (omega (arith, node .underway .limit))
+      ended-begin =
+          subst (λ (l : List ℕ). Begin q path l) (sym ended-lefts)
+          (all-keep (λ k. prefix path (leftAt q k)) (λ k. eqb (keyAt q d k) 0) rest
+          (all-kept (λ k. prefix path (leftAt q k)) (orderFrom q (q .limit - suc d) (suc d))))
 
-      module _ {mid : ℕ} (end : MergedEnd lay w′ d lo hi mid) where
-        parted : Cut lay w′ lo mid hi (endedAt q d rest) (goingOn q d rest)
-        parted = ended-cut rest node-run (run-framed index framed low lo hi (node .at .few) ∙ grouped-lefts) end
+      front-keys : all (λ k. eqb (keyAt q d k) 0) (run lay w lo mid) ≡ true
+      front-keys = subst (λ (l : List ℕ). all (λ k. eqb (keyAt q d k) 0) l ≡ true) (sym ended-lefts) (ended-keys q d rest)
 
-        ended-lefts : run lay w lo mid ≡ endedAt q d rest
-        ended-lefts = sym (run-framed index framed low lo mid (omega (arith, end .high, node .at .few))) ∙ parted .front
+      after-listing : Listing (length (q .rights)) (λ s. isCandidate d path (rightAt q s)) (slice (part .«from») (part .to) w′)
+      after-listing =
+          subst (λ (l : List ℕ). Listing (length (q .rights)) (λ s. isCandidate d path (rightAt q s)) l) (sym (so .narrowed .holds))
+          (listing-kept (length (q .rights)) (λ s. isCandidate d path (rightAt q s)))
 
-        child-lefts : run lay w mid hi ≡ goingOn q d rest
-        child-lefts = sym (run-framed index framed low mid hi (node .at .few)) ∙ parted .back
+      module _ {m : Tally} (merged : Merged (mid - lo) (part .to - part .«from») t m) where
+        pub merged-lefts : Added q d (run lay w lo mid) t m
+        merged-lefts = merged-added (run lay w lo mid) (λ is met. go path refl is met) merged
+          where
+            list : List ℕ
+            list = slice (part .«from») (part .to) w′
 
-        front-length : length (run lay w lo mid) ≡ mid - lo
-        front-length = run-length lay q w lo mid index (omega (arith, end .high, node .at .few))
+            go : (l : List ℕ) → path ≡ l → (is : Outcome → Bool) → is notMet ≡ false
+                → sum (row is q d) (run lay w lo mid) ≡ pathPairs (mid - lo) (part .to - part .«from») is
+            go [] e is met = absurd (omega (arith, cands .depth, cands .deep, ap length e))
+            go (p ∷ ps) e is met =
+                let depth : length (p ∷ ps) ≡ d = sym (ap length e) ∙ cands .depth in
+                subst
+                (λ (n : ℕ). sum (row is q n) (run lay w lo mid) ≡ pathPairs (mid - lo) (part .to - part .«from») is)
+                depth
+                (rows-merge q p ps is met (run lay w lo mid) list
+                (subst (λ (l : List ℕ). Begin q l (run lay w lo mid)) e ended-begin) (ap (goes q) (sym e) ∙ sym (so .on))
+                (subst (λ (n : ℕ). all (λ k. eqb (keyAt q n k) 0) (run lay w lo mid) ≡ true) (sym depth) front-keys)
+                (subst (λ (n : ℕ). Listing (length (q .rights)) (λ s. isCandidate n (p ∷ ps) (rightAt q s)) list) (sym depth)
+                (subst (λ (l : List ℕ). Listing (length (q .rights)) (λ s. isCandidate d l (rightAt q s)) list)
+                e after-listing))
+                ∙ ap₂ (λ (a b : ℕ). pathPairs a b is) front-length after-length)
 
-        pub merged-room : t .«by_path» + pathPairs (mid - lo) (part .to - part .«from») isByPath ≤ maxPairs
-        unfolding sum
-        merged-room =
-            let product : (mid - lo) * (part .to - part .«from») ≤ (hi - lo) * length (q .rights) =
-            mul-le-mul {n₁ = mid - lo} {n₂ = hi - lo} (omega (arith, end .high)) after-few in
-            omega (arith, node .underway .bounded, product, paths-all (mid - lo) (part .to - part .«from»))
+        merged-budget : checksIn m ≤ st .budget
+        merged-budget = omega (arith, merged-checks merged, so .node .underway .budget)
 
-        ended-begin : Begin q path (run lay w lo mid)
+        -- no left set goes on
+        pub all-merged : hi ≤ mid → NodeVisited lay st q path w w′ d lo hi t (record { tally = m; spent = false })
+        all-merged past =
+            let same : mid ≡ hi = omega (arith, end .high) in
+            record {
+              framed = framed;
+              visited = record {
+                added = λ calm. subst (λ (n : ℕ). Added q d (run lay w lo n) t m) same merged-lefts;
+                within = λ calm. merged-budget;
+                beyond = λ spent. true-false spent refl;
+              };
+            }
+
+        -- the others are the node's children
+        pub node-children : mid < hi → ChildrenAt lay st q path w′ d mid hi (part .«from») (part .to) m
         unfolding rest
-        ended-begin =
-            subst (λ (l : List ℕ). Begin q path l) (sym ended-lefts)
-            (all-keep (λ k. prefix path (leftAt q k)) (λ k. eqb (keyAt q d k) 0) rest
-            (all-kept (λ k. prefix path (leftAt q k)) (orderFrom q (q .limit - suc d) (suc d))))
+        node-children some =
+            record {
+              kids = record {
+                index = index-after;
+                underway = underway-next (so .node .underway) merged-lefts (omega (arith, front-length, end .low)) merged-budget;
+                depth = cands .depth;
+                within = omega (arith, so .node .underway .limit);
+                upto = omega arith;
+                few = so .node .at .few;
+                x = 1;
+                n = q .T;
+                keys = omega arith;
+                further = omega arith;
+                lefts = run-framed index framed low mid hi (so .node .at .few) ∙ child-lefts;
+              };
+              after = record {
+                deep = cands .deep;
+                last = cands .last;
+                rise = so .narrowed .rise;
+                below = omega (arith, so .narrowed .below, slot-framed index framed low (suc (lastOf path)) (cands .last));
+                holds = so .narrowed .holds;
+              };
+            }
 
-        front-keys : all (λ k. eqb (keyAt q d k) 0) (run lay w lo mid) ≡ true
-        front-keys = subst (λ (l : List ℕ). all (λ k. eqb (keyAt q d k) 0) l ≡ true) (sym ended-lefts) (ended-keys q d rest)
+        child-begin : Begin q path (run lay w mid hi)
+        unfolding rest
+        child-begin =
+            all-back (λ k. prefix path (leftAt q k)) (run lay w lo mid) (run lay w mid hi)
+            (subst (λ (l : List ℕ). Begin q path l) (run-split lay q w lo mid hi index (end .low) (end .high) (so .node .at .few))
+            (node-begins (so .node)))
 
-        after-listing : Listing (length (q .rights)) (λ s. isCandidate d path (rightAt q s)) (slice (part .«from») (part .to) w′)
-        after-listing =
-            subst (λ (l : List ℕ). Listing (length (q .rights)) (λ s. isCandidate d path (rightAt q s)) l) (sym (narrowed .holds))
-            (listing-kept (length (q .rights)) (λ s. isCandidate d path (rightAt q s)))
+        child-keys : all (λ k. not (eqb (keyAt q d k) 0)) (run lay w mid hi) ≡ true
+        child-keys =
+            subst (λ (l : List ℕ). all (λ k. not (eqb (keyAt q d k) 0)) l ≡ true) (sym child-lefts) (going-keys q d rest)
 
-        module _ {m : Tally} (merged : Merged (mid - lo) (part .to - part .«from») t m) where
-          pub merged-lefts : Added q d (run lay w lo mid) t m
-          merged-lefts = merged-added (run lay w lo mid) (λ is met. go path refl is met) merged
-            where
-              list : List ℕ
-              list = slice (part .«from») (part .to) w′
+        rows-deeper : (is : Outcome → Bool) → sum (row is q (suc d)) (run lay w mid hi) ≡ sum (row is q d) (run lay w mid hi)
+        rows-deeper is =
+            sum-same-where (λ k. prefix path (leftAt q k) && not (eqb (keyAt q d k) 0)) (row is q (suc d)) (row is q d)
+            (run lay w mid hi)
+            (all-and (λ k. prefix path (leftAt q k)) (λ k. not (eqb (keyAt q d k) 0)) (run lay w mid hi) child-begin child-keys)
+            (λ k both.
+            let begin = and-left (prefix path (leftAt q k)) (not (eqb (keyAt q d k) 0)) both in
+            let more = not-true (eqb (keyAt q d k) 0) (and-right (prefix path (leftAt q k)) (not (eqb (keyAt q d k) 0)) both) in
+            sym (row-deeper q d k is
+            (subst (λ (n : ℕ). goes q (take n (leftAt q k)) ≡ true) (cands .depth)
+            (sym (ap (goes q) (prefix-take path (leftAt q k) begin)) ∙ sym (so .on)))
+            (key-longer q d k more) (omega (arith, so .node .underway .limit))))
 
-              go : (l : List ℕ) → path ≡ l → (is : Outcome → Bool) → is notMet ≡ false
-                  → sum (row is q d) (run lay w lo mid) ≡ pathPairs (mid - lo) (part .to - part .«from») is
-              go [] e is met = absurd (omega (arith, cands .depth, cands .deep, ap length e))
-              go (p ∷ ps) e is met =
-                  let depth : length (p ∷ ps) ≡ d = sym (ap length e) ∙ cands .depth in
-                  subst
-                  (λ (n : ℕ). sum (row is q n) (run lay w lo mid) ≡ pathPairs (mid - lo) (part .to - part .«from») is)
-                  depth
-                  (rows-merge q p ps is met (run lay w lo mid) list
-                  (subst (λ (l : List ℕ). Begin q l (run lay w lo mid)) e ended-begin) (ap (goes q) (sym e) ∙ sym on)
-                  (subst (λ (n : ℕ). all (λ k. eqb (keyAt q n k) 0) (run lay w lo mid) ≡ true) (sym depth) front-keys)
-                  (subst (λ (n : ℕ). Listing (length (q .rights)) (λ s. isCandidate n (p ∷ ps) (rightAt q s)) list) (sym depth)
-                  (subst (λ (l : List ℕ). Listing (length (q .rights)) (λ s. isCandidate d l (rightAt q s)) list)
-                  e after-listing))
-                  ∙ ap₂ (λ (a b : ℕ). pathPairs a b is) front-length after-length)
-
-          merged-budget : checksIn m ≤ st .budget
-          merged-budget = omega (arith, merged-checks merged, node .underway .budget)
-
-          -- no left set goes on
-          pub all-merged : hi ≤ mid → NodeVisited lay st q path w w′ d lo hi t (record { tally = m; spent = false })
-          all-merged past =
-              let same : mid ≡ hi = omega (arith, end .high) in
-              record {
-                framed = framed;
-                visited = record {
-                  added = λ calm. subst (λ (n : ℕ). Added q d (run lay w lo n) t m) same merged-lefts;
-                  within = λ calm. merged-budget;
-                  beyond = λ spent. true-false spent refl;
-                };
-              }
-
-          -- the others are the node's children
-          pub node-children : mid < hi → ChildrenAt lay st q path w′ d mid hi (part .«from») (part .to) m
-          unfolding rest
-          node-children some =
-              record {
-                kids = record {
-                  index = index-after;
-                  underway = underway-next (node .underway) merged-lefts (omega (arith, front-length, end .low)) merged-budget;
-                  depth = cands .depth;
-                  within = omega (arith, node .underway .limit);
-                  upto = omega arith;
-                  few = node .at .few;
-                  x = 1;
-                  n = q .T;
-                  keys = omega arith;
-                  further = omega arith;
-                  lefts = run-framed index framed low mid hi (node .at .few) ∙ child-lefts;
-                };
-                after = record {
-                  deep = cands .deep;
-                  last = cands .last;
-                  rise = narrowed .rise;
-                  below = omega (arith, narrowed .below, slot-framed index framed low (suc (lastOf path)) (cands .last));
-                  holds = narrowed .holds;
-                };
-              }
-
-          child-begin : Begin q path (run lay w mid hi)
-          unfolding rest
-          child-begin =
-              all-back (λ k. prefix path (leftAt q k)) (run lay w lo mid) (run lay w mid hi)
-              (subst (λ (l : List ℕ). Begin q path l) (run-split lay q w lo mid hi index (end .low) (end .high) (node .at .few))
-              (node-begins node))
-
-          child-keys : all (λ k. not (eqb (keyAt q d k) 0)) (run lay w mid hi) ≡ true
-          child-keys =
-              subst (λ (l : List ℕ). all (λ k. not (eqb (keyAt q d k) 0)) l ≡ true) (sym child-lefts) (going-keys q d rest)
-
-          rows-deeper : (is : Outcome → Bool) → sum (row is q (suc d)) (run lay w mid hi) ≡ sum (row is q d) (run lay w mid hi)
-          rows-deeper is =
-              sum-same-where (λ k. prefix path (leftAt q k) && not (eqb (keyAt q d k) 0)) (row is q (suc d)) (row is q d)
-              (run lay w mid hi)
-              (all-and (λ k. prefix path (leftAt q k)) (λ k. not (eqb (keyAt q d k) 0)) (run lay w mid hi) child-begin child-keys)
-              (λ k both.
-              let begin = and-left (prefix path (leftAt q k)) (not (eqb (keyAt q d k) 0)) both in
-              let more = not-true (eqb (keyAt q d k) 0) (and-right (prefix path (leftAt q k)) (not (eqb (keyAt q d k) 0)) both) in
-              sym (row-deeper q d k is
-              (subst (λ (n : ℕ). goes q (take n (leftAt q k)) ≡ true) (cands .depth)
-              (sym (ap (goes q) (prefix-take path (leftAt q k) begin)) ∙ sym on))
-              (key-longer q d k more) (omega (arith, node .underway .limit))))
-
-          -- and their visit makes the node's
-          pub children-visited : {w″ : List ℕ} {r : Walked} → ChildrenVisited lay st q path w′ w″ d mid hi m r
-              → NodeVisited lay st q path w w″ d lo hi t r
-          children-visited {w″} {r} done =
-              record {
-                framed = framed-then (omega (
-                  arith,
-                  slot-framed index framed low (suc (lastOf path)) (cands .last),
-                  offsets-rise lay q w (index .ground) (lastOf path) (suc (lastOf path)) (omega arith) (cands .last),
-                )) framed (done .framed);
-                visited =
-                    subst (λ (l : List ℕ). Visited q (st .budget) d l t r)
-                    (sym (run-split lay q w lo mid hi index (end .low) (end .high) (node .at .few)))
-                    (visited-then merged-lefts
-                    (visited-rows (run lay w mid hi) rows-deeper
-                    (subst (λ (l : List ℕ). Visited q (st .budget) (suc d) l m r)
-                    (run-framed index framed low mid hi (node .at .few))
-                    (done .visited))));
-              }
+        -- and their visit makes the node's
+        pub children-visited : {w″ : List ℕ} {r : Walked} → ChildrenVisited lay st q path w′ w″ d mid hi m r
+            → NodeVisited lay st q path w w″ d lo hi t r
+        children-visited {w″} {r} done =
+            record {
+              framed = framed-then (omega (
+                arith,
+                slot-framed index framed low (suc (lastOf path)) (cands .last),
+                offsets-rise lay q w (index .ground) (lastOf path) (suc (lastOf path)) (omega arith) (cands .last),
+              )) framed (done .framed);
+              visited =
+                  subst (λ (l : List ℕ). Visited q (st .budget) d l t r)
+                  (sym (run-split lay q w lo mid hi index (end .low) (end .high) (so .node .at .few)))
+                  (visited-then merged-lefts
+                  (visited-rows (run lay w mid hi) rows-deeper
+                  (subst (λ (l : List ℕ). Visited q (st .budget) (suc d) l m r)
+                  (run-framed index framed low mid hi (so .node .at .few))
+                  (done .visited))));
+            }

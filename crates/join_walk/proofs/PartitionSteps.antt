@@ -26,7 +26,7 @@ use Rattle.join_walk.proofs.Narrowing.{listing-same}
 use Rattle.join_walk.proofs.NodeFacts.{on-key}
 use Rattle.join_walk.proofs.RunLaws.{begins-first}
 use Rattle.join_walk.proofs.PartLoop.{PartDone}
-use Rattle.join_walk.proofs.ChildSteps.{kids-next}
+use Rattle.join_walk.proofs.ChildSteps.{childRank, first-child, kids-next}
 use Rattle.join_walk.proofs.FrameLaws.{framed-lower}
 
 -- a partition as a node of depth 1
@@ -89,11 +89,13 @@ pub partition-visited : {lay : Layout} (st : Settings) {q : Query} (r : ℕ) {w 
 partition-visited st r done = record { framed = framed-lower (omega arith) (done .framed); visited = done .visited }
 
 -- the first of the partitions, visited, as a part of them
-pub partition-done : {lay : Layout} {st : Settings} {q : Query} {w w′ : List ℕ} {i j hi : ℕ} {t : Tally} {one : Walked}
-    (parts : Partitions lay st q w i hi t) (more : i < hi) → RunEnd lay w 0 i hi j → PartVisited lay st q w w′ i j t one
-    → (path : List ℕ) → PartDone lay (st .budget) 1 hi (λ path w. lay .slots) (λ q path w i r. Partitions lay st q w i hi r) q path w
-    i t w′ j one
-partition-done parts more end visit path =
+pub partitions-done : {lay : Layout} {st : Settings} {w w′ : List ℕ} {i j hi : ℕ} {t : Tally} {one : Walked} → i < hi
+    → RunEnd lay w 0 i hi j
+    → ((q : Query) (r : ℕ) → Partition lay st q w i j t r → PartVisited lay st q w w′ i j t one)
+    → (q : Query) (path : List ℕ) → Partitions lay st q w i hi t
+    → PartDone lay (st .budget) 1 hi (λ path w. lay .slots) (λ q path w i r. Partitions lay st q w i hi r) q path w i t w′ j one
+partitions-done more end each q path parts =
+    let visit = each q (childRank parts more) (first-child parts more end) in
     record {
       facts = record { index = parts .index; few = parts .few; slots = omega arith };
       visit = visit;

@@ -20,11 +20,11 @@ use Rattle.join_walk.specs.Rows.{goes, outcomeFrom, row, pathPairs}
 use Rattle.join_walk.proofs.PathLaws.{paths-one}
 
 -- a kind of outcome that a pair which is not met does not have
-abbrev pub Met : (Outcome → Bool) → Type 0
-Met is = is notMet ≡ false
+abbrev pub MetOnly : (Outcome → Bool) → Type 0
+MetOnly is = is notMet ≡ false
 
 -- the test of an outcome under a condition
-is-cond : (is : Outcome → Bool) → Met is → (b : Bool) (o : Outcome) → is (cond b o notMet) ≡ (b && is o)
+is-cond : (is : Outcome → Bool) → MetOnly is → (b : Bool) (o : Outcome) → is (cond b o notMet) ≡ (b && is o)
 is-cond is met true o = refl
 is-cond is met false o = met
 
@@ -67,7 +67,7 @@ module _ (q : Query) (d k : ℕ) where
       let other : eqb d (length (leftAt q k)) ≡ false = ne-eqb d (length (leftAt q k)) (λ e. omega arith) in
       rw (more, on, other)
 
-  module _ (is : Outcome → Bool) (met : Met is) where
+  module _ (is : Outcome → Bool) (met : MetOnly is) where
     -- a row after so many merged ranks, over any list of the candidates
     row-after : (e : ℕ) (list : List ℕ) → endingFrom (goes q) (q .limit - d) d (leftAt q k) ≡ checkedAfter e
         → Listing (length (q .rights)) (λ s. isCandidate e (leftAt q k) (rightAt q s)) list

@@ -1,5 +1,5 @@
--- The checks of a block of left sets against a list of candidates, made only where the budget covers them all; and the left
--- sets at the limit.
+-- Inner: the checks of a block of left sets against a list of candidates, made only where the budget covers them all; and the
+-- left sets at the limit.
 use Prim.Native.Nat.{ℕ, _+_, _-_, _*_, _≤_, _<_}
 use mathlib.Core.Path.{_≡_}
 use mathlib.Core.List.{List}

@@ -1,4 +1,5 @@
--- The candidates of a node: the right sets that are seen and hold the ranks of its path but the last, as a part of the work list.
+-- Inner: the candidates of a node, the right sets that are seen and hold the ranks of its path but the last, as a part of the
+-- work list.
 use Prim.Native.Nat.{ℕ, suc, _+_, _-_, _≤_, _<_}
 use mathlib.Core.Path.{_≡_}
 use mathlib.Core.List.{List}

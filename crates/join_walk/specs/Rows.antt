@@ -1,5 +1,5 @@
--- What one left set adds to the counts from a depth on: one row of the sums over left and right sets. And what left sets add
--- that end at a node.
+-- Inner: what one left set adds to the counts from a depth on, one row of the sums over left and right sets; and what left sets
+-- add that end at a node.
 use Prim.Native.Nat.{ℕ, _-_, _*_}
 use mathlib.Core.List.{List, [], map}
 use mathlib.Core.Bool.{Bool, cond}

@@ -1,4 +1,4 @@
--- What is known at a node when it is visited, and what a visit answers: the counters with the rows of the node's left sets
+-- Inner: what is known at a node when it is visited, and what a visit answers: the counters with the rows of the node's left sets
 -- added, or that the checks would pass the budget.
 use Prim.Native.Nat.{ℕ, suc, _+_, _-_, _*_, _≤_, _<_}
 use mathlib.Core.Path.{_≡_}

@@ -82,11 +82,12 @@ pub extern "C" fn kitfinder_order(
     ranks: &mut [u16],
     answer: &mut [u64; 3],
 )
-    ensures answer { λ _. ⌜ now (answer .exit) ≡ orderWords
-        (orderAnswer t (now («left_ends» .entry)) (now («left_items» .entry))
-        (now («right_ends» .entry)) (now («right_items» .entry)) (now (ranks .entry))) ⌝ }
-    ensures ranks { λ _. ⌜ now (ranks .exit) ≡ orderRanks t (now («left_ends» .entry)) (now («left_items» .entry))
-        (now («right_ends» .entry)) (now («right_items» .entry)) (not (eqb falling 0)) (now (ranks .entry)) ⌝ }
+    ensures answer { λ _. ⌜ now (answer .exit) ≡ orderWords (orderAnswer
+        (inputOf t (now («left_ends» .entry)) (now («left_items» .entry)) (now («right_ends» .entry)) (now («right_items» .entry)))
+        (length (now (ranks .entry)))) ⌝ }
+    ensures ranks { λ _. ⌜ now (ranks .exit) ≡ orderRanks
+        (inputOf t (now («left_ends» .entry)) (now («left_items» .entry)) (now («right_ends» .entry)) (now («right_items» .entry)))
+        (not (eqb falling 0)) (now (ranks .entry)) ⌝ }
 {
     *answer = item_order::order_words(item_order::order(
         t,

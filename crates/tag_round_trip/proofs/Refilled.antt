@@ -14,6 +14,7 @@ use Rattle.lists.proofs.Throughout.{subset-intro}
 use Rattle.lists.proofs.Filtering.{all-keep, all-kept}
 use Rattle.sets.specs.Limits.{maxSets, maxEntries, maxSetLength}
 use Rattle.sets.specs.Collections.{between, setsOf, goodItems, goodEnd, firstBad, firstBadFrom}
+use Rattle.sets.specs.Refusals.{noBadSet}
 use Rattle.sets.specs.declared.Side.{Side}
 use Rattle.sets.specs.declared.Side.the-variants.{Left, Right}
 use Rattle.sets.specs.declared.Verdict.the-variants.{Good}
@@ -25,7 +26,7 @@ use Rattle.tag_file.specs.Loading.{endsFrom, join, numbersOf, endsOf, joinedIte
 use Rattle.tag_file.proofs.Tables.{rising-collapse, memb-collapse}
 use Rattle.tag_file.proofs.RecordLaws.{same-side}
 use Rattle.tag_file.proofs.ItemCount.{length-numbersOf, length-endsOf, length-joinedItems}
-use Rattle.tag_writer.specs.Writer.{itemTags, sideTest}
+use Rattle.tag_writer.specs.Writer.{itemTags, numberedTest}
 use Rattle.tag_writer.proofs.Tests.{side-even}
 use Rattle.tag_round_trip.specs.Rewritten.{sideRecords, recordsOfLists, collapsed, collapsedSide, rewritten}
 use Rattle.tag_round_trip.proofs.Decoding.{between-joined, sets-joined}
@@ -115,7 +116,7 @@ module _ (rs : List TagRecord) where
 
   pub side-good : (side : Side) → all (λ r. leb (length (r .tags)) maxSetLength) rs ≡ true → length (ofSide side rs) ≤ maxSets
       → entriesOf side rs ≤ maxEntries
-      → sideTest (length (tagTable rs)) side (numbersOf side rs) (endsOf side rs) (joinedItems side rs) ≡ Passed
+      → numberedTest (length (tagTable rs)) side (numbersOf side rs) (endsOf side rs) (joinedItems side rs) ≡ Passed
   side-good side few places entries =
       let table = tagTable rs in
       let sets = setsOfSide side table rs in
@@ -128,7 +129,7 @@ module _ (rs : List TagRecord) where
       (all-keep (λ r. leb (length (r .tags)) maxSetLength) (λ r. sameSide side (r .side)) rs few)) in
       let numbered : length (numbersOf side rs) ≡ length (endsOf side rs) =
       length-numbersOf side rs ∙ sym (length-endsOf side rs) in
-      sym (side-even (length table) side (numbersOf side rs) (endsOf side rs) (joinedItems side rs) good numbered)
+      sym (side-even (length table) side (numbersOf side rs) (endsOf side rs) (joinedItems side rs) (ap (noBadSet side) good) numbered)
 
   pub lists-records : tagsFit (tagTable rs) ≡ true → recordsOfLists (filled rs) ≡ rewritten rs
   unfolding rewritten

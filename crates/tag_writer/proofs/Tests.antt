@@ -4,7 +4,7 @@ use mathlib.Core.List.{List}
 use mathlib.Core.Bool.{Bool, true, false, not}
 use Prim.Native.Nat.{ℕ, _*_, _/_, _≤_, _<_, min}
 use native.Mathlib.Omega.{arith}
-use borrow.Author.Tests.{eq-eqb, ne-eqb, eqb-true, lt-ltb, le-ltb, ltb-false, not-false}
+use borrow.Author.Tests.{eq-eqb, ne-eqb, eqb-true, le-ltb, ltb-false, not-false}
 use lib.Dec.{eqb, ltb}
 use lib.ListN.{length}
 use Rattle.sets.specs.Limits.{maxItems}
@@ -18,46 +18,52 @@ use Rattle.sets.specs.declared.Refusal.{Refusal}
 use Rattle.sets.specs.declared.Refusal.the-variants.{ShortOutput, BadSet, BadSettings}
 use Rattle.sets.specs.declared.Tested.{Tested}
 use Rattle.sets.specs.declared.Tested.the-variants.{Passed, Failed}
+use Rattle.inputs.specs.Tests.{itemsTest, sideTest}
+use Rattle.inputs.proofs.TestLaws.{both-passed, refuse-passed, failed-same}
 use Rattle.tag_file.specs.Format.{tagLength}
 use Rattle.tag_file.specs.Loading.{Lists}
 use Rattle.tag_writer.specs.Room.{GoodSide, GoodLists}
-use Rattle.tag_writer.specs.Writer.{tableTest, numbersTest, sideTest, listsTest, roomTest}
+use Rattle.tag_writer.specs.Writer.{tableTest, numbersTest, numberedTest, listsTest, roomTest}
 
 -- ---- the cases
 
 module _ (T : ℕ) (tags : List ℕ) where
-  pub table-large : maxItems < T → Failed BadSettings ≡ tableTest T tags
+  pub table-items : {why : Refusal} → itemsTest T ≡ Failed why → Failed why ≡ tableTest T tags
   unfolding tableTest
-  table-large large = rw (lt-ltb maxItems T large)
+  table-items failed = rw failed
 
-  module _ (few : T ≤ maxItems) where
+  module _ (few : itemsTest T ≡ Passed) where
     pub table-other : (length tags ≡ tagLength * T → ⊥) → Failed BadSettings ≡ tableTest T tags
     unfolding tableTest
-    table-other other = rw (le-ltb maxItems T few, ne-eqb (length tags) (tagLength * T) other)
+    table-other other = rw (few, ne-eqb (length tags) (tagLength * T) other)
 
     pub table-whole : length tags ≡ tagLength * T → Passed ≡ tableTest T tags
     unfolding tableTest
-    table-whole whole = rw (le-ltb maxItems T few, eq-eqb (length tags) (tagLength * T) whole)
+    table-whole whole = rw (few, eq-eqb (length tags) (tagLength * T) whole)
 
 module _ (T : ℕ) (side : Side) (numbers ends items : List ℕ) where
-  pub side-bad : (place : ℕ) → firstBad T ends items ≡ Bad place → Failed (BadSet side place) ≡ sideTest T side numbers ends items
-  unfolding sideTest
-  side-bad place bad = rw bad
+  -- the test of its sets alone
+  abbrev pub judged : Tested
+  judged = sideTest T side (record { ends = ends; items = items })
 
-  module _ (good : firstBad T ends items ≡ Good) where
-    pub side-even : length numbers ≡ length ends → Passed ≡ sideTest T side numbers ends items
-    unfolding sideTest
+  pub side-bad : {why : Refusal} → judged ≡ Failed why → Failed why ≡ numberedTest T side numbers ends items
+  unfolding numberedTest
+  side-bad bad = rw bad
+
+  module _ (good : judged ≡ Passed) where
+    pub side-even : length numbers ≡ length ends → Passed ≡ numberedTest T side numbers ends items
+    unfolding numberedTest
     side-even even = rw (good, eq-eqb (length numbers) (length ends) even)
 
-    pub side-fewer : length numbers < length ends → Failed (BadSet side (length numbers)) ≡ sideTest T side numbers ends items
-    unfolding sideTest
+    pub side-fewer : length numbers < length ends → Failed (BadSet side (length numbers)) ≡ numberedTest T side numbers ends items
+    unfolding numberedTest
     side-fewer fewer =
         let least : min (length numbers) (length ends) ≡ length numbers = omega arith in
         rw (good, ne-eqb (length numbers) (length ends) (λ e. omega arith), least)
 
     pub side-more : (length numbers ≡ length ends → ⊥) → length ends ≤ length numbers
-        → Failed (BadSet side (length ends)) ≡ sideTest T side numbers ends items
-    unfolding sideTest
+        → Failed (BadSet side (length ends)) ≡ numberedTest T side numbers ends items
+    unfolding numberedTest
     side-more other more =
         let least : min (length numbers) (length ends) ≡ length ends = omega arith in
         rw (good, ne-eqb (length numbers) (length ends) other, least)
@@ -65,10 +71,10 @@ module _ (T : ℕ) (side : Side) (numbers ends items : List ℕ) where
 module _ (T : ℕ) (l : Lists) where
   -- the tests of the two sides
   abbrev left : Tested
-  left = sideTest T Left (l .leftNumbers) (l .leftEnds) (l .leftItems)
+  left = numberedTest T Left (l .leftNumbers) (l .leftEnds) (l .leftItems)
 
   abbrev right : Tested
-  right = sideTest T Right (l .rightNumbers) (l .rightEnds) (l .rightItems)
+  right = numberedTest T Right (l .rightNumbers) (l .rightEnds) (l .rightItems)
 
   pub lists-table : (why : Refusal) → tableTest T (l .tags) ≡ Failed why → Failed why ≡ listsTest T l
   unfolding listsTest
@@ -85,17 +91,10 @@ module _ (T : ℕ) (l : Lists) where
 
   pub lists-good : T ≤ maxItems → length (l .tags) ≡ tagLength * T → left ≡ Passed → right ≡ Passed → listsTest T l ≡ Passed
   lists-good few whole good-left good-right =
-      sym (lists-right (sym (table-whole T (l .tags) few whole)) good-left) ∙ good-right
+      let table = table-whole T (l .tags) (ap (λ (b : Bool). refuseIf b BadSettings) (le-ltb maxItems T few)) whole in
+      sym (lists-right (sym table) good-left) ∙ good-right
 
 -- ---- what lists have that passed
-
-both-passed : (a b : Tested) → unless Failed a b ≡ Passed → (a ≡ Passed) × (b ≡ Passed)
-both-passed Passed b e = (refl, e)
-both-passed (Failed why) b e = let z : _≡_ {A = ℕ} 0 1 = cc in absurd (omega arith)
-
-refuse-passed : (wrong : Bool) (why : Refusal) → refuseIf wrong why ≡ Passed → wrong ≡ false
-refuse-passed true why e = let z : _≡_ {A = ℕ} 0 1 = cc in absurd (omega arith)
-refuse-passed false why e = refl
 
 no-bad : (side : Side) (v : Verdict) → noBadSet side v ≡ Passed → v ≡ Good
 no-bad side Good e = refl
@@ -107,14 +106,14 @@ room-passed room bytes e = ltb-false room bytes (refuse-passed (ltb room bytes) 
 table-passed : (T : ℕ) (tags : List ℕ) → tableTest T tags ≡ Passed → length tags ≡ tagLength * T
 unfolding tableTest
 table-passed T tags e =
-    let both = both-passed (refuseIf (ltb maxItems T) BadSettings) _ e in
+    let both = both-passed (itemsTest T) _ e in
     eqb-true _ _ (not-false (eqb (length tags) (tagLength * T)) (refuse-passed _ BadSettings (both .1)))
 
 side-passed : (T : ℕ) (side : Side) (tags numbers ends items : List ℕ) → length tags ≡ tagLength * T
-    → sideTest T side numbers ends items ≡ Passed → GoodSide tags numbers ends items
-unfolding sideTest
+    → numberedTest T side numbers ends items ≡ Passed → GoodSide tags numbers ends items
+unfolding numberedTest
 side-passed T side tags numbers ends items whole e =
-    let both = both-passed (noBadSet side (firstBad T ends items)) (numbersTest side numbers ends) e in
+    let both = both-passed (judged T side numbers ends items) (numbersTest side numbers ends) e in
     let count : length tags / tagLength ≡ T = omega arith in
     record {
       good = rw count (no-bad side (firstBad T ends items) (both .0));
@@ -140,9 +139,6 @@ Keeping t = (why : Refusal) → t ≡ Failed why → clears why ≡ false
 
 keeping-of : (wrong : Bool) (why : Refusal) → clears why ≡ false → Keeping (refuseIf wrong why)
 keeping-of true why keeps other e = ap clears (sym (failed-same why other e)) ∙ keeps
-  where
-    failed-same : (a b : Refusal) → _≡_ {A = Tested} (Failed a) (Failed b) → a ≡ b
-    failed-same a b e = cc
 keeping-of false why keeps other e = let z : _≡_ {A = ℕ} 0 1 = cc in absurd (omega arith)
 
 keeping-sets : (side : Side) (v : Verdict) → Keeping (noBadSet side v)
@@ -154,17 +150,17 @@ keeping-then Passed b ka kb = kb
 keeping-then (Failed why) b ka kb = ka
 
 pub lists-keeping : (T : ℕ) (l : Lists) → Keeping (listsTest T l)
-unfolding listsTest tableTest sideTest
+unfolding listsTest tableTest numberedTest
 lists-keeping T l =
     keeping-then (tableTest T (l .tags)) _
-    (keeping-then (refuseIf (ltb maxItems T) BadSettings) _
+    (keeping-then (itemsTest T) _
     (keeping-of (ltb maxItems T) BadSettings refl)
     (keeping-of (not (eqb (length (l .tags)) (tagLength * T))) BadSettings refl))
     (keeping-then (left T l) (right T l)
     (keeping-side Left (l .leftNumbers) (l .leftEnds) (l .leftItems))
     (keeping-side Right (l .rightNumbers) (l .rightEnds) (l .rightItems)))
   where
-    keeping-side : (side : Side) (numbers ends items : List ℕ) → Keeping (sideTest T side numbers ends items)
+    keeping-side : (side : Side) (numbers ends items : List ℕ) → Keeping (numberedTest T side numbers ends items)
     keeping-side side numbers ends items =
         keeping-then (noBadSet side (firstBad T ends items)) (numbersTest side numbers ends)
         (keeping-sets side (firstBad T ends items))

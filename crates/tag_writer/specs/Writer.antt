@@ -7,15 +7,15 @@ use mathlib.Core.List.{List, [], _∷_, _++_, map}
 use mathlib.Core.Bool.{not}
 use lib.Dec.{eqb, ltb}
 use lib.ListN.{length}
-use Rattle.sets.specs.Limits.{maxItems}
-use Rattle.sets.specs.Collections.{setsOf, firstBad}
-use Rattle.sets.specs.Refusals.{refuseIf, noBadSet, unless, acceptedWords, refusedWords}
+use Rattle.sets.specs.Collections.{setsOf}
+use Rattle.sets.specs.Refusals.{refuseIf, unless, acceptedWords, refusedWords}
 use Rattle.sets.specs.Lent.{filledOver, afterRefusal}
 use Rattle.sets.specs.declared.Side.{Side}
 use Rattle.sets.specs.declared.Side.the-variants.{Left, Right}
 use Rattle.sets.specs.declared.Refusal.the-variants.{ShortOutput, BadSet, BadSettings}
 use Rattle.sets.specs.declared.Tested.{Tested}
 use Rattle.sets.specs.declared.Tested.the-variants.{Failed}
+use Rattle.inputs.specs.Tests.{itemsTest, sideTest}
 use Rattle.tag_file.specs.Format.{tagLength, tagAt, recordBytes}
 use Rattle.tag_file.specs.Loading.{Lists}
 use Rattle.tag_writer.specs.declared.WriteAnswer.{WriteAnswer}
@@ -54,7 +54,7 @@ fileBytes l = leftBytes l ++ rightBytes l
 -- T is within its limit, and the tag table has 12 bytes for each item: 6
 unfoldable pub tableTest : ℕ → List ℕ → Tested
 tableTest T tags =
-    unless Failed (refuseIf (ltb maxItems T) BadSettings) (refuseIf (not (eqb (length tags) (tagLength * T))) BadSettings)
+    unless Failed (itemsTest T) (refuseIf (not (eqb (length tags) (tagLength * T))) BadSettings)
 
 -- a side has as many numbers as sets: 5, the shorter length being the place
 abbrev pub numbersTest : Side → List ℕ → List ℕ → Tested
@@ -62,15 +62,16 @@ numbersTest side numbers ends =
     refuseIf (not (eqb (length numbers) (length ends))) (BadSet side (min (length numbers) (length ends)))
 
 -- a side has no bad set, and then as many numbers as sets: 5
-unfoldable pub sideTest : ℕ → Side → List ℕ → List ℕ → List ℕ → Tested
-sideTest T side numbers ends items = unless Failed (noBadSet side (firstBad T ends items)) (numbersTest side numbers ends)
+unfoldable pub numberedTest : ℕ → Side → List ℕ → List ℕ → List ℕ → Tested
+numberedTest T side numbers ends items =
+    unless Failed (sideTest T side (record { ends = ends; items = items })) (numbersTest side numbers ends)
 
 -- what is lent to be written: 6, 5 of the left sets, 5 of the right sets
 unfoldable pub listsTest : ℕ → Lists → Tested
 listsTest T l =
     unless Failed (tableTest T (l .tags))
-    (unless Failed (sideTest T Left (l .leftNumbers) (l .leftEnds) (l .leftItems))
-    (sideTest T Right (l .rightNumbers) (l .rightEnds) (l .rightItems)))
+    (unless Failed (numberedTest T Left (l .leftNumbers) (l .leftEnds) (l .leftItems))
+    (numberedTest T Right (l .rightNumbers) (l .rightEnds) (l .rightItems)))
 
 -- the output has room for so many bytes: 4
 abbrev pub roomTest : ℕ → ℕ → Tested

@@ -9,14 +9,12 @@ ghost use lib.Seq.{sets};
 ghost use Rattle.sets.specs.Limits.{maxSets, maxEntries, maxSetLength};
 ghost use Rattle.sets.specs.Collections.{between, setsOf, entries};
 ghost use Rattle.tag_file.specs.Loading.{listsOf};
-ghost use Rattle.tag_writer.specs.Writer.{itemTags, recordsOf, fileBytes, tableTest, sideTest, listsTest, writtenWithin};
+ghost use Rattle.tag_writer.specs.Writer.{itemTags, recordsOf, fileBytes, tableTest, numberedTest, listsTest, writtenWithin};
 ghost use Rattle.tag_writer.specs.Writer.{fileAfter, WriteCall, writeWords};
 ghost use Rattle.tag_writer.specs.Room.{ItemsFit, GoodSide, GoodLists};
-use sets::MAX_ITEMS;
 use sets::Refusal;
 use sets::Side;
 use sets::Tested;
-use sets::Verdict;
 use sets::head_of;
 
 // What the writer answers: the length of what it wrote.
@@ -182,8 +180,9 @@ fn side_length(ends: &[u32]) -> usize
 fn test_table(t: u32, tags: &[u8]) -> Tested
     ensures { λ r. ⌜ r ≡ tableTest t (now (tags .entry)) ⌝ }
 {
-    if MAX_ITEMS < t {
-        return Tested::Failed(Refusal::BadSettings);
+    let items = inputs::test_items(t);
+    if let Tested::Failed(why) = items {
+        return Tested::Failed(why);
     }
     if tags.len() != TAG_LENGTH * (t as usize) {
         return Tested::Failed(Refusal::BadSettings);
@@ -192,12 +191,12 @@ fn test_table(t: u32, tags: &[u8]) -> Tested
 }
 
 // A side has no bad set, and then as many numbers as sets; else the shorter length is the place.
-fn test_side(t: u32, side: Side, numbers: &[u16], ends: &[u32], items: &[u16]) -> Tested
-    ensures { λ r. ⌜ r ≡ sideTest t side (now (numbers .entry)) (now (ends .entry)) (now (items .entry)) ⌝ }
+fn test_numbered(t: u32, side: Side, numbers: &[u16], ends: &[u32], items: &[u16]) -> Tested
+    ensures { λ r. ⌜ r ≡ numberedTest t side (now (numbers .entry)) (now (ends .entry)) (now (items .entry)) ⌝ }
 {
-    let verdict = sets::first_bad(t, ends, items);
-    if let Verdict::Bad(place) = verdict {
-        return Tested::Failed(Refusal::BadSet(side, place));
+    let sets = inputs::test_side(t, side, ends, items);
+    if let Tested::Failed(why) = sets {
+        return Tested::Failed(why);
     }
     if numbers.len() == ends.len() {
         return Tested::Passed;
@@ -227,11 +226,11 @@ fn test_lists(
     if let Tested::Failed(why) = table {
         return Tested::Failed(why);
     }
-    let left = test_side(t, Side::Left, left_numbers, left_ends, left_items);
+    let left = test_numbered(t, Side::Left, left_numbers, left_ends, left_items);
     if let Tested::Failed(why) = left {
         return Tested::Failed(why);
     }
-    test_side(t, Side::Right, right_numbers, right_ends, right_items)
+    test_numbered(t, Side::Right, right_numbers, right_ends, right_items)
 }
 
 // The whole file, where neither side has a fault.

@@ -88,14 +88,14 @@ module _ (w : List ℕ) (a b : ℕ) (within : b ≤ length w) (some : a < b) (ri
       (and-both (lt-ltb x v h) refl)
 
 -- one comparison of the last words of two rising parts
-module _ (w : List ℕ) (a b c e : ℕ) (leftIn : b ≤ length w) (rightIn : e ≤ length w) (some : a < b) (other : c < e)
-    (left : rising (slice a b w) ≡ true) (right : rising (slice c e w) ≡ true) where
+module _ (w : List ℕ) (a b c e : ℕ) (firstIn : b ≤ length w) (secondIn : e ≤ length w) (some : a < b) (other : c < e)
+    (rise : rising (slice a b w) ≡ true) (rises : rising (slice c e w) ≡ true) where
   pub last-high : getD w (b - 1) 0 < getD w (e - 1) 0
       → subset (slice a b w) (slice c e w) ≡ subset (slice a b w) (slice c (e - 1) w)
   last-high h =
-      ap (subset (slice a b w)) (part-last c e w other rightIn)
+      ap (subset (slice a b w)) (part-last c e w other secondIn)
       ∙ subset-below (slice a b w) (slice c (e - 1) w) (getD w (e - 1) 0)
-      (part-below w a b leftIn some left (getD w (e - 1) 0) h)
+      (part-below w a b firstIn some rise (getD w (e - 1) 0) h)
 
   pub last-low : getD w (e - 1) 0 < getD w (b - 1) 0 → subset (slice a b w) (slice c e w) ≡ false
   last-low h =
@@ -104,10 +104,10 @@ module _ (w : List ℕ) (a b c e : ℕ) (leftIn : b ≤ length w) (rightIn : e �
       refuted (memb x (slice c e w))
       (λ m.
       let low : x < x =
-      ltb-true x x (all-elim (λ (z : ℕ). ltb z x) (slice c e w) (part-below w c e rightIn other right x h) x m) in
+      ltb-true x x (all-elim (λ (z : ℕ). ltb z x) (slice c e w) (part-below w c e secondIn other rises x h) x m) in
       omega arith)
       in
-      ap (λ (l : List ℕ). subset l (slice c e w)) (part-last a b w some leftIn)
+      ap (λ (l : List ℕ). subset l (slice c e w)) (part-last a b w some firstIn)
       ∙ subset-last (slice a (b - 1) w) (slice c e w) x
       ∙ ap (λ (p : Bool). subset (slice a (b - 1) w) (slice c e w) && p) absent
       ∙ and-false (subset (slice a (b - 1) w) (slice c e w))
@@ -119,8 +119,8 @@ module _ (w : List ℕ) (a b c e : ℕ) (leftIn : b ≤ length w) (rightIn : e �
       let xs = slice a (b - 1) w in
       let ys = slice c (e - 1) w in
       let second : slice c e w ≡ ys ++ (x ∷ []) =
-      part-last c e w other rightIn ∙ ap (λ (y : ℕ). ys ++ (y ∷ [])) (sym h) in
-      ap₂ (λ (k l : List ℕ). subset k l) (part-last a b w some leftIn) second
+      part-last c e w other secondIn ∙ ap (λ (y : ℕ). ys ++ (y ∷ [])) (sym h) in
+      ap₂ (λ (k l : List ℕ). subset k l) (part-last a b w some firstIn) second
       ∙ subset-last xs (ys ++ (x ∷ [])) x
-      ∙ ap₂ (λ (p q : Bool). p && q) (subset-below xs ys x (front-of w a b leftIn some left .below)) (memb-last x ys)
+      ∙ ap₂ (λ (p q : Bool). p && q) (subset-below xs ys x (front-of w a b firstIn some rise .below)) (memb-last x ys)
       ∙ and-true (subset xs ys)

@@ -29,8 +29,8 @@ pub record Sharing (w₀ : List ℕ) (a b c e out : ℕ) (w : List ℕ) (i j n :
   pub high : n ≤ out + (e - c)
   pub behind : n ≤ out + (j - c)
   pub from : c ≤ j
-  pub left : rising (slice i b w₀) ≡ true
-  pub right : rising (slice j e w₀) ≡ true
+  pub firstRises : rising (slice i b w₀) ≡ true
+  pub secondRises : rising (slice j e w₀) ≡ true
   pub is : slice out n w ++ shared w₀ i b j e ≡ shared w₀ a b c e
 
 -- the places that are read and the one that is written next are there
@@ -41,15 +41,15 @@ pub record Rooms (w : List ℕ) (i j n : ℕ) : Type 0 where
 
 module _ {w₀ : List ℕ} {a b c e out : ℕ} where
   pub sharing-start : Rising a b w₀ → Rising c e w₀ → Sharing w₀ a b c e out w₀ a c out
-  sharing-start left right =
+  sharing-start first second =
       record {
         changed = changed-none out (out + (e - c)) w₀;
         low = omega arith;
         high = omega arith;
         behind = omega arith;
         from = omega arith;
-        left = left .rise;
-        right = right .rise;
+        firstRises = first .rise;
+        secondRises = second .rise;
         is = ap (λ (l : List ℕ). l ++ shared w₀ a b c e) (slice-none out w₀);
       }
 
@@ -72,11 +72,11 @@ module _ {w₀ : List ℕ} {a b c e out : ℕ} where
         done (ap (λ (l : List ℕ). keep (λ (x : ℕ). memb x l) (slice i b w₀)) (slice-past j e w₀ past) ∙ keep-empty (slice i b w₀))
 
     module _ (apart : Apart b c e out w₀) (more : i < b) (other : j < e) where
-      leftIn : b ≤ length w₀
-      leftIn = omega arith
+      firstIn : b ≤ length w₀
+      firstIn = omega arith
 
-      rightIn : e ≤ length w₀
-      rightIn = omega arith
+      secondIn : e ≤ length w₀
+      secondIn = omega arith
 
       pub sharing-rooms : Rooms w i j n
       sharing-rooms =
@@ -106,12 +106,12 @@ module _ {w₀ : List ℕ} {a b c e out : ℕ} where
             high = s .high;
             behind = s .behind;
             from = s .from;
-            left = rising-next i b w₀ more leftIn (s .left);
-            right = s .right;
+            firstRises = rising-next i b w₀ more firstIn (s .firstRises);
+            secondRises = s .secondRises;
             is =
                 as-before v (shared w₀ (i + 1) b j e)
                 ∙ ap (λ (l : List ℕ). slice out n w ++ l)
-                (sym (share-low w₀ i b j e leftIn rightIn more other (s .left) (s .right) (omega (arith, x-same, y-same))))
+                (sym (share-low w₀ i b j e firstIn secondIn more other (s .firstRises) (s .secondRises) (omega (arith, x-same, y-same))))
                 ∙ s .is;
           }
 
@@ -123,12 +123,12 @@ module _ {w₀ : List ℕ} {a b c e out : ℕ} where
             high = s .high;
             behind = omega arith;
             from = omega arith;
-            left = s .left;
-            right = rising-next j e w₀ other rightIn (s .right);
+            firstRises = s .firstRises;
+            secondRises = rising-next j e w₀ other secondIn (s .secondRises);
             is =
                 as-before v (shared w₀ i b (j + 1) e)
                 ∙ ap (λ (l : List ℕ). slice out n w ++ l)
-                (sym (share-high w₀ i b j e leftIn rightIn more other (s .left) (s .right) (omega (arith, x-same, y-same))))
+                (sym (share-high w₀ i b j e firstIn secondIn more other (s .firstRises) (s .secondRises) (omega (arith, x-same, y-same))))
                 ∙ s .is;
           }
 
@@ -140,8 +140,8 @@ module _ {w₀ : List ℕ} {a b c e out : ℕ} where
             high = omega arith;
             behind = omega arith;
             from = omega arith;
-            left = rising-next i b w₀ more leftIn (s .left);
-            right = rising-next j e w₀ other rightIn (s .right);
+            firstRises = rising-next i b w₀ more firstIn (s .firstRises);
+            secondRises = rising-next j e w₀ other secondIn (s .secondRises);
             is =
                 ap (λ (k : ℕ). slice out k (set w n (getD w i 0)) ++ shared w₀ (i + 1) b (j + 1) e) (add-one n)
                 ∙ ap (λ (l : List ℕ). l ++ shared w₀ (i + 1) b (j + 1) e)
@@ -149,7 +149,7 @@ module _ {w₀ : List ℕ} {a b c e out : ℕ} where
                 ∙ append-snoc (slice out n w) (getD w i 0) (shared w₀ (i + 1) b (j + 1) e)
                 ∙ ap (λ (l : List ℕ). slice out n w ++ l)
                 (ap (λ (y : ℕ). y ∷ shared w₀ (i + 1) b (j + 1) e) x-same
-                ∙ sym (share-same w₀ i b j e leftIn rightIn more other (s .left) (s .right) (sym x-same ∙ h ∙ y-same)))
+                ∙ sym (share-same w₀ i b j e firstIn secondIn more other (s .firstRises) (s .secondRises) (sym x-same ∙ h ∙ y-same)))
                 ∙ s .is;
           }
 

@@ -16,8 +16,8 @@ use Rattle.word_lists.proofs.Lasts.{subset-last, part-last, front-of, l
 pub record Trimming (w : List ℕ) (a b c e i j : ℕ) : Type 0 where
   pub first : i ≤ b
   pub second : j ≤ e
-  pub left : rising (slice a i w) ≡ true
-  pub right : rising (slice c j w) ≡ true
+  pub firstRises : rising (slice a i w) ≡ true
+  pub secondRises : rising (slice c j w) ≡ true
   pub same : subset (slice a i w) (slice c j w) ≡ subset (slice a b w) (slice c e w)
 
 module _ {w : List ℕ} {a b c e i j : ℕ} (m : Trimming w a b c e i j) where
@@ -27,12 +27,12 @@ module _ {w : List ℕ} {a b c e i j : ℕ} (m : Trimming w a b c e i j) where
       sym (rw none (subset-nil (slice c j w))) ∙ m .same
 
   -- after the search for the last word of the first part
-  module _ {r : ℕ} (s : Skipped a i c j w r) (left : Rising a b w) (right : Rising c e w) (some : a < i) where
-    inFirst : i ≤ length w
-    inFirst = omega (arith, m .first, left .within)
+  module _ {r : ℕ} (s : Skipped a i c j w r) (first : Rising a b w) (second : Rising c e w) (some : a < i) where
+    firstIn : i ≤ length w
+    firstIn = omega (arith, m .first, first .within)
 
-    inSecond : r ≤ length w
-    inSecond = omega (arith, s .high, m .second, right .within)
+    secondIn : r ≤ length w
+    secondIn = omega (arith, s .high, m .second, second .within)
 
     same : subset (slice a i w) (slice c r w) ≡ subset (slice a b w) (slice c e w)
     same = s .same ∙ m .same
@@ -41,7 +41,7 @@ module _ {w : List ℕ} {a b c e i j : ℕ} (m : Trimming w a b c e i j) where
     unfolding memb
     trimming-stop past =
         sym
-        (ap₂ (λ (k l : List ℕ). subset k l) (part-last a i w some inFirst) (slice-past c r w past)
+        (ap₂ (λ (k l : List ℕ). subset k l) (part-last a i w some firstIn) (slice-past c r w past)
         ∙ subset-last (slice a (i - 1) w) [] (getD w (i - 1) 0)
         ∙ and-false (subset (slice a (i - 1) w) []))
         ∙ same
@@ -49,16 +49,16 @@ module _ {w : List ℕ} {a b c e i j : ℕ} (m : Trimming w a b c e i j) where
     pub trimming-other : c < r → (getD w (i - 1) 0 ≡ getD w (r - 1) 0 → ⊥) → false ≡ subset (slice a b w) (slice c e w)
     trimming-other found other =
         let low : getD w (r - 1) 0 < getD w (i - 1) 0 = omega (arith, s .stop found, other) in
-        sym (last-low w a i c r inFirst inSecond some found (m .left) (s .rise) low) ∙ same
+        sym (last-low w a i c r firstIn secondIn some found (m .firstRises) (s .rise) low) ∙ same
 
     pub trimming-same : c < r → getD w (i - 1) 0 ≡ getD w (r - 1) 0 → Trimming w a b c e (i - 1) (r - 1)
     trimming-same found h =
         record {
           first = omega (arith, m .first);
           second = omega (arith, s .high, m .second);
-          left = front-of w a i inFirst some (m .left) .rise;
-          right = front-of w c r inSecond found (s .rise) .rise;
-          same = sym (last-same w a i c r inFirst inSecond some found (m .left) (s .rise) h) ∙ same;
+          firstRises = front-of w a i firstIn some (m .firstRises) .rise;
+          secondRises = front-of w c r secondIn found (s .rise) .rise;
+          same = sym (last-same w a i c r firstIn secondIn some found (m .firstRises) (s .rise) h) ∙ same;
         }
 
 -- the invariant of `skip_higher`
@@ -74,13 +74,13 @@ module _ {w : List ℕ} {a b c e x j : ℕ} (s : Skipping w a b c e x j) where
       record { high = s .high; stop = λ h. omega (arith, stop h, s .word); rise = s .rise; same = s .same }
 
   pub skipping-next : a < b → Rising a b w → Rising c e w → c < j → x < getD w (j - 1) 0 → Skipping w a b c e x (j - 1)
-  skipping-next some left right other h =
-      let within : j ≤ length w = omega (arith, s .high, right .within) in
+  skipping-next some first second other h =
+      let within : j ≤ length w = omega (arith, s .high, second .within) in
       record {
         high = omega (arith, s .high);
         word = s .word;
         rise = front-of w c j within other (s .rise) .rise;
         same =
-            sym (last-high w a b c j (left .within) within some other (left .rise) (s .rise) (omega (arith, s .word)))
+            sym (last-high w a b c j (first .within) within some other (first .rise) (s .rise) (omega (arith, s .word)))
             ∙ s .same;
       }

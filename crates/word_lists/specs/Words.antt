@@ -12,6 +12,6 @@ pub record Word (w : List ℕ) (i r : ℕ) : Type 0 where
   pub small : r < 4294967296
 
 -- r is 1 where the test holds, else 0
-pub record Flag (b : Bool) (r : ℕ) : Type 0 where
+pub record OneWhere (b : Bool) (r : ℕ) : Type 0 where
   pub is : r ≡ one b
   pub small : r ≤ 1

@@ -1,7 +1,7 @@
 // Words of a list as numbers, and tests as numbers.
 ghost use Prim.Native.Nat.{_<_};
 ghost use lib.ListN.{length};
-ghost use Rattle.word_lists.specs.Words.{Word, Flag};
+ghost use Rattle.word_lists.specs.Words.{Word, OneWhere};
 
 // The word at a place.
 pub fn word_at(work: &[u32], i: usize) -> usize
@@ -13,7 +13,7 @@ pub fn word_at(work: &[u32], i: usize) -> usize
 
 // 1 for true, 0 for false.
 pub fn number(b: bool) -> usize
-    ensures { λ r. ⌜ Flag b r ⌝ }
+    ensures { λ r. ⌜ OneWhere b r ⌝ }
 {
     if b { 1 } else { 0 }
 }

@@ -1,6 +1,6 @@
 -- `kitfinder_order` meets its contract: the words of the answer, and the ranks that are left.
 use mathlib.Core.Path.{ap, _∙_}
-use Rattle.kitfinder.specs.Words.{orderWords}
+use Rattle.item_order.specs.Order.{orderWords}
 use borrow.Author.Needs.{needs}
 use Rattle.kitfinder.proofs.kitfinder_order.Statement.{statement}
 use Rattle.kitfinder.proofs.kitfinder_order.Tie as tie
@@ -17,7 +17,7 @@ same-length c = search needs
 returns : tie.Need-returns
 returns c =
     let given = c .before .before .before .order .ensures in
-    (c .order-words .ensures ∙ ap orderWords (given .0), given .1)
+    (c .order-words .ensures ∙ ap orderWords (given .answered), given .ranks)
 
 pub kitfinder-order-spec : {M : Type 1} → statement M
 kitfinder-order-spec = tie.close (tie.spec order-requires order-words-requires same-length returns)

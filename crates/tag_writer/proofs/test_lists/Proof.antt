@@ -3,7 +3,7 @@ use mathlib.Core.Path.{_≡_, sym, _∙_}
 use borrow.Author.Needs.{needs}
 use Rattle.sets.specs.declared.Side.the-variants.{Left}
 use Rattle.tag_file.specs.Loading.{Lists, listsOf}
-use Rattle.tag_writer.specs.Writer.{tableTest, sideTest}
+use Rattle.tag_writer.specs.Writer.{tableTest, numberedTest}
 use Rattle.tag_writer.proofs.Tests.{lists-table, lists-left, lists-right}
 use Rattle.tag_writer.proofs.test_lists.Statement.{statement}
 use Rattle.tag_writer.proofs.test_lists.Tie as tie
@@ -23,13 +23,13 @@ start p = p .before .before .before .before .before .before .before .before
 table : (p : tie.After-test-table) → tableTest (start p .args .t) (lists (start p) .tags) ≡ p .test-table .result
 table p = sym (p .test-table .ensures)
 
-abbrev earlier : tie.After-test-side → tie.After-test-table
+abbrev earlier : tie.After-test-numbered → tie.After-test-table
 earlier p = p .before .before .before
 
-left : (p : tie.After-test-side)
-    → sideTest (start (earlier p) .args .t) Left (lists (start (earlier p)) .leftNumbers) (lists (start (earlier p)) .leftEnds)
-    (lists (start (earlier p)) .leftItems) ≡ p .test-side .result
-left p = sym (p .test-side .ensures)
+left : (p : tie.After-test-numbered)
+    → numberedTest (start (earlier p) .args .t) Left (lists (start (earlier p)) .leftNumbers) (lists (start (earlier p)) .leftEnds)
+    (lists (start (earlier p)) .leftItems) ≡ p .test-numbered .result
+left p = sym (p .test-numbered .ensures)
 
 test-table-requires : tie.Need-test-table-requires
 test-table-requires c κs = search needs
@@ -45,8 +45,8 @@ returns c =
 enum-told : tie.Need-enum-told
 enum-told c = search needs
 
-test-side-requires : tie.Need-test-side-requires
-test-side-requires c κs = search needs
+test-numbered-requires : tie.Need-test-numbered-requires
+test-numbered-requires c κs = search needs
 
 enum-known-left : tie.Need-enum-known-left
 enum-known-left c = search needs
@@ -61,14 +61,14 @@ returns-2 c =
 enum-told-2 : tie.Need-enum-told-2
 enum-told-2 c = search needs
 
-test-side-requires-2 : tie.Need-test-side-requires-2
-test-side-requires-2 c κs = search needs
+test-numbered-requires-2 : tie.Need-test-numbered-requires-2
+test-numbered-requires-2 c κs = search needs
 
 returns-3 : tie.Need-returns-3
 returns-3 c =
     let p = c .before .before .before in
     let s = start (earlier p) in
-    c .test-side2 .ensures
+    c .test-numbered2 .ensures
     ∙ lists-right (s .args .t) (lists s) (table (earlier p) ∙ p .before .enum-told .given .1)
     (left p ∙ c .before .enum-told2 .given .1)
 
@@ -80,9 +80,9 @@ test-lists-spec =
     enum-known-table
     returns
     enum-told
-    test-side-requires
+    test-numbered-requires
     enum-known-left
     returns-2
     enum-told-2
-    test-side-requires-2
+    test-numbered-requires-2
     returns-3)

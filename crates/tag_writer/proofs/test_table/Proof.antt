@@ -1,24 +1,47 @@
 -- `test_table` meets its contract: a case for each return.
+use mathlib.Core.Path.{_≡_, sym, _∙_}
 use borrow.Author.Needs.{needs}
-use Rattle.tag_writer.proofs.Tests.{table-large, table-other, table-whole}
+use Rattle.inputs.specs.Tests.{itemsTest}
+use Rattle.tag_writer.proofs.Tests.{table-items, table-other, table-whole}
 use Rattle.tag_writer.proofs.test_table.Statement.{statement}
 use Rattle.tag_writer.proofs.test_table.Tie as tie
 
-returns : tie.Need-returns
-returns c = table-large (c .before .args .t) (c .before .args .tags .now) (c .if1 .taken)
+-- the call that a place belongs to, and what was found of T there
+abbrev start : tie.After-test-items → tie.Start
+start p = p .before .before
 
-mul-if2 : tie.Need-mul-if2
-mul-if2 c = search needs
+found : (p : tie.After-test-items) → itemsTest (start p .args .t) ≡ p .test-items .result
+found p = sym (p .test-items .ensures)
+
+test-items-requires : tie.Need-test-items-requires
+test-items-requires c κs = search needs
+
+enum-known-items : tie.Need-enum-known-items
+enum-known-items c = search needs
+
+returns : tie.Need-returns
+returns c =
+    let p = c .before .before .before in
+    table-items (start p .args .t) (start p .args .tags .now) (found p ∙ c .before .items .given .1)
+
+enum-told : tie.Need-enum-told
+enum-told c = search needs
+
+mul-if1 : tie.Need-mul-if1
+mul-if1 c = search needs
 
 returns-2 : tie.Need-returns-2
 returns-2 c =
-    let a = c .before .before .args in
-    table-other (a .t) (a .tags .now) (c .before .if1 .left) (c .if2 .taken)
+    let told = c .before in
+    let p = told .before .before in
+    table-other (start p .args .t) (start p .args .tags .now) (found p ∙ told .enum-told .given .1) (c .if1 .taken)
 
 returns-3 : tie.Need-returns-3
 returns-3 c =
-    let a = c .before .before .args in
-    table-whole (a .t) (a .tags .now) (c .before .if1 .left) (c .if2 .left)
+    let told = c .before in
+    let p = told .before .before in
+    table-whole (start p .args .t) (start p .args .tags .now) (found p ∙ told .enum-told .given .1) (c .if1 .left)
 
 pub test-table-spec : {M : Type 1} → statement M
-test-table-spec = tie.close (tie.spec returns mul-if2 returns-2 returns-3)
+test-table-spec =
+    tie.close (tie.spec test-items-requires enum-known-items returns enum-told mul-if1 returns-2 returns-3)

@@ -19,7 +19,7 @@ use Rattle.join_check.proofs.keys.run_end.Tie as tie
 abbrev sameKey : Layout → Query → List ℕ → ℕ → ℕ → ℕ → Bool
 sameKey lay q w d i k = eqb (keyAt q d k) (keyAt q d (leftIn lay w i))
 
-record Going (lay : Layout) (w : List ℕ) (d i hi j : ℕ) : Type 0 where
+record Reaching (lay : Layout) (w : List ℕ) (d i hi j : ℕ) : Type 0 where
   more : i < j
   within : j ≤ hi
   same :
@@ -28,7 +28,7 @@ record Going (lay : Layout) (w : List ℕ) (d i hi j : ℕ) : Type 0 where
 
 abbrev Inv-loop : tie.InvT-loop
 Inv-loop work lay d i hi order first key j₀ j =
-    Going lay work d i hi j
+    Reaching lay work d i hi j
 
 abbrev μ-loop : tie.MeasureT-loop
 μ-loop work lay d i hi order first key j₀ j =

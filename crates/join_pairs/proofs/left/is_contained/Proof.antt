@@ -1,4 +1,4 @@
--- `join_pairs::left::is_contained` meets its contract: where no rank is left the right set contains the left set, else the check
+-- `join_pairs::left::is_contained` meets its contract: where the rest has no rank the right set contains the left set, else the check
 -- decides.
 use mathlib.Core.Path.{sym, ap, _∙_}
 use mathlib.Core.Bool.{Bool}

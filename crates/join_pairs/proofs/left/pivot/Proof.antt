@@ -24,80 +24,66 @@ abbrev μ-loop : tie.MeasureT-loop
     to - i
 
 word-at-requires : tie.Need-word-at-requires Inv-loop μ-loop
-word-at-requires c κs =
-    omega arith
+word-at-requires c κs = omega arith
 
 holders-requires : tie.Need-holders-requires Inv-loop μ-loop
 holders-requires c κs =
-    let start = c .before .before in
-    let there = start .pre .holds in
-    record {
-      query = start .pre .query;
-      holds = slice-rank there (start .args .from) (c .word-at .result) (omega arith) (there .some) (c .word-at .ensures .is);
-    }
+    let asked = c .before .before .pre in
+    record { query = asked .query; holds = slice-rank (asked .holds) (c .word-at .ensures) (omega arith) (asked .holds .some) }
 
 add-i : tie.Need-add-i Inv-loop μ-loop
-add-i c =
-    omega arith
+add-i c = omega arith
 
 loop-holds : tie.Need-loop-holds Inv-loop μ-loop
 loop-holds c =
     let start = c .before .before .before in
-    let a = start .args in
+    let there = start .pre .holds in
     record {
       low = omega arith;
       there =
-          slice-memb (a .work .now) (a .from) (a .to) (a .from) (c .before .word-at .result) (omega arith)
-          (start .pre .holds .some) (start .pre .holds .within) (c .before .word-at .ensures .is);
+          slice-memb (c .before .word-at .ensures) (start .args .from) (start .args .to) (omega arith) (there .some)
+          (there .within);
     }
 
 word-at-requires-2 : tie.Need-word-at-requires-2 Inv-loop μ-loop
-word-at-requires-2 c κs =
-    omega arith
+word-at-requires-2 c κs = omega arith
 
 holders-requires-2 : tie.Need-holders-requires-2 Inv-loop μ-loop
 holders-requires-2 c κs =
-    let start = c .before .before .before .before .before .before in
-    let at-loop = c .before .before .loop in
-    let there = start .pre .holds in
+    let at-loop = c .before .before in
+    let asked = at-loop .before .before .before .before .pre in
     record {
-      query = start .pre .query;
+      query = asked .query;
       holds =
-          slice-rank there (at-loop .i) (c .word-at2 .result) (at-loop .inv .low) (c .before .loop-test .taken)
-          (c .word-at2 .ensures .is);
+          slice-rank (asked .holds) (c .word-at2 .ensures) (at-loop .loop .inv .low) (c .before .loop-test .taken);
     }
 
 add-i-2 : tie.Need-add-i-2 Inv-loop μ-loop
-add-i-2 c =
-    omega arith
+add-i-2 c = omega arith
 
 loop-less : tie.Need-loop-less Inv-loop μ-loop
-loop-less c =
-    omega arith
+loop-less c = omega arith
 
 loop-again : tie.Need-loop-again Inv-loop μ-loop
 loop-again c =
-    let start = c .before .before .before .before .before .before .before .before in
-    let at-loop = c .before .before .before .before .loop in
-    let at-loop-test = c .before .before .before .loop-test in
-    let at-word-at2 = c .before .before .word-at2 in
+    let at-test = c .before .before .before in
+    let inv = at-test .before .loop .inv in
+    let start = at-test .before .before .before .before .before in
     let a = start .args in
     let part = slice (a .from) (a .to) (a .work .now) in
+    let next =
+    slice-memb (c .before .before .word-at2 .ensures) (a .from) (a .to) (inv .low) (at-test .loop-test .taken)
+    (start .pre .holds .within)
+    in
     record {
       low = omega arith;
       there =
-          ⊎-elim
-          (λ way.
-          subst (λ (r : ℕ). memb r part ≡ true) (sym (way .1))
-          (slice-memb (a .work .now) (a .from) (a .to) (at-loop .i) (at-word-at2 .result) (at-loop .inv .low)
-          (at-loop-test .taken) (start .pre .holds .within) (at-word-at2 .ensures .is)))
-          (λ way. subst (λ (r : ℕ). memb r part ≡ true) (sym (way .1)) (at-loop .inv .there))
-          (c .if1 .came);
+          ⊎-elim (λ way. subst (λ (r : ℕ). memb r part ≡ true) (sym (way .1)) next)
+          (λ way. subst (λ (r : ℕ). memb r part ≡ true) (sym (way .1)) (inv .there)) (c .if1 .came);
     }
 
 returns : tie.Need-returns Inv-loop μ-loop
-returns c =
-    c .before .loop .inv .there
+returns c = c .before .loop .inv .there
 
 pub pivot-spec : {M : Type 1} → statement M
 pivot-spec =

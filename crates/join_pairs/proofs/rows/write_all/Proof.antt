@@ -1,6 +1,7 @@
 -- `join_pairs::rows::write_all` meets its contract. The invariant: the pairs with the right places from s on remain to be
 -- written. The measure is how many places remain.
-use Prim.Native.Nat.{_+_, _-_}
+use Prim.Native.Nat.{ℕ, _+_, _-_}
+use mathlib.Core.Path.{sym, subst}
 use mathlib.Core.Bool.{true}
 use mathlib.Core.List.{[]}
 use native.Mathlib.Nat.{sub-zero}
@@ -25,8 +26,10 @@ abbrev μ-loop : tie.MeasureT-loop
 loop-holds : tie.Need-loop-holds Inv-loop μ-loop
 loop-holds c =
     let a = c .before .args in
-    rw (sub-zero (a .rights))
-    (writing-start (a .pairs .now) (a .at) (pairsWith (a .k) (upto (a .rights)))
+    let all = pairsWith (a .k) (upto (a .rights)) in
+    subst (λ (n : ℕ). Writing (a .pairs .now) (a .at) all (a .pairs .now) (a .at) (pairsWith (a .k) (range 0 n)))
+    (sym (sub-zero (a .rights)))
+    (writing-start (a .pairs .now) (a .at) all
     (omega (arith, length-pairs (a .k) (upto (a .rights)), length-range 0 (a .rights))))
 
 push-requires : tie.Need-push-requires Inv-loop μ-loop

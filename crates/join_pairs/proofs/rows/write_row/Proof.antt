@@ -37,12 +37,12 @@ module _ {lay : Layout} {w : List ℕ} {p : Probe} {k from to at : ℕ} {was : L
     (writing : RowWriting lay w p k from to at was n pairs i) (more : i < to) (word : Word w i s)
     (tested : (q : Query) (k : ℕ) → CheckThere lay q w p k s → b ≡ containedAt q k s)
   where
-    -- what is left begins with the pair, if it is one
+    -- what remains begins with the pair, if it is one
     row-split : (q : Query) → RowRoom lay q w p k from to at was
         → rowOf q k (slice i to w) ≡ ontoPair b k s [] ++ rowOf q k (slice (i + 1) to w)
     row-split q there =
         let right = place-right (there .places) i s (writing .low) more word in
-        let here = slice-memb w from to i s (writing .low) more (there .places .within) (word .is) in
+        let here = slice-memb word from to (writing .low) more (there .places .within) in
         let test : containedAt q k s ≡ b =
         sym (tested q k (record { right = right; signed = there .signed; decides = there .decides s here })) in
         ap (rowOf q k)

@@ -1,11 +1,13 @@
 -- `weigh_node` meets its contract: the two ranks are the path's first and last, the last one's inverted list is counted, and
 -- the lengths of the run and of the candidates are the rule's other two numbers.
-use Prim.Native.Nat.{_-_}
+use Prim.Native.Nat.{_+_, _-_, _≤_, _<_}
 use mathlib.Core.Path.{sym, ap, _∙_}
 use native.Mathlib.Omega.{arith}
 use borrow.Author.Needs.{needs}
+use lib.ListN.{length}
 use Rattle.join_spec.specs.declared.Rule.{Rule}
 use Rattle.join_spec.specs.Node.{goesOn, lastOf}
+use Rattle.join_walk.proofs.Asked.{some-path, some-query}
 use Rattle.join_walk.proofs.NodeFacts.{node-path, first-read, last-read, candidates-few, inverted-there, counted-few}
 use Rattle.join_walk.proofs.NodeFacts.{counted-goes}
 use Rattle.join_walk.proofs.CandidateLaws.{inverted-read}
@@ -13,9 +15,7 @@ use Rattle.join_walk.proofs.decide.weigh_node.Statement.{statement}
 use Rattle.join_walk.proofs.decide.weigh_node.Tie as tie
 
 rank-on-requires : tie.Need-rank-on-requires
-rank-on-requires c κs =
-    let some = c .before .pre in
-    record { query = some .query; path = some .path; holds = node-path (some .holds) 0 (some .holds .candidates .deep) }
+rank-on-requires c κs = some-path (c .before .pre) (λ q path node. node-path node 0 (node .candidates .deep))
 
 sub-rank-on : tie.Need-sub-rank-on
 sub-rank-on c = search needs
@@ -23,85 +23,65 @@ sub-rank-on c = search needs
 rank-on-requires-2 : tie.Need-rank-on-requires-2
 rank-on-requires-2 c κs =
     let start = c .before .before in
-    let some = start .pre in
-    record {
-      query = some .query;
-      path = some .path;
-      holds = node-path (some .holds) (start .args .d - 1) (omega (arith, some .holds .candidates .deep));
-    }
+    some-path (start .pre) (λ q path node. node-path node (start .args .d - 1) (omega (arith, node .candidates .deep)))
+
+-- both words of the last rank's offsets lie in the work list
+rank-low : (c : tie.After-rank-on2)
+    → let a = c .before .before .before .args in a .lay .offsets + c .rank-on2 .result + 1 < length (a .work .now)
+rank-low c =
+    let node = c .before .before .before .pre .holds in
+    let cands = node .candidates in
+    omega (
+      arith,
+      last-read node (c .rank-on2 .ensures),
+      cands .last,
+      cands .index .ground .offsetsWithin,
+      cands .index .room,
+    )
 
 add-word-at : tie.Need-add-word-at
-add-word-at c =
-    let start = c .before .before .before in
-    let cands = start .pre .holds .candidates in
-    let rank = last-read (start .pre .holds) (c .rank-on2 .ensures) in
-    omega (arith, rank, cands .last, cands .index .ground .offsetsWithin, cands .index .room, start .good)
+add-word-at c = omega (arith, rank-low c, c .before .before .before .good)
 
 word-at-requires : tie.Need-word-at-requires
-word-at-requires c κs =
-    let start = c .before .before .before in
-    let cands = start .pre .holds .candidates in
-    let rank = last-read (start .pre .holds) (c .rank-on2 .ensures) in
-    omega (arith, rank, cands .last, cands .index .ground .offsetsWithin, cands .index .room)
+word-at-requires c κs = omega (arith, rank-low c)
 
 add-word-at-2 : tie.Need-add-word-at-2
-add-word-at-2 c =
-    let ranked = c .before in
-    let start = ranked .before .before .before in
-    let cands = start .pre .holds .candidates in
-    let rank = last-read (start .pre .holds) (ranked .rank-on2 .ensures) in
-    omega (arith, rank, cands .last, cands .index .ground .offsetsWithin, cands .index .room, start .good)
+add-word-at-2 c = omega (arith, rank-low (c .before), c .before .before .before .before .good)
 
 add-word-at-3 : tie.Need-add-word-at-3
-add-word-at-3 c =
-    let ranked = c .before in
-    let start = ranked .before .before .before in
-    let cands = start .pre .holds .candidates in
-    let rank = last-read (start .pre .holds) (ranked .rank-on2 .ensures) in
-    omega (arith, rank, cands .last, cands .index .ground .offsetsWithin, cands .index .room, start .good)
+add-word-at-3 c = omega (arith, rank-low (c .before), c .before .before .before .before .good)
 
 word-at-requires-2 : tie.Need-word-at-requires-2
-word-at-requires-2 c κs =
-    let ranked = c .before in
-    let start = ranked .before .before .before in
-    let cands = start .pre .holds .candidates in
-    let rank = last-read (start .pre .holds) (ranked .rank-on2 .ensures) in
-    omega (arith, rank, cands .last, cands .index .ground .offsetsWithin, cands .index .room)
+word-at-requires-2 c κs = omega (arith, rank-low (c .before))
+
+-- they bound a list that lies there too
+list-low : (c : tie.After-word-at2)
+    → let a = c .before .before .before .before .before .args in
+    (c .before .word-at .result ≤ c .word-at2 .result) × (a .lay .index + c .word-at2 .result ≤ length (a .work .now))
+list-low c =
+    let first = c .before in
+    let ranked = first .before in
+    let node = ranked .before .before .before .pre .holds in
+    let cands = node .candidates in
+    let held =
+    inverted-read cands (last-read node (ranked .rank-on2 .ensures)) (first .word-at .ensures) (c .word-at2 .ensures) in
+    (omega (arith, held .rise), omega (arith, held .within, cands .index .room))
 
 add-count-seen : tie.Need-add-count-seen
-add-count-seen c =
-    let first = c .before in
-    let ranked = first .before in
-    let start = ranked .before .before .before in
-    let cands = start .pre .holds .candidates in
-    let rank = last-read (start .pre .holds) (ranked .rank-on2 .ensures) in
-    let held = inverted-read cands rank (first .word-at .ensures) (c .word-at2 .ensures) in
-    omega (arith, held .rise, held .within, cands .index .room, start .good)
+add-count-seen c = omega (arith, list-low c .0, list-low c .1, c .before .before .before .before .before .good)
 
 add-count-seen-2 : tie.Need-add-count-seen-2
-add-count-seen-2 c =
-    let first = c .before in
-    let ranked = first .before in
-    let start = ranked .before .before .before in
-    let cands = start .pre .holds .candidates in
-    let rank = last-read (start .pre .holds) (ranked .rank-on2 .ensures) in
-    let held = inverted-read cands rank (first .word-at .ensures) (c .word-at2 .ensures) in
-    omega (arith, held .within, cands .index .room, start .good)
+add-count-seen-2 c = omega (arith, list-low c .1, c .before .before .before .before .before .good)
 
 count-seen-requires : tie.Need-count-seen-requires
 count-seen-requires c κs =
     let first = c .before in
     let ranked = first .before in
-    let start = ranked .before .before .before in
-    let some = start .pre in
-    let cands = some .holds .candidates in
-    let rank = last-read (some .holds) (ranked .rank-on2 .ensures) in
-    record {
-      query = some .query;
-      holds =
-          inverted-there (lastOf (some .path)) (first .word-at .result) (c .word-at2 .result) (cands .index) (cands .last)
-          (inverted-read cands rank (first .word-at .ensures) (c .word-at2 .ensures));
-    }
+    some-query (ranked .before .before .before .pre) (λ q path node.
+    inverted-there (lastOf path) (first .word-at .result) (c .word-at2 .result) (node .candidates .index)
+    (node .candidates .last)
+    (inverted-read (node .candidates) (last-read node (ranked .rank-on2 .ensures)) (first .word-at .ensures)
+    (c .word-at2 .ensures)))
 
 sub-weigh : tie.Need-sub-weigh
 sub-weigh c = search needs

@@ -1,6 +1,8 @@
 -- `narrow` meets its contract. Both words lie in the offsets region; at depth 1 nothing is written, and deeper `intersect` writes
 -- the slot of the last rank, which begins above the candidates.
+use Prim.Native.Nat.{_+_, _≤_}
 use native.Mathlib.Omega.{arith}
+use lib.ListN.{length}
 use borrow.Author.Needs.{needs}
 use Rattle.join_walk.proofs.CandidateLaws.{first-word, last-word, inverted-read, narrowed-first, narrowed-further}
 use Rattle.join_walk.proofs.CandidateLaws.{before-rising, inverted-rising, slot-apart}
@@ -23,23 +25,24 @@ add-word-at-3 c = search needs
 word-at-requires-2 : tie.Need-word-at-requires-2
 word-at-requires-2 c κs = search needs
 
+-- the two words that were read bound a list that lies in the work list
+list-low : (c : tie.After-word-at2)
+    → let a = c .before .before .before .before .before .args in
+    (c .before .before .word-at .result ≤ c .word-at2 .result) × (a .lay .index + c .word-at2 .result ≤ length (a .work .now))
+list-low c =
+    let first = c .before .before in
+    let start = first .before .before .before in
+    let cands = start .pre .holds .0 in
+    let held = inverted-read cands (start .pre .holds .1) (first .word-at .ensures) (c .word-at2 .ensures) in
+    (omega (arith, held .rise), omega (arith, held .within, cands .index .room))
+
 add-t21 : tie.Need-add-t21
 add-t21 c =
-    let last = c .before in
-    let first = last .before .before in
-    let start = first .before .before .before in
-    let cands = start .pre .holds .0 in
-    let held = inverted-read cands (start .pre .holds .1) (first .word-at .ensures) (last .word-at2 .ensures) in
-    omega (arith, held .rise, held .within, cands .index .room, start .good .0)
+    let low = list-low (c .before) in
+    omega (arith, low .0, low .1, c .before .before .before .before .before .before .good .0)
 
 add-t22 : tie.Need-add-t22
-add-t22 c =
-    let last = c .before in
-    let first = last .before .before in
-    let start = first .before .before .before in
-    let cands = start .pre .holds .0 in
-    let held = inverted-read cands (start .pre .holds .1) (first .word-at .ensures) (last .word-at2 .ensures) in
-    omega (arith, held .within, cands .index .room, start .good .0)
+add-t22 c = omega (arith, list-low (c .before) .1, c .before .before .before .before .before .before .good .0)
 
 same-length : tie.Need-same-length
 same-length c = search needs
@@ -57,21 +60,12 @@ add-out c = search needs
 
 add-intersect : tie.Need-add-intersect
 add-intersect c =
-    let last = c .before .before in
-    let first = last .before .before in
-    let start = first .before .before .before in
-    let cands = start .pre .holds .0 in
-    let held = inverted-read cands (start .pre .holds .1) (first .word-at .ensures) (last .word-at2 .ensures) in
-    omega (arith, held .rise, held .within, cands .index .room, start .good .0)
+    let low = list-low (c .before .before) in
+    omega (arith, low .0, low .1, c .before .before .before .before .before .before .before .good .0)
 
 add-intersect-2 : tie.Need-add-intersect-2
 add-intersect-2 c =
-    let last = c .before .before in
-    let first = last .before .before in
-    let start = first .before .before .before in
-    let cands = start .pre .holds .0 in
-    let held = inverted-read cands (start .pre .holds .1) (first .word-at .ensures) (last .word-at2 .ensures) in
-    omega (arith, held .within, cands .index .room, start .good .0)
+    omega (arith, list-low (c .before .before) .1, c .before .before .before .before .before .before .before .good .0)
 
 intersect-requires : tie.Need-intersect-requires
 intersect-requires c κs =

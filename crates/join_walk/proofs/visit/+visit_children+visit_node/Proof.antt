@@ -3,19 +3,22 @@
 -- stands in NodeStops, NodeSteps and ChildSteps.
 use Prim.Native.Nat.{ℕ, suc, _-_, _*_, _+_, _<_}
 use mathlib.Core.Path.{_∙_}
+use mathlib.Core.List.{List}
 use native.Mathlib.Omega.{arith}
 use borrow.Author.Needs.{needs}
 use borrow.Fn.Kinds.{In}
 use borrow.Fn.PlainCycle.{Measures, is, falls, and}
+use Rattle.join_spec.specs.Query.{Query}
 use Rattle.join_spec.specs.Node.{lastOf}
 use Rattle.join_walk.specs.Narrowing.{slotOf}
-use Rattle.join_walk.specs.Visiting.{ChildrenAt}
+use Rattle.join_walk.specs.Visiting.{Node, ChildrenAt}
 use Rattle.join_walk.proofs.NodeFacts.{node-path, last-read}
-use Rattle.join_walk.proofs.NodeStops.{goes-on, goes-not, stop-there, stop-small, stop-visited}
-use Rattle.join_walk.proofs.NodeSteps.{narrowed-read, node-limit, limit-visited, node-run}
+use Rattle.join_walk.proofs.Asked.{some-path, some-query}
+use Rattle.join_walk.proofs.NodeStops.{goes-not, stop-there, stop-small, stop-visited}
+use Rattle.join_walk.proofs.NodeSteps.{Onward, onward-read, node-limit, limit-visited, node-run}
 use Rattle.join_walk.proofs.NodeSteps.{merged-room, all-merged, node-children, children-visited}
 use Rattle.join_walk.proofs.PartLoop.{Continuing, continuing-start, continuing-step, continuing-spent, continuing-end}
-use Rattle.join_walk.proofs.ChildSteps.{kids-run, childPath, next-node, child-done}
+use Rattle.join_walk.proofs.ChildSteps.{kids-run, childPath, next-node, children-done}
 use Rattle.join_check.proofs.keys.run_end.Reads as run-end
 use Rattle.join_walk.proofs.blocks.add_paths.Reads as add-paths
 use Rattle.join_walk.proofs.blocks.check_block.Reads as check-block
@@ -85,262 +88,226 @@ Inv-loop work₀ lay st d lo hi from to r₀ i₀ work r i =
 abbrev μ-loop : children-lts.MeasureT-loop
 μ-loop work₀ lay st d lo hi from to r₀ i₀ work r i = hi - i
 
--- the child loop
-loop-holds : (t : ℕ) → children-lts.Need-loop-holds (children-callees t) (children-at t) visit-children.Post Inv-loop μ-loop
-loop-holds t c = continuing-start _ _ _ _ _ _ (c .before .pre .1)
+module _ (t : ℕ) where
+  -- the child loop
+  loop-holds : children-lts.Need-loop-holds (children-callees t) (children-at t) visit-children.Post Inv-loop μ-loop
+  loop-holds c = continuing-start _ _ _ _ _ _ (c .before .pre .1)
 
-run-end-requires : (t : ℕ)
-    → children-lts.Need-run-end-requires (children-callees t) (children-at t) visit-children.Post Inv-loop μ-loop
-run-end-requires t c κs =
-    let test = c .before in
-    let some = test .before .loop .inv .some in
-    record { query = some .query; holds = kids-run (some .holds .kids) (test .loop-test .taken) }
+  run-end-requires : children-lts.Need-run-end-requires (children-callees t) (children-at t) visit-children.Post Inv-loop μ-loop
+  run-end-requires c κs =
+      some-query (c .before .before .loop .inv .some) (λ q path at. kids-run (at .kids) (c .before .loop-test .taken))
 
-add-visit-node : (t : ℕ)
-    → children-lts.Need-add-visit-node (children-callees t) (children-at t) visit-children.Post Inv-loop μ-loop
-add-visit-node t c =
-    let kids = c .before .before .before .before .loop .inv .some .holds .kids in
-    omega (arith, kids .within, kids .underway .shallow)
+  add-visit-node : children-lts.Need-add-visit-node (children-callees t) (children-at t) visit-children.Post Inv-loop μ-loop
+  add-visit-node c =
+      let kids = c .before .before .before .before .loop .inv .some .holds .kids in
+      omega (arith, kids .within, kids .underway .shallow)
 
-visit-node-requires : (t : ℕ)
-    → children-lts.Need-visit-node-requires (children-callees t) (children-at t) visit-children.Post Inv-loop μ-loop
-visit-node-requires t c κs =
-    let end = c .before in
-    let test = end .before .before in
-    let at-loop = test .before in
-    let start = at-loop .before .before in
-    let some = at-loop .loop .inv .some in
-    let kids = some .holds .kids in (
-      omega (arith, start .pre .0, kids .within, kids .underway .limit),
-      record {
-        query = some .query;
-        path = childPath kids (test .loop-test .taken);
-        holds = next-node (some .holds) (test .loop-test .taken) (end .run-end .ensures);
-      },
-    )
+  visit-node-requires : children-lts.Need-visit-node-requires (children-callees t) (children-at t) visit-children.Post Inv-loop
+      μ-loop
+  visit-node-requires c κs =
+      let end = c .before in
+      let test = end .before .before in
+      let at-loop = test .before in
+      let some = at-loop .loop .inv .some in
+      let kids = some .holds .kids in (
+        omega (arith, at-loop .before .before .pre .0, kids .within, kids .underway .limit),
+        record {
+          query = some .query;
+          path = childPath kids (test .loop-test .taken);
+          holds = next-node (some .holds) (test .loop-test .taken) (end .run-end .ensures);
+        },
+      )
 
-children-same-length : (t : ℕ)
-    → children-lts.Need-same-length (children-callees t) (children-at t) visit-children.Post Inv-loop μ-loop
-children-same-length t c =
-    let visit = c .before .before .before in
-    let at-loop = visit .before .before .before .before .before in
-    visit .visit-node .kept .0 ∙ at-loop .loop .inv .size
+  -- a child was visited
+  children-same-length : children-lts.Need-same-length (children-callees t) (children-at t) visit-children.Post Inv-loop μ-loop
+  children-same-length c =
+      let visit = c .before .before .before in
+      let at-loop = visit .before .before .before .before .before in
+      visit .visit-node .kept .0 ∙ at-loop .loop .inv .size
 
-children-returns : (t : ℕ) → children-lts.Need-returns (children-callees t) (children-at t) visit-children.Post Inv-loop μ-loop
-children-returns t c =
-    let visit = c .before .before .before in
-    let end = visit .before .before in
-    let test = end .before .before in
-    let at-loop = test .before in
-    continuing-spent (at-loop .loop .inv) (omega (arith, end .run-end .ensures .more)) (end .run-end .ensures .within)
-    (λ q path at.
-    child-done at (test .loop-test .taken) (end .run-end .ensures)
-    (visit .visit-node .ensures q _ (next-node at (test .loop-test .taken) (end .run-end .ensures)))) (c .if1 .taken)
+  children-returns : children-lts.Need-returns (children-callees t) (children-at t) visit-children.Post Inv-loop μ-loop
+  children-returns c =
+      let visit = c .before .before .before in
+      let end = visit .before .before in
+      let test = end .before .before in
+      continuing-spent (test .before .loop .inv) (omega (arith, end .run-end .ensures .more)) (end .run-end .ensures .within)
+      (children-done (test .loop-test .taken) (end .run-end .ensures) (visit .visit-node .ensures)) (c .if1 .taken)
 
-loop-less : (t : ℕ) → children-lts.Need-loop-less (children-callees t) (children-at t) visit-children.Post Inv-loop μ-loop
-loop-less t c =
-    let end = c .before .before .before .before .before .before in
-    let test = end .before .before in
-    omega (arith, test .loop-test .taken, end .run-end .ensures .more, end .run-end .ensures .within)
+  loop-less : children-lts.Need-loop-less (children-callees t) (children-at t) visit-children.Post Inv-loop μ-loop
+  loop-less c =
+      let end = c .before .before .before .before .before .before in
+      let test = end .before .before in
+      omega (arith, test .loop-test .taken, end .run-end .ensures .more, end .run-end .ensures .within)
 
-loop-again : (t : ℕ) → children-lts.Need-loop-again (children-callees t) (children-at t) visit-children.Post Inv-loop μ-loop
-loop-again t c =
-    let calm = c .before in
-    let visit = calm .before .before .before in
-    let end = visit .before .before in
-    let test = end .before .before in
-    let at-loop = test .before in
-    continuing-step (at-loop .loop .inv) (omega (arith, end .run-end .ensures .more)) (end .run-end .ensures .within)
-    (λ q path at.
-    child-done at (test .loop-test .taken) (end .run-end .ensures)
-    (visit .visit-node .ensures q _ (next-node at (test .loop-test .taken) (end .run-end .ensures))))
-    (visit .visit-node .kept .0) (calm .if1 .left)
+  loop-again : children-lts.Need-loop-again (children-callees t) (children-at t) visit-children.Post Inv-loop μ-loop
+  loop-again c =
+      let calm = c .before in
+      let visit = calm .before .before .before in
+      let end = visit .before .before in
+      let test = end .before .before in
+      continuing-step (test .before .loop .inv) (omega (arith, end .run-end .ensures .more)) (end .run-end .ensures .within)
+      (children-done (test .loop-test .taken) (end .run-end .ensures) (visit .visit-node .ensures))
+      (visit .visit-node .kept .0) (calm .if1 .left)
 
-children-same-length-2 : (t : ℕ)
-    → children-lts.Need-same-length-2 (children-callees t) (children-at t) visit-children.Post Inv-loop μ-loop
-children-same-length-2 t c = c .before .loop .inv .size
+  children-same-length-2 : children-lts.Need-same-length-2 (children-callees t) (children-at t) visit-children.Post Inv-loop μ-loop
+  children-same-length-2 c = c .before .loop .inv .size
 
-children-returns-2 : (t : ℕ)
-    → children-lts.Need-returns-2 (children-callees t) (children-at t) visit-children.Post Inv-loop μ-loop
-children-returns-2 t c =
-    let inv = c .before .loop .inv in
-    continuing-end inv (c .loop-test .left) (inv .some .holds .kids .underway .budget)
+  children-returns-2 : children-lts.Need-returns-2 (children-callees t) (children-at t) visit-children.Post Inv-loop μ-loop
+  children-returns-2 c =
+      let inv = c .before .loop .inv in
+      continuing-end inv (c .loop-test .left) (inv .some .holds .kids .underway .budget)
 
--- the node visit
-decide-requires : (t : ℕ) → node-lts.Need-decide-requires (node-callees t) (node-at t) visit-node.Post
-decide-requires t c κs =
-    let some = c .before .before .pre .1 in
-    record { query = some .query; path = some .path; holds = some .holds .at }
+  -- the node visit, where the walk does not go on
+  decide-requires : node-lts.Need-decide-requires (node-callees t) (node-at t) visit-node.Post
+  decide-requires c κs = some-path (c .before .before .pre .1) (λ q path node. node .at)
 
-sub-check-block : (t : ℕ) → node-lts.Need-sub-check-block (node-callees t) (node-at t) visit-node.Post
-sub-check-block t c =
-    let some = c .before .before .before .before .before .pre .1 in
-    omega (arith, some .holds .at .candidates .deep)
+  sub-check-block : node-lts.Need-sub-check-block (node-callees t) (node-at t) visit-node.Post
+  sub-check-block c =
+      let some = c .before .before .before .before .before .pre .1 in
+      omega (arith, some .holds .at .candidates .deep)
 
-check-block-requires : (t : ℕ) → node-lts.Need-check-block-requires (node-callees t) (node-at t) visit-node.Post
-check-block-requires t c κs =
-    let some = c .before .before .before .before .before .pre .1 in
-    (record { query = some .query; holds = stop-there (some .holds) }, stop-small (some .holds))
+  check-block-requires : node-lts.Need-check-block-requires (node-callees t) (node-at t) visit-node.Post
+  check-block-requires c κs =
+      let some = c .before .before .before .before .before .pre .1 in
+      (some-query some (λ q path node. stop-there node), stop-small (some .holds))
 
-node-same-length : (t : ℕ) → node-lts.Need-same-length (node-callees t) (node-at t) visit-node.Post
-node-same-length t c = search needs
+  node-same-length : node-lts.Need-same-length (node-callees t) (node-at t) visit-node.Post
+  node-same-length c = search needs
 
-node-returns : (t : ℕ) → node-lts.Need-returns (node-callees t) (node-at t) visit-node.Post
-node-returns t c =
-    let stop = c .before .before in
-    let decided = stop .before in
-    λ q path node. stop-visited node (goes-not node (decided .decide .ensures) (stop .if1 .taken)) (c .check-block .ensures)
+  node-returns : node-lts.Need-returns (node-callees t) (node-at t) visit-node.Post
+  node-returns c =
+      let stop = c .before .before in
+      λ q path node.
+      stop-visited node (goes-not node (stop .before .decide .ensures) (stop .if1 .taken)) (c .check-block .ensures)
 
-sub-rank-on : (t : ℕ) → node-lts.Need-sub-rank-on (node-callees t) (node-at t) visit-node.Post
-sub-rank-on t c =
-    let some = c .before .before .before .before .before .pre .1 in
-    omega (arith, some .holds .at .candidates .deep)
+  -- where it goes on
+  sub-rank-on : node-lts.Need-sub-rank-on (node-callees t) (node-at t) visit-node.Post
+  sub-rank-on c =
+      let some = c .before .before .before .before .before .pre .1 in
+      omega (arith, some .holds .at .candidates .deep)
 
-rank-on-requires : (t : ℕ) → node-lts.Need-rank-on-requires (node-callees t) (node-at t) visit-node.Post
-rank-on-requires t c κs =
-    let start = c .before .before .before .before .before in
-    let some = start .pre .1 in
-    record {
-      query = some .query;
-      path = some .path;
-      holds = node-path (some .holds .at) (start .args .d - 1) (omega (arith, some .holds .at .candidates .deep));
-    }
+  rank-on-requires : node-lts.Need-rank-on-requires (node-callees t) (node-at t) visit-node.Post
+  rank-on-requires c κs =
+      let start = c .before .before .before .before .before in
+      some-path (start .pre .1)
+      (λ q path node. node-path (node .at) (start .args .d - 1) (omega (arith, node .at .candidates .deep)))
 
-narrow-requires : (t : ℕ) → node-lts.Need-narrow-requires (node-callees t) (node-at t) visit-node.Post
-narrow-requires t c κs =
-    let ranked = c .before in
-    let some = ranked .before .before .before .before .before .before .pre .1 in
-    record {
-      query = some .query;
-      path = some .path;
-      holds = (some .holds .at .candidates, last-read (some .holds .at) (ranked .rank-on .ensures));
-    }
-
-finish-requires : (t : ℕ) → node-lts.Need-finish-requires (node-callees t) (node-at t) visit-node.Post
-finish-requires t c κs =
-    let deep = c .before in
-    let part = deep .before .before .before in
-    let ranked = part .before .before in
-    let on = ranked .before .before in
-    let decided = on .before in
-    let some = decided .before .before .before .pre .1 in
-    let narrowed = narrowed-read (some .holds) (ranked .rank-on .ensures) (part .narrow .ensures) in
-    let goes = goes-on (some .holds) (decided .decide .ensures) (on .if1 .left) in
-    record { query = some .query; path = some .path; holds = node-limit (some .holds) narrowed goes (deep .if2 .taken) }
-
-node-same-length-2 : (t : ℕ) → node-lts.Need-same-length-2 (node-callees t) (node-at t) visit-node.Post
-node-same-length-2 t c = c .before .before .before .before .before .narrow .kept .0
-
-node-returns-2 : (t : ℕ) → node-lts.Need-returns-2 (node-callees t) (node-at t) visit-node.Post
-node-returns-2 t c =
-    let deep = c .before .before in
-    let part = deep .before .before .before in
-    let ranked = part .before .before in
-    let on = ranked .before .before in
-    let decided = on .before in
-    λ q path node.
-    let narrowed = narrowed-read node (ranked .rank-on .ensures) (part .narrow .ensures) in
-    let goes = goes-on node (decided .decide .ensures) (on .if1 .left) in
-    limit-visited node narrowed goes (c .finish .ensures q path (node-limit node narrowed goes (deep .if2 .taken)))
-
-merged-end-requires : (t : ℕ) → node-lts.Need-merged-end-requires (node-callees t) (node-at t) visit-node.Post
-merged-end-requires t c κs =
-    let part = c .before .before .before .before in
-    let ranked = part .before .before in
-    let on = ranked .before .before in
-    let decided = on .before in
-    let some = decided .before .before .before .pre .1 in
-    let narrowed = narrowed-read (some .holds) (ranked .rank-on .ensures) (part .narrow .ensures) in
-    let goes = goes-on (some .holds) (decided .decide .ensures) (on .if1 .left) in
-    record { query = some .query; holds = node-run (some .holds) narrowed goes }
-
-sub-add-paths : (t : ℕ) → node-lts.Need-sub-add-paths (node-callees t) (node-at t) visit-node.Post
-sub-add-paths t c = c .merged-end .ensures .low
-
-sub-add-paths-2 : (t : ℕ) → node-lts.Need-sub-add-paths-2 (node-callees t) (node-at t) visit-node.Post
-sub-add-paths-2 t c =
-    let part = c .before .before .before .before .before in
-    let ranked = part .before .before in
-    let some = ranked .before .before .before .before .before .before .pre .1 in
-    narrowed-read (some .holds) (ranked .rank-on .ensures) (part .narrow .ensures) .rise
-
-add-paths-requires : (t : ℕ) → node-lts.Need-add-paths-requires (node-callees t) (node-at t) visit-node.Post
-add-paths-requires t c κs =
-    let above = c .before .before in
-    let part = above .before .before .before in
-    let ranked = part .before .before in
-    let on = ranked .before .before in
-    let decided = on .before in
-    let some = decided .before .before .before .pre .1 in
-    let narrowed = narrowed-read (some .holds) (ranked .rank-on .ensures) (part .narrow .ensures) in
-    let goes = goes-on (some .holds) (decided .decide .ensures) (on .if1 .left) in
-    merged-room (some .holds) narrowed goes (above .if2 .left) (c .merged-end .ensures)
-
-node-same-length-3 : (t : ℕ) → node-lts.Need-same-length-3 (node-callees t) (node-at t) visit-node.Post
-node-same-length-3 t c = c .before .before .before .before .before .before .before .narrow .kept .0
-
-node-returns-3 : (t : ℕ) → node-lts.Need-returns-3 (node-callees t) (node-at t) visit-node.Post
-node-returns-3 t c =
-    let merged = c .before in
-    let end = merged .before in
-    let above = end .before .before in
-    let part = above .before .before .before in
-    let ranked = part .before .before in
-    let on = ranked .before .before in
-    let decided = on .before in
-    λ q path node.
-    let narrowed = narrowed-read node (ranked .rank-on .ensures) (part .narrow .ensures) in
-    let goes = goes-on node (decided .decide .ensures) (on .if1 .left) in
-    all-merged node narrowed goes (above .if2 .left) (end .merged-end .ensures) (merged .add-paths .ensures) (c .if3 .taken)
-
-visit-children-requires : (t : ℕ) → node-lts.Need-visit-children-requires (node-callees t) (node-at t) visit-node.Post
-visit-children-requires t c κs =
-    let more = c .before in
-    let merged = more .before in
-    let end = merged .before in
-    let above = end .before .before in
-    let part = above .before .before .before in
-    let ranked = part .before .before in
-    let on = ranked .before .before in
-    let decided = on .before in
-    let start = decided .before .before .before in
-    let some = start .pre .1 in
-    let narrowed = narrowed-read (some .holds) (ranked .rank-on .ensures) (part .narrow .ensures) in
-    let goes = goes-on (some .holds) (decided .decide .ensures) (on .if1 .left) in (
-      omega (arith, start .pre .0),
+  narrow-requires : node-lts.Need-narrow-requires (node-callees t) (node-at t) visit-node.Post
+  narrow-requires c κs =
+      let ranked = c .before in
+      let some = ranked .before .before .before .before .before .before .pre .1 in
+      let node = some .holds .at in
       record {
         query = some .query;
         path = some .path;
-        holds =
-            node-children (some .holds) narrowed goes (above .if2 .left) (end .merged-end .ensures) (merged .add-paths .ensures)
-            (more .if3 .left);
-      },
-    )
+        holds = (node .candidates, last-read node (ranked .rank-on .ensures));
+      }
 
-node-same-length-4 : (t : ℕ) → node-lts.Need-same-length-4 (node-callees t) (node-at t) visit-node.Post
-node-same-length-4 t c =
-    let visited = c .before .before in
-    let part = visited .before .before .before .before .before .before .before .before .before in
-    visited .visit-children .kept .0 ∙ part .narrow .kept .0
+  -- the start as it is seen after the candidates were narrowed, and the node then
+  abbrev begun : node-lts.After-narrow (node-callees t) (node-at t) visit-node.Post
+      → node-lts.Start (node-callees t) (node-at t) visit-node.Post
+  begun c = c .before .before .before .before .before .before .before .before
 
-node-returns-4 : (t : ℕ) → node-lts.Need-returns-4 (node-callees t) (node-at t) visit-node.Post
-node-returns-4 t c =
-    let visited = c .before .before in
-    let more = visited .before .before in
-    let merged = more .before in
-    let end = merged .before in
-    let above = end .before .before in
-    let part = above .before .before .before in
-    let ranked = part .before .before in
-    let on = ranked .before .before in
-    let decided = on .before in
-    λ q path node.
-    let narrowed = narrowed-read node (ranked .rank-on .ensures) (part .narrow .ensures) in
-    let goes = goes-on node (decided .decide .ensures) (on .if1 .left) in
-    children-visited node narrowed goes (above .if2 .left) (end .merged-end .ensures) (merged .add-paths .ensures)
-    (visited .visit-children .ensures q path
-    (node-children node narrowed goes (above .if2 .left) (end .merged-end .ensures) (merged .add-paths .ensures)
-    (more .if3 .left)))
+  abbrev Begun : node-lts.Start (node-callees t) (node-at t) visit-node.Post → Query → List ℕ → Type 0
+  Begun s q path =
+      let a = s .args in
+      Node (a .lay) (a .st) q path (a .work .now) (a .d) (a .lo) (a .hi) (a .from) (a .to) (a .tally)
+
+  onward : (c : node-lts.After-narrow (node-callees t) (node-at t) visit-node.Post) (q : Query) (path : List ℕ)
+      → Begun (begun c) q path
+      → let a = begun c .args in
+      Onward (a .lay) (a .st) q path (a .work .now) (c .narrow .last .0) (a .d) (a .lo) (a .hi) (a .from) (a .to) (a .tally)
+      (c .narrow .result)
+  onward c q path node =
+      let ranked = c .before .before in
+      let on = ranked .before .before in
+      onward-read node (on .before .decide .ensures) (on .if1 .left) (ranked .rank-on .ensures) (c .narrow .ensures)
+
+  finish-requires : node-lts.Need-finish-requires (node-callees t) (node-at t) visit-node.Post
+  finish-requires c κs =
+      let deep = c .before in
+      let part = deep .before .before .before in
+      some-path (begun part .pre .1) (λ q path node. node-limit (onward part q path node) (deep .if2 .taken))
+
+  node-same-length-2 : node-lts.Need-same-length-2 (node-callees t) (node-at t) visit-node.Post
+  node-same-length-2 c = c .before .before .before .before .before .narrow .kept .0
+
+  node-returns-2 : node-lts.Need-returns-2 (node-callees t) (node-at t) visit-node.Post
+  node-returns-2 c =
+      let deep = c .before .before in
+      let part = deep .before .before .before in
+      λ q path node.
+      let so = onward part q path node in
+      limit-visited so (c .finish .ensures q path (node-limit so (deep .if2 .taken)))
+
+  merged-end-requires : node-lts.Need-merged-end-requires (node-callees t) (node-at t) visit-node.Post
+  merged-end-requires c κs =
+      let part = c .before .before .before .before in
+      some-query (begun part .pre .1) (λ q path node. node-run (onward part q path node))
+
+  sub-add-paths : node-lts.Need-sub-add-paths (node-callees t) (node-at t) visit-node.Post
+  sub-add-paths c = c .merged-end .ensures .low
+
+  sub-add-paths-2 : node-lts.Need-sub-add-paths-2 (node-callees t) (node-at t) visit-node.Post
+  sub-add-paths-2 c =
+      let part = c .before .before .before .before .before in
+      let some = begun part .pre .1 in
+      onward part (some .query) (some .path) (some .holds) .narrowed .rise
+
+  add-paths-requires : node-lts.Need-add-paths-requires (node-callees t) (node-at t) visit-node.Post
+  add-paths-requires c κs =
+      let above = c .before .before in
+      let part = above .before .before .before in
+      let some = begun part .pre .1 in
+      merged-room (onward part (some .query) (some .path) (some .holds)) (above .if2 .left) (c .merged-end .ensures)
+
+  node-same-length-3 : node-lts.Need-same-length-3 (node-callees t) (node-at t) visit-node.Post
+  node-same-length-3 c = c .before .before .before .before .before .before .before .narrow .kept .0
+
+  node-returns-3 : node-lts.Need-returns-3 (node-callees t) (node-at t) visit-node.Post
+  node-returns-3 c =
+      let merged = c .before in
+      let end = merged .before in
+      let above = end .before .before in
+      λ q path node.
+      all-merged (onward (above .before .before .before) q path node) (above .if2 .left) (end .merged-end .ensures)
+      (merged .add-paths .ensures) (c .if3 .taken)
+
+  -- the children of a node, its own left sets merged
+  children : (c : node-lts.Else3 (node-callees t) (node-at t) visit-node.Post) (q : Query) (path : List ℕ)
+      → let part = c .before .before .before .before .before .before .before in
+      Begun (begun part) q path
+      → let a = begun part .args in
+      ChildrenAt (a .lay) (a .st) q path (part .narrow .last .0) (a .d) (c .before .before .merged-end .result) (a .hi)
+      (part .narrow .result .from) (part .narrow .result .to) (c .before .add-paths .result)
+  children c q path node =
+      let merged = c .before in
+      let end = merged .before in
+      let above = end .before .before in
+      node-children (onward (above .before .before .before) q path node) (above .if2 .left) (end .merged-end .ensures)
+      (merged .add-paths .ensures) (c .if3 .left)
+
+  visit-children-requires : node-lts.Need-visit-children-requires (node-callees t) (node-at t) visit-node.Post
+  visit-children-requires c κs =
+      let start = begun (c .before .before .before .before .before .before .before .before) in
+      (omega (arith, start .pre .0), some-path (start .pre .1) (children (c .before)))
+
+  node-same-length-4 : node-lts.Need-same-length-4 (node-callees t) (node-at t) visit-node.Post
+  node-same-length-4 c =
+      let visited = c .before .before in
+      let part = visited .before .before .before .before .before .before .before .before .before in
+      visited .visit-children .kept .0 ∙ part .narrow .kept .0
+
+  node-returns-4 : node-lts.Need-returns-4 (node-callees t) (node-at t) visit-node.Post
+  node-returns-4 c =
+      let visited = c .before .before in
+      let more = visited .before .before in
+      let merged = more .before in
+      let end = merged .before in
+      let above = end .before .before in
+      λ q path node.
+      children-visited (onward (above .before .before .before) q path node) (above .if2 .left) (end .merged-end .ensures)
+      (merged .add-paths .ensures) (visited .visit-children .ensures q path (children more q path node))
 
 pub +visit-children+visit-node-spec : {M : Type 1} → statement M
 +visit-children+visit-node-spec =

@@ -6,7 +6,7 @@ use Prim.Native.Nat.{_-_}
 use Rattle.join_walk.specs.Partitions.{Partitions}
 use Rattle.join_walk.proofs.PartLoop.{Continuing, continuing-start, continuing-step, continuing-spent, continuing-end}
 use Rattle.join_walk.proofs.ChildSteps.{kids-run, childRank, first-child}
-use Rattle.join_walk.proofs.PartitionSteps.{partition-done}
+use Rattle.join_walk.proofs.PartitionSteps.{partitions-done}
 use Rattle.join_walk.proofs.walk.visit_partitions.Statement.{statement}
 use Rattle.join_walk.proofs.walk.visit_partitions.Tie as tie
 
@@ -54,9 +54,7 @@ returns c =
     let at-loop = test .before in
     λ q first.
     continuing-spent (at-loop .loop .inv) (omega (arith, end .run-end .ensures .more)) (end .run-end .ensures .within)
-    (λ q path parts.
-    partition-done parts (test .loop-test .taken) (end .run-end .ensures)
-    (visit .visit-partition .ensures q _ (first-child parts (test .loop-test .taken) (end .run-end .ensures))) path)
+    (partitions-done (test .loop-test .taken) (end .run-end .ensures) (visit .visit-partition .ensures))
     (c .if1 .taken) q [] first
 
 loop-less : tie.Need-loop-less Inv-loop μ-loop
@@ -73,9 +71,7 @@ loop-again c =
     let test = end .before .before in
     let at-loop = test .before in
     continuing-step (at-loop .loop .inv) (omega (arith, end .run-end .ensures .more)) (end .run-end .ensures .within)
-    (λ q path parts.
-    partition-done parts (test .loop-test .taken) (end .run-end .ensures)
-    (visit .visit-partition .ensures q _ (first-child parts (test .loop-test .taken) (end .run-end .ensures))) path)
+    (partitions-done (test .loop-test .taken) (end .run-end .ensures) (visit .visit-partition .ensures))
     (visit .visit-partition .kept .0) (calm .if1 .left)
 
 same-length-2 : tie.Need-same-length-2 Inv-loop μ-loop

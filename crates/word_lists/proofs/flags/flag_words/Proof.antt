@@ -1,5 +1,5 @@
 -- `word_lists::flags::flag_words` meets its contract. The invariant is `Flagging`: the words up to place i are flagged. The
--- measure is what is left of the part.
+-- measure is what remains of the part.
 use Prim.Native.Nat.{_-_, _<_}
 use native.Mathlib.Omega.{arith}
 use lib.ListN.{length, getD}

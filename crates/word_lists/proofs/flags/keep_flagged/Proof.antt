@@ -1,5 +1,5 @@
 -- `word_lists::flags::keep_flagged` meets its contract. The invariant is `Keeping`: what was written, with the flagged words of
--- the rest, are the flagged words. The measure is what is left of the part.
+-- the rest, are the flagged words. The measure is what remains of the part.
 use Prim.Native.Nat.{_-_, _≤_, _<_}
 use native.Mathlib.Omega.{arith}
 use lib.ListN.{length, getD}

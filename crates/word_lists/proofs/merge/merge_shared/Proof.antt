@@ -1,5 +1,5 @@
 -- `word_lists::merge::merge_shared` meets its contract. The invariant is `Sharing`: what was written, with what the rests of the
--- parts share, is what the parts share. The measure is what is left of both.
+-- parts share, is what the parts share. The measure is what remains of both.
 use Prim.Native.Nat.{_+_, _-_}
 use native.Mathlib.Omega.{arith}
 use lib.ListN.{getD}

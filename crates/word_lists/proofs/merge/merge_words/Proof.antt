@@ -1,5 +1,5 @@
--- `word_lists::merge::merge_words` meets its contract. The invariant: containment of what is left of the parts decides that
--- of the whole, and both rise. The measure is what is left of the second part.
+-- `word_lists::merge::merge_words` meets its contract. The invariant: containment of what remains of the parts decides that
+-- of the whole, and both rise. The measure is what remains of the second part.
 use mathlib.Core.Path.{_≡_, refl, sym, _∙_}
 use mathlib.Core.List.{List}
 use mathlib.Core.Bool.{true, false}
@@ -16,8 +16,8 @@ use Rattle.word_lists.proofs.merge.merge_words.Statement.{statement}
 use Rattle.word_lists.proofs.merge.merge_words.Tie as tie
 
 record Merging (w : List ℕ) (a b c e i j : ℕ) : Type 0 where
-  left : rising (slice i b w) ≡ true
-  right : rising (slice j e w) ≡ true
+  firstRises : rising (slice i b w) ≡ true
+  secondRises : rising (slice j e w) ≡ true
   same : subset (slice i b w) (slice j e w) ≡ subset (slice a b w) (slice c e w)
 
 module _ {w : List ℕ} {a b c e i j : ℕ} (m : Merging w a b c e i j) where
@@ -33,22 +33,22 @@ module _ {w : List ℕ} {a b c e i j : ℕ} (m : Merging w a b c e i j) where
     module _ (other : j < e) where
       merging-low : getD w i 0 < getD w j 0 → false ≡ subset (slice a b w) (slice c e w)
       merging-low h =
-          sym (merge-low w i b j e (first .within) (second .within) more other (m .left) (m .right) h) ∙ m .same
+          sym (merge-low w i b j e (first .within) (second .within) more other (m .firstRises) (m .secondRises) h) ∙ m .same
 
       merging-same : getD w i 0 ≡ getD w j 0 → Merging w a b c e (i + 1) (j + 1)
       merging-same h =
           record {
-            left = rising-next i b w more (first .within) (m .left);
-            right = rising-next j e w other (second .within) (m .right);
-            same = sym (merge-same w i b j e (first .within) (second .within) more other (m .left) (m .right) h) ∙ m .same;
+            firstRises = rising-next i b w more (first .within) (m .firstRises);
+            secondRises = rising-next j e w other (second .within) (m .secondRises);
+            same = sym (merge-same w i b j e (first .within) (second .within) more other (m .firstRises) (m .secondRises) h) ∙ m .same;
           }
 
       merging-high : getD w j 0 < getD w i 0 → Merging w a b c e i (j + 1)
       merging-high h =
           record {
-            left = m .left;
-            right = rising-next j e w other (second .within) (m .right);
-            same = sym (merge-high w i b j e (first .within) (second .within) more other (m .left) (m .right) h) ∙ m .same;
+            firstRises = m .firstRises;
+            secondRises = rising-next j e w other (second .within) (m .secondRises);
+            same = sym (merge-high w i b j e (first .within) (second .within) more other (m .firstRises) (m .secondRises) h) ∙ m .same;
           }
 
 abbrev Inv-loop : tie.InvT-loop
@@ -58,7 +58,7 @@ abbrev μ-loop : tie.MeasureT-loop
 μ-loop work a b c e i₀ j₀ i j = e - j
 
 loop-holds : tie.Need-loop-holds Inv-loop μ-loop
-loop-holds c = record { left = c .pre .0 .rise; right = c .pre .1 .rise; same = refl }
+loop-holds c = record { firstRises = c .pre .0 .rise; secondRises = c .pre .1 .rise; same = refl }
 
 returns : tie.Need-returns Inv-loop μ-loop
 returns c =

@@ -1,5 +1,5 @@
--- `word_lists::merge::skip_higher` meets its contract. The invariant: what is left of the second part rises, and decides
--- containment of the first. The measure is what is left of the second part.
+-- `word_lists::merge::skip_higher` meets its contract. The invariant: what remains of the second part rises, and decides
+-- containment of the first. The measure is what remains of the second part.
 use mathlib.Core.Path.{refl}
 use Prim.Native.Nat.{_-_}
 use native.Mathlib.Omega.{arith}

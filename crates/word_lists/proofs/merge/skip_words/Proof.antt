@@ -1,4 +1,4 @@
--- `word_lists::merge::skip_words` meets its contract. The invariant is `Trimming`; the measure is what is left of the first part.
+-- `word_lists::merge::skip_words` meets its contract. The invariant is `Trimming`; the measure is what remains of the first part.
 use mathlib.Core.Path.{refl}
 use Prim.Native.Nat.{_-_}
 use native.Mathlib.Omega.{arith}
@@ -15,7 +15,7 @@ abbrev μ-loop : tie.MeasureT-loop
 loop-holds : tie.Need-loop-holds Inv-loop μ-loop
 loop-holds c =
     let asked = c .before .pre in
-    record { first = omega arith; second = omega arith; left = asked .0 .rise; right = asked .1 .rise; same = refl }
+    record { first = omega arith; second = omega arith; firstRises = asked .0 .rise; secondRises = asked .1 .rise; same = refl }
 
 skip-higher-requires : tie.Need-skip-higher-requires Inv-loop μ-loop
 skip-higher-requires c κs =
@@ -23,8 +23,8 @@ skip-higher-requires c κs =
     let m = c .before .loop .inv in (
       c .loop-test .taken,
       (
-        record { within = omega (arith, m .first, start .pre .0 .within); rise = m .left },
-        record { within = omega (arith, m .second, start .pre .1 .within); rise = m .right },
+        record { within = omega (arith, m .first, start .pre .0 .within); rise = m .firstRises },
+        record { within = omega (arith, m .second, start .pre .1 .within); rise = m .secondRises },
       ),
     )
 
