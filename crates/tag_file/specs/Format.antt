@@ -15,6 +15,10 @@ tagLength = 12
 abbrev pub headLength : ℕ
 headLength = 5
 
+-- the bytes of a whole record with so many tags
+abbrev pub recordLength : ℕ → ℕ
+recordLength count = headLength + tagLength * count
+
 -- v followed by bytes, as one number, high byte first
 unfoldable pub valueFrom : ℕ → List ℕ → ℕ
 valueFrom v [] = v
