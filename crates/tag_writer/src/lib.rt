@@ -3,7 +3,7 @@
 ghost use mathlib.Core.Path.{_≡_};
 ghost use Prim.Native.Nat.{_+_, _*_, _-_, _≤_};
 ghost use lib.ListN.{length, take, drop, getD};
-ghost use Rattle.tag_file.specs.Format.{tagLength, headLength, tagBytes, mark, recordHead, recordBytes};
+ghost use Rattle.tag_file.specs.Format.{tagLength, headLength, recordLength, tagBytes, mark, recordHead, recordBytes};
 ghost use lib.Seq.{sets};
 ghost use Rattle.sets.specs.Limits.{maxSets, maxEntries, maxSetLength};
 ghost use Rattle.sets.specs.Collections.{between, setsOf, entries};
@@ -129,13 +129,21 @@ fn put_record(
     at: usize,
 )
     requires { ⌜ ItemsFit (now tags) (now items) start end ⌝ }
-    requires { ⌜ (end - start ≤ maxSetLength) × (at + (headLength + tagLength * (end - start)) ≤ length (now file)) ⌝ }
+    requires { ⌜ (end - start ≤ maxSetLength) × (at + recordLength (end - start) ≤ length (now file)) ⌝ }
     ensures { λ r. ⌜ now (file .exit) ≡ sets (now (file .entry)) at
         (recordBytes side number (itemTags (now (tags .entry)) (between start end (now (items .entry))))) ⌝ }
 {
     let count = (end - start) as u8;
     put_head(side, number, count, file, at);
     put_tags(tags, items, start, end, file, at + HEAD_LENGTH);
+}
+
+// The bytes of a record with so many tags.
+fn record_length(count: usize) -> usize
+    requires { ⌜ count ≤ maxSetLength ⌝ }
+    ensures { λ r. ⌜ r ≡ recordLength count ⌝ }
+{
+    HEAD_LENGTH + TAG_LENGTH * count
 }
 
 // The records of a side, by place, go to a place of the file.
@@ -160,7 +168,7 @@ fn put_side(
         let end = ends[k] as usize;
         let number = numbers[k];
         put_record(side, number, tags, items, start, end, file, to);
-        to += HEAD_LENGTH + TAG_LENGTH * (end - start);
+        to += record_length(end - start);
         start = end;
         k += 1;
     }

@@ -6,7 +6,7 @@ use native.Mathlib.Omega.{arith}
 use lib.ListN.{length}
 use Rattle.sets.specs.Collections.{between}
 use Rattle.sets.specs.declared.Side.{Side}
-use Rattle.tag_file.specs.Format.{tagLength, headLength, tagBytes, recordHead, recordBytes}
+use Rattle.tag_file.specs.Format.{headLength, recordLength, tagBytes, recordHead, recordBytes}
 use lib.Seq.{sets}
 use Rattle.tag_writer.specs.Room.{ItemsFit}
 use Rattle.tag_writer.specs.Writer.{itemTags}
@@ -17,7 +17,7 @@ use Rattle.tag_writer.proofs.put_record.Statement.{statement}
 use Rattle.tag_writer.proofs.put_record.Tie as tie
 
 record-put : (side : Side) (number : ℕ) (tags items : List ℕ) (start end : ℕ) (file : List ℕ) (at : ℕ) (file′ file″ : List ℕ)
-    → ItemsFit tags items start end → at + (headLength + tagLength * (end - start)) ≤ length file
+    → ItemsFit tags items start end → at + recordLength (end - start) ≤ length file
     → file′ ≡ sets file at (recordHead side number (end - start))
     → file″ ≡ sets file′ (at + headLength) (tagBytes (itemTags tags (between start end items)))
     → file″ ≡ sets file at (recordBytes side number (itemTags tags (between start end items)))

@@ -10,7 +10,7 @@ use Rattle.sets.specs.declared.Side.{Side}
 use Rattle.sets.specs.declared.Verdict.the-variants.{Good}
 use Rattle.sets.proofs.Between.{length-between}
 use Rattle.sets.proofs.Good.{GoodSet, good-step, good-next}
-use Rattle.tag_file.specs.Format.{tagLength, headLength, recordBytes}
+use Rattle.tag_file.specs.Format.{tagLength, recordLength, recordBytes}
 use lib.Seq.{sets, length-sets}
 use Rattle.tag_writer.specs.Room.{ItemsFit, GoodSide}
 use Rattle.tag_writer.specs.Writer.{itemTags, recordsOf}
@@ -39,7 +39,7 @@ putting-start side tags numbers ends items file at so =
 record Turn (tags items file : List ℕ) (k start end to : ℕ) : Type 0 where
   set : GoodSet (length tags / tagLength) k start end items
   fit : ItemsFit tags items start end
-  room : to + (headLength + tagLength * (end - start)) ≤ length file
+  room : to + recordLength (end - start) ≤ length file
 
 module _ (side : Side) (tags numbers ends items file₀ : List ℕ) (at : ℕ) (file : List ℕ) (k start to : ℕ)
     (whole : GoodSide tags numbers ends items)
@@ -48,7 +48,7 @@ module _ (side : Side) (tags numbers ends items file₀ : List ℕ) (at : ℕ) (
   -- the length of the record at place k
   size : GoodSet (length tags / tagLength) k start (getD ends k 0) items
       → length (recordBytes side (getD numbers k 0) (itemTags tags (between start (getD ends k 0) items)))
-      ≡ headLength + tagLength * (getD ends k 0 - start)
+      ≡ recordLength (getD ends k 0 - start)
   size here =
       length-record side (getD numbers k 0) tags (between start (getD ends k 0) items)
       ∙ rw (length-between start (getD ends k 0) items (here .within))
@@ -69,12 +69,12 @@ module _ (side : Side) (tags numbers ends items file₀ : List ℕ) (at : ℕ) (
         room = omega (arith, so .place, so .long);
       }
 
-  putting-step : (file′ : List ℕ)
+  putting-step : (file′ : List ℕ) (size′ : ℕ)
       → file′ ≡ sets file to (recordBytes side (getD numbers k 0) (itemTags tags (between start (getD ends k 0) items)))
-      → PuttingRecords side tags numbers ends items file₀ at file′ (k + 1) (getD ends k 0)
-      (to + (headLength + tagLength * (getD ends k 0 - start)))
-  putting-step file′ e =
-      let n = size (turn .set) in
+      → size′ ≡ recordLength (getD ends k 0 - start)
+      → PuttingRecords side tags numbers ends items file₀ at file′ (k + 1) (getD ends k 0) (to + size′)
+  putting-step file′ size′ e long =
+      let n = size (turn .set) ∙ sym long in
       let l = split in
       let bytes = recordBytes side (getD numbers k 0) (itemTags tags (between start (getD ends k 0) items)) in
       record {
@@ -139,17 +139,16 @@ put-record-requires c κs =
     let now = now-turn (c .before .before .before) in
     (now .fit, (now .set .short, now .room))
 
-sub-to : tie.Need-sub-to Inv-loop μ-loop
-sub-to c = omega (arith, now-turn (within c) .set .ordered)
+sub-record-length : tie.Need-sub-record-length Inv-loop μ-loop
+sub-record-length c = omega (arith, now-turn (within c) .set .ordered)
 
-mul-to : tie.Need-mul-to Inv-loop μ-loop
-mul-to c = omega (arith, now-turn (within c) .room, begin (within c) .good)
+record-length-requires : tie.Need-record-length-requires Inv-loop μ-loop
+record-length-requires c κs = now-turn (within c) .set .short
 
 add-to : tie.Need-add-to Inv-loop μ-loop
-add-to c = omega (arith, now-turn (within c) .room, begin (within c) .good)
-
-add-to-2 : tie.Need-add-to-2 Inv-loop μ-loop
-add-to-2 c = omega (arith, now-turn (within c) .room, begin (within c) .good)
+add-to c =
+    let p = within (c .before) in
+    omega (arith, c .record-length .ensures, now-turn p .room, begin p .good)
 
 add-k : tie.Need-add-k Inv-loop μ-loop
 add-k c = omega arith
@@ -159,9 +158,9 @@ loop-less c = omega arith
 
 loop-again : tie.Need-loop-again Inv-loop μ-loop
 loop-again c =
-    let p = within c in
-    putting-step _ _ _ _ _ _ _ _ _ _ _ (begin p .pre .0) (begin p .pre .1) (p .loop-test .taken) (p .before .loop .inv) _
-    (c .before .before .put-record .ensures)
+    let p = within (c .before) in
+    putting-step _ _ _ _ _ _ _ _ _ _ _ (begin p .pre .0) (begin p .pre .1) (p .loop-test .taken) (p .before .loop .inv) _ _
+    (c .before .before .before .put-record .ensures) (c .record-length .ensures)
 
 same-length : tie.Need-same-length Inv-loop μ-loop
 same-length c = c .before .loop .inv .long
@@ -184,10 +183,9 @@ put-side-spec =
     mul-number
     shared-slice-read-number
     put-record-requires
-    sub-to
-    mul-to
+    sub-record-length
+    record-length-requires
     add-to
-    add-to-2
     add-k
     loop-less
     loop-again
