@@ -1,4 +1,4 @@
--- Sets of numbers kept as the digits of words of 64 bits: digit j of word w tells whether 64 * w + j is a member.
+-- Inner: sets of numbers kept as the digits of words of 64 bits: digit j of word w tells whether 64 * w + j is a member.
 use Prim.Native.Nat.{ℕ, zero, suc, _*_, _/_, _%_, _^_, _≤_}
 use mathlib.Core.Path.{_≡_}
 use mathlib.Core.List.{List, []}

@@ -33,12 +33,12 @@ module _ (i : Input) (places : ℕ) where
     unfolding orderTest
     test-length other = rw (few, ne-eqb places (i .T) other)
 
-    pub test-sets : places ≡ i .T → setsTest i ≡ orderTest i places
+    pub test-sets : {r : Tested} → places ≡ i .T → r ≡ setsTest i → r ≡ orderTest i places
     unfolding orderTest
-    test-sets long = rw (few, eq-eqb places (i .T) long)
+    test-sets long e = rw (few, eq-eqb places (i .T) long) e
 
   -- its refusals change nothing
-  pub test-keep : (why : Refusal) → orderTest i places ≡ Failed why → clears why ≡ false
+  test-keep : (why : Refusal) → orderTest i places ≡ Failed why → clears why ≡ false
   unfolding orderTest
   test-keep why e = go (ltb maxItems (i .T)) (not (eqb places (i .T))) e
     where

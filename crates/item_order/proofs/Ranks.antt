@@ -36,11 +36,11 @@ module _ (falling : Bool) (T : ℕ) (left right : List (List ℕ)) where
   same-rank i =
       count-same (keyBefore frequencyKey i) (comesBefore falling (frequency left right) i) (upto T) (same-order i)
 
-  pub rank-at : (i : ℕ) → i < T → getD (rankTable falling T left right) i 0 ≡ rankOf falling (frequency left right) T i
+  rank-at : (i : ℕ) → i < T → getD (rankTable falling T left right) i 0 ≡ rankOf falling (frequency left right) T i
   unfolding rankTable
   rank-at i below = getD-table (rankOf falling (frequency left right) T) T i 0 below
 
-  pub length-ranks : length (rankTable falling T left right) ≡ T
+  length-ranks : length (rankTable falling T left right) ≡ T
   unfolding rankTable
   length-ranks = length-table (rankOf falling (frequency left right) T) T
 
@@ -53,7 +53,7 @@ module _ (falling : Bool) (T : ℕ) (left right : List (List ℕ)) where
       (same-rank i ∙ sym (rank-at i (omega arith)) ∙ same ∙ rank-at j below ∙ sym (same-rank j)))
 
   -- an item that comes before another has the lower rank
-  pub ranks-ordered : (i j : ℕ) → i < T → j < T → comesBefore falling (frequency left right) i j ≡ true
+  ranks-ordered : (i j : ℕ) → i < T → j < T → comesBefore falling (frequency left right) i j ≡ true
       → getD (rankTable falling T left right) j 0 < getD (rankTable falling T left right) i 0
   ranks-ordered i j here there e =
       omega (

@@ -10,18 +10,18 @@ use Rattle.tag_file.specs.declared.Loaded.{Loaded}
 use Rattle.tag_file.specs.declared.LoadAnswer.{LoadAnswer}
 use Rattle.tag_file.specs.declared.LoadAnswer.the-variants as load
 use Rattle.tag_file.specs.Records.{records, tagTable}
-use Rattle.tag_file.specs.Loading.{Lists, filled, LoadCall}
+use Rattle.tag_file.specs.Loading.{Lists, filled, loadAnswer}
 use Rattle.tag_file.proofs.ItemCount.{length-tagBytes, length-numbersOf, length-endsOf}
 use Rattle.tag_file.proofs.AnswerLaws.{accepted, room-each}
 use Rattle.kitlist.specs.Places.{tableBytes, Within}
 
-module _ (file : List ℕ) (lent : Lists) (ranks : List ℕ) {after : Lists} {answer : LoadAnswer} {loaded : Loaded}
-    (call : LoadCall file lent after answer) (loads : answer ≡ load.Loaded loaded) where
+module _ (file : List ℕ) (lent : Lists) (ranks : List ℕ) {answer : LoadAnswer} {loaded : Loaded}
+    (right : answer ≡ loadAnswer file lent) (loads : answer ≡ load.Loaded loaded) where
   pub loaded-within : length (lent .tags) ≤ tableBytes → maxItems ≤ length ranks
       → Within loaded (lent .leftNumbers) (lent .leftEnds) (lent .rightNumbers) (lent .rightEnds) ranks
   loaded-within few many =
       let rs = records file in
-      let so = accepted file lent loaded (sym (call .answered) ∙ loads) in
+      let so = accepted file lent loaded (sym right ∙ loads) in
       let room = room-each (filled rs) lent (so .room) in
       let table = length-tagBytes (tagTable rs) in
       subst (λ (l : Loaded). Within l (lent .leftNumbers) (lent .leftEnds) (lent .rightNumbers) (lent .rightEnds) ranks)

@@ -1,6 +1,6 @@
 -- The loader's answer: what an accepted load says of the file and of the lists, when a load is accepted and when it is refused;
 -- what room for all lists says of each; and the lists after a call as one.
-use mathlib.Core.Path.{_≡_, refl, sym, ap, _∙_}
+use mathlib.Core.Path.{_≡_, refl}
 use Prim.Native.Nat.{ℕ, _≤_}
 use mathlib.Core.List.{List}
 use mathlib.Core.Bool.{Bool, true, false, not, _&&_}
@@ -20,7 +20,7 @@ use Rattle.tag_file.specs.declared.LoadAnswer.{LoadAnswer}
 use Rattle.tag_file.specs.declared.LoadAnswer.the-variants as load
 
 -- no fault, room in every list, and the totals
-pub record Accepted (file : List ℕ) (lent : Lists) (totals : Loaded) : Type 0 where
+pub record LoadAccepted (file : List ℕ) (lent : Lists) (totals : Loaded) : Type 0 where
   pub clear : fileFault file ≡ Passed
   pub room : roomFor (filled (records file)) lent ≡ true
   pub counted : totalsOf (records file) ≡ totals
@@ -33,7 +33,7 @@ accepted-if Passed false given totals e = let z : _≡_ {A = ℕ} 0 1 = cc in ab
 accepted-if Passed true given totals e = (refl, (refl, cc))
 
 module _ (file : List ℕ) (lent : Lists) where
-  pub accepted : (totals : Loaded) → loadAnswer file lent ≡ load.Loaded totals → Accepted file lent totals
+  pub accepted : (totals : Loaded) → loadAnswer file lent ≡ load.Loaded totals → LoadAccepted file lent totals
   unfolding loadAnswer
   accepted totals e =
       let parts = accepted-if (fileFault file) (roomFor (filled (records file)) lent) (totalsOf (records file)) totals e in
@@ -54,7 +54,7 @@ module _ (file : List ℕ) (lent : Lists) where
 
 -- ---- room for all lists is room for each
 
-pub record Room (part lent : Lists) : Type 0 where
+pub record RoomForEach (part lent : Lists) : Type 0 where
   pub tags : length (part .tags) ≤ length (lent .tags)
   pub leftNumbers : length (part .leftNumbers) ≤ length (lent .leftNumbers)
   pub leftEnds : length (part .leftEnds) ≤ length (lent .leftEnds)
@@ -63,7 +63,7 @@ pub record Room (part lent : Lists) : Type 0 where
   pub rightEnds : length (part .rightEnds) ≤ length (lent .rightEnds)
   pub rightItems : length (part .rightItems) ≤ length (lent .rightItems)
 
-pub room-each : (part lent : Lists) → roomFor part lent ≡ true → Room part lent
+pub room-each : (part lent : Lists) → roomFor part lent ≡ true → RoomForEach part lent
 unfolding roomFor
 room-each part lent t =
     let a = fits (part .tags) (lent .tags) in

@@ -11,7 +11,7 @@ use lib.Arith.{digits-div, digits-mod}
 use Rattle.tag_file.specs.Format.{valueFrom, bytesOf, tagLength, tagAt}
 
 -- the bytes of a number that is v followed by bytes
-pub bytesOf-valueFrom : (k v : ℕ) (bs : List ℕ) → ((i : ℕ) → i < length bs → getD bs i 0 < 256)
+bytesOf-valueFrom : (k v : ℕ) (bs : List ℕ) → ((i : ℕ) → i < length bs → getD bs i 0 < 256)
     → bytesOf (k + length bs) (valueFrom v bs) ≡ bytesOf k v ++ bs
 unfolding bytesOf valueFrom
 bytesOf-valueFrom k v [] h = rw (add-zero, append-nil)

@@ -3,22 +3,19 @@
 use Prim.Native.Nat.{ℕ}
 use mathlib.Core.Path.{_≡_, refl, sym, ap, _∙_}
 use mathlib.Core.List.{List, [], _∷_, _++_}
-use mathlib.Core.Bool.{Bool, true, false, cond}
+use mathlib.Core.Bool.{Bool, true, false}
 use native.Mathlib.Omega.{arith}
-use lib.Dec.{eqb}
-use lib.ListN.{length}
 use Rattle.sets.specs.Refusals.{clears, refuseIf, unless}
-use Rattle.sets.specs.declared.Side.{Side}
-use Rattle.sets.specs.declared.Side.the-variants.{Left, Right}
 use Rattle.sets.specs.declared.Refusal.{Refusal}
-use Rattle.sets.specs.declared.Refusal.the-variants.{Malformed, NumberUsed, TooMany}
+use Rattle.sets.specs.declared.Refusal.the-variants.{NumberUsed, TooMany}
 use Rattle.sets.specs.declared.Tested.{Tested}
 use Rattle.sets.specs.declared.Tested.the-variants.{Passed, Failed}
-use Rattle.tag_file.specs.Reading.{marked, wholeAt, recordAt, readAt}
+use Rattle.tag_file.specs.Reading.{readAt}
 use Rattle.tag_file.specs.Records.{TagRecord, totalLength, records}
 use Rattle.tag_file.specs.Loading.{numberUsed, tooMany, faultOf, firstFault, refusalOf, fileFault}
 use Rattle.tag_file.specs.declared.ReadAnswer.{ReadAnswer}
-use Rattle.tag_file.specs.declared.ReadAnswer.the-variants.{NoMore, Refused}
+use Rattle.tag_file.specs.declared.ReadAnswer.the-variants.{Record, NoMore, Refused}
+use Rattle.tag_file.proofs.ReadLaws.{read-refused}
 
 -- two tests are passed where both are
 pub both-passed : (first later : Tested) → unless Failed first later ≡ Passed → (first ≡ Passed) × (later ≡ Passed)
@@ -69,20 +66,13 @@ clearing-if : (wrong : Bool) (why : Refusal) → clears why ≡ true → clearin
 clearing-if true why c = c
 clearing-if false why c = refl
 
-clearing-cond : (b : Bool) (x y : ReadAnswer) → clearing (refusalOf x) ≡ true → clearing (refusalOf y) ≡ true
-    → clearing (refusalOf (cond b x y)) ≡ true
-clearing-cond true x y ex ey = ex
-clearing-cond false x y ex ey = ey
-
-clearing-record : (side : Side) (file : List ℕ) (at : ℕ) → clearing (refusalOf (recordAt side file at)) ≡ true
-clearing-record side file at = clearing-cond (wholeAt file at) _ (Refused (Malformed at)) refl refl
-
 clearing-read : (file : List ℕ) (at : ℕ) → clearing (refusalOf (readAt file at)) ≡ true
-unfolding readAt
-clearing-read file at =
-    clearing-cond (eqb at (length file)) NoMore _ refl
-    (clearing-cond (marked Left file at) (recordAt Left file at) _ (clearing-record Left file at)
-    (clearing-cond (marked Right file at) (recordAt Right file at) (Refused (Malformed at)) (clearing-record Right file at) refl))
+clearing-read file at = by-answer (readAt file at) refl
+  where
+    by-answer : (a : ReadAnswer) → readAt file at ≡ a → clearing (refusalOf a) ≡ true
+    by-answer (Record s n c p next) e = refl
+    by-answer NoMore e = refl
+    by-answer (Refused why) e = ap clears (read-refused file at why e)
 
 clearing-first : (seen rs : List TagRecord) (last : Tested) → clearing last ≡ true → clearing (firstFault seen rs last) ≡ true
 unfolding firstFault faultOf

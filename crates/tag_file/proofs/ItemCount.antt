@@ -13,7 +13,7 @@ use Rattle.lists.proofs.Membership.{memb-append}
 use Rattle.lists.proofs.Filtering.{length-keep, memb-keep}
 use Rattle.lists.proofs.Rising.{rising-same, rising-keep}
 use Rattle.sets.specs.declared.Side.{Side}
-use Rattle.tag_file.specs.Format.{bytesOf, tagBytes}
+use Rattle.tag_file.specs.Format.{tagLength, bytesOf, tagBytes}
 use Rattle.tag_file.specs.Records.{TagRecord, sameSide, ofSide, collapse, allTags, tagTable, itemsOf, entriesOf, setsOfSide}
 use Rattle.tag_file.specs.Loading.{numbersOf, endsFrom, endsOf, join, joinedItems}
 use Rattle.tag_file.proofs.Tables.{rising-collapse, memb-collapse}
@@ -50,12 +50,12 @@ unfolding bytesOf
 length-bytesOf zero v = refl
 length-bytesOf (suc n) v = length-append (bytesOf n (v / 256)) (v % 256 ∷ []) ∙ omega (arith, length-bytesOf n (v / 256))
 
-pub length-tagBytes : (tags : List ℕ) → length (tagBytes tags) ≡ 12 * length tags
+pub length-tagBytes : (tags : List ℕ) → length (tagBytes tags) ≡ tagLength * length tags
 unfolding tagBytes
 length-tagBytes [] = refl
-length-tagBytes (t ∷ ts) = length-append (bytesOf 12 t) (tagBytes ts) ∙ omega (arith, length-bytesOf 12 t, length-tagBytes ts)
+length-tagBytes (t ∷ ts) = length-append (bytesOf tagLength t) (tagBytes ts) ∙ omega (arith, length-bytesOf tagLength t, length-tagBytes ts)
 
-pub length-endsFrom : (start : ℕ) (sets : List (List ℕ)) → length (endsFrom start sets) ≡ length sets
+length-endsFrom : (start : ℕ) (sets : List (List ℕ)) → length (endsFrom start sets) ≡ length sets
 unfolding endsFrom
 length-endsFrom start [] = refl
 length-endsFrom start (s ∷ ss) = ap suc (length-endsFrom (start + length s) ss)

@@ -3,22 +3,23 @@
 use mathlib.Core.Path.{_≡_, refl, ap, _∙_}
 use mathlib.Core.List.{List, [], _∷_, _++_}
 use mathlib.Core.Bool.{Bool, true, false, cond}
-use Prim.Native.Nat.{ℕ, zero, suc, _+_, _*_, _≤_}
+use Prim.Native.Nat.{ℕ, zero, suc, _+_, _-_, _<_, _≤_}
 use native.Mathlib.Nat.{add-zero}
 use native.Mathlib.Omega.{arith}
 use borrow.Author.Tests.{leb-true}
 use lib.Dec.{leb, eqb}
-use lib.ListN.{length}
+use lib.ListN.{length, getD}
 use Rattle.lists.specs.Lists.{sum}
 use Rattle.lists.proofs.Bools.{and-right}
 use Rattle.lists.proofs.Summing.{sum-append}
+use Rattle.sets.specs.Limits.{maxSetLength, halfWords}
 use Rattle.sets.specs.declared.Side.{Side}
 use Rattle.sets.specs.declared.Side.the-variants.{Left, Right}
 use Rattle.sets.specs.declared.Refusal.{Refusal}
 use Rattle.sets.specs.declared.Refusal.the-variants.{Malformed}
-use Rattle.tag_file.specs.Format.{tagAt}
-use Rattle.tag_file.specs.Reading.{marked, numberAt, countAt, wholeAt, recordAt, readAt, tagsAt}
-use Rattle.tag_file.specs.Records.{TagRecord, recordLength, totalLength, onward, recordsFrom, recordsAt, sameSide}
+use Rattle.tag_file.specs.Format.{tagLength, headLength, recordLength, tagAt}
+use Rattle.tag_file.specs.Reading.{marked, numberAt, countAt, pastTags, wholeAt, recordAt, readAt, tagsAt}
+use Rattle.tag_file.specs.Records.{TagRecord, totalLength, onward, recordsFrom, recordsAt, sameSide}
 use Rattle.tag_file.specs.declared.ReadAnswer.{ReadAnswer}
 use Rattle.tag_file.specs.declared.ReadAnswer.the-variants.{Record, NoMore, Refused}
 
@@ -33,36 +34,41 @@ same-side Right Right e = refl
 pub length-tagsAt : (n : ℕ) (file : List ℕ) (at : ℕ) → length (tagsAt n file at) ≡ n
 unfolding tagsAt
 length-tagsAt zero file at = refl
-length-tagsAt (suc n) file at = ap suc (length-tagsAt n file (at + 12))
+length-tagsAt (suc n) file at = ap suc (length-tagsAt n file (at + tagLength))
 
-pub tagsAt-last : (n : ℕ) (file : List ℕ) (at : ℕ) → tagsAt (suc n) file at ≡ tagsAt n file at ++ (tagAt file (at + 12 * n) ∷ [])
+pub tagsAt-last : (n : ℕ) (file : List ℕ) (at : ℕ)
+    → tagsAt (suc n) file at ≡ tagsAt n file at ++ (tagAt file (pastTags at n) ∷ [])
 unfolding tagsAt
-tagsAt-last zero file at = let e : at ≡ at + 12 * 0 = omega arith in ap (λ (k : ℕ). tagAt file k ∷ []) e
+tagsAt-last zero file at = let e : at ≡ pastTags at 0 = omega arith in ap (λ (k : ℕ). tagAt file k ∷ []) e
 tagsAt-last (suc n) file at =
-    let e : at + 12 + 12 * n ≡ at + 12 * suc n = omega arith in
+    let e : pastTags (at + tagLength) n ≡ pastTags at (suc n) = omega arith in
     ap (λ (l : List ℕ). tagAt file at ∷ l)
-    (tagsAt-last n file (at + 12) ∙ ap (λ (k : ℕ). tagsAt n file (at + 12) ++ (tagAt file k ∷ [])) e)
+    (tagsAt-last n file (at + tagLength) ∙ ap (λ (k : ℕ). tagsAt n file (at + tagLength) ++ (tagAt file k ∷ [])) e)
 
 -- ---- a whole record that was read
 
 pub record Whole (file : List ℕ) (at n c p next : ℕ) : Type 0 where
   pub number : n ≡ numberAt file at
   pub count : c ≡ countAt file at
-  pub place : p ≡ at + 5
-  pub past : next ≡ p + 12 * c
+  pub place : p ≡ at + headLength
+  pub past : next ≡ pastTags p c
   pub within : next ≤ length file
 
 module _ (file : List ℕ) (at : ℕ) (s : Side) (n c p next : ℕ) where
+  abbrev first : ℕ
+  first = at + headLength
+
+  abbrev end : ℕ
+  end = pastTags first (countAt file at)
+
   whole-found : (side : Side) → wholeAt file at ≡ true
-      → Record side (numberAt file at) (countAt file at) (at + 5) (at + 5 + 12 * countAt file at) ≡ Record s n c p next
-      → Whole file at n c p next
+      → Record side (numberAt file at) (countAt file at) first end ≡ Record s n c p next → Whole file at n c p next
   whole-found side t e =
-      let room = leb-true (at + 5 + 12 * countAt file at) (length file)
-      (and-right (leb (at + 5) (length file)) (leb (at + 5 + 12 * countAt file at) (length file)) t) in
+      let room = leb-true end (length file) (and-right (leb first (length file)) (leb end (length file)) t) in
       let number : n ≡ numberAt file at = cc in
       let count : c ≡ countAt file at = cc in
-      let place : p ≡ at + 5 = cc in
-      let past : next ≡ at + 5 + 12 * countAt file at = cc in
+      let place : p ≡ first = cc in
+      let past : next ≡ end = cc in
       record { number = number; count = count; place = place; past = omega arith; within = omega arith }
 
   refused-not : (why : Refusal) → Refused why ≡ Record s n c p next → Whole file at n c p next
@@ -75,8 +81,7 @@ module _ (file : List ℕ) (at : ℕ) (s : Side) (n c p next : ℕ) where
   whole-of side e = pick (wholeAt file at) refl e
     where
       pick : (b : Bool) → wholeAt file at ≡ b
-          → cond b (Record side (numberAt file at) (countAt file at) (at + 5) (at + 5 + 12 * countAt file at))
-          (Refused (Malformed at))
+          → cond b (Record side (numberAt file at) (countAt file at) first end) (Refused (Malformed at))
           ≡ Record s n c p next
           → Whole file at n c p next
       pick true t e = whole-found side t e
@@ -107,10 +112,36 @@ module _ (file : List ℕ) (at : ℕ) (s : Side) (n c p next : ℕ) where
       at-end true e = no-more-not e
       at-end false e = left (marked Left file at) e
 
+-- what is read of a whole record by place: it goes on, within the file, and a file of bytes has small numbers
+module _ (file : List ℕ) (at : ℕ) {s : Side} {n c p next : ℕ} (e : readAt file at ≡ Record s n c p next) where
+  pub read-after : at < p
+  read-after = omega (arith, read-whole file at s n c p next e .place)
+
+  pub read-past : next ≡ pastTags p c
+  read-past = read-whole file at s n c p next e .past
+
+  pub read-within : next ≤ length file
+  read-within = read-whole file at s n c p next e .within
+
+  pub read-length : next ≡ at + recordLength c
+  read-length =
+      let w = read-whole file at s n c p next e in
+      omega (arith, w .place, w .past)
+
+  pub read-less : length file - next < length file - at
+  read-less = omega (arith, read-length, read-within)
+
+  module _ (byte : (i : ℕ) → getD file i 0 < 256) where
+    pub read-number : n < halfWords
+    read-number = omega (arith, read-whole file at s n c p next e .number, byte (at + 2), byte (at + 3))
+
+    pub read-count : c ≤ maxSetLength
+    read-count = omega (arith, read-whole file at s n c p next e .count, byte (at + 4))
+
 -- ---- the walk
 
 -- with fuel for every byte that is left, the records are the same
-pub records-fuel : (f g : ℕ) (file : List ℕ) (at : ℕ) → length file ≤ at + f → length file ≤ at + g
+records-fuel : (f g : ℕ) (file : List ℕ) (at : ℕ) → length file ≤ at + f → length file ≤ at + g
     → recordsFrom f file at ≡ recordsFrom g file at
 unfolding recordsFrom
 records-fuel zero zero file at hf hg = refl
@@ -158,6 +189,9 @@ module _ (file : List ℕ) (at : ℕ) where
   records-refused why e = open-walk ∙ rw e
 
 -- the place after one more record
-pub totalLength-last : (rs : List TagRecord) (r : TagRecord) → totalLength (rs ++ (r ∷ [])) ≡ totalLength rs + recordLength r
+pub totalLength-last : (rs : List TagRecord) (r : TagRecord)
+    → totalLength (rs ++ (r ∷ [])) ≡ totalLength rs + recordLength (length (r .tags))
 unfolding sum
-totalLength-last rs r = sum-append recordLength rs (r ∷ []) ∙ ap (λ (k : ℕ). totalLength rs + k) (add-zero (recordLength r))
+totalLength-last rs r =
+    sum-append (λ (q : TagRecord). recordLength (length (q .tags))) rs (r ∷ [])
+    ∙ ap (λ (k : ℕ). totalLength rs + k) (add-zero (recordLength (length (r .tags))))

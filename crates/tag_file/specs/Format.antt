@@ -15,6 +15,10 @@ tagLength = 12
 abbrev pub headLength : ℕ
 headLength = 5
 
+-- the bytes of a whole record with so many tags
+abbrev pub recordLength : ℕ → ℕ
+recordLength count = headLength + tagLength * count
+
 -- v followed by bytes, as one number, high byte first
 unfoldable pub valueFrom : ℕ → List ℕ → ℕ
 valueFrom v [] = v
@@ -43,7 +47,10 @@ abbrev pub mark : Side → List ℕ
 mark Left = 0x4B ∷ 0x54 ∷ []
 mark Right = 0x53 ∷ 0x4B ∷ []
 
--- a whole record: mark, number and count, then the tags
+-- a record before its tags, by how many there are: mark, number and count
+abbrev pub recordHead : Side → ℕ → ℕ → List ℕ
+recordHead side number count = mark side ++ (number / 256 ∷ number % 256 ∷ count ∷ [])
+
+-- a whole record: its head, then the tags
 abbrev pub recordBytes : Side → ℕ → List ℕ → List ℕ
-recordBytes side number tags =
-    mark side ++ (number / 256 ∷ number % 256 ∷ length tags ∷ []) ++ tagBytes tags
+recordBytes side number tags = recordHead side number (length tags) ++ tagBytes tags

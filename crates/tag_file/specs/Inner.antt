@@ -1,4 +1,4 @@
--- What the inner functions ask and promise, where it has several parts.
+-- Inner: what the functions of the reader ask and promise, where it has several parts.
 use Prim.Native.Nat.{ℕ, _<_}
 use mathlib.Core.Path.{_≡_}
 use mathlib.Core.List.{List}

@@ -1,7 +1,7 @@
 -- The records of a file as a list, and what the loader makes of such a list: the tag table and the sets. Document 01, "Tag file":
 -- "Item numbers follow the rising order of distinct tags"; "repeats allowed and collapsed". A set's items are found through the
 -- table, and nothing here is sorted but the table, by insertion.
-use Prim.Native.Nat.{ℕ, zero, suc, _+_, _*_}
+use Prim.Native.Nat.{ℕ, zero, suc}
 use mathlib.Core.List.{List, [], _∷_, _++_, map}
 use mathlib.Core.Bool.{Bool, true, false, cond}
 use lib.Dec.{eqb, ltb}
@@ -9,7 +9,7 @@ use lib.ListN.{length, getD}
 use Rattle.lists.specs.Lists.{keep, memb, sum, upto}
 use Rattle.sets.specs.declared.Side.{Side}
 use Rattle.sets.specs.declared.Side.the-variants.{Left, Right}
-use Rattle.tag_file.specs.Format.{tagLength, headLength}
+use Rattle.tag_file.specs.Format.{recordLength}
 use Rattle.tag_file.specs.Reading.{readAt, tagsAt}
 use Rattle.tag_file.specs.declared.ReadAnswer.{ReadAnswer}
 use Rattle.tag_file.specs.declared.ReadAnswer.the-variants.{Record, NoMore, Refused}
@@ -20,13 +20,9 @@ pub record TagRecord : Type 0 where
   pub number : ℕ
   pub tags : List ℕ
 
--- the bytes of a record
-abbrev pub recordLength : TagRecord → ℕ
-recordLength r = headLength + tagLength * length (r .tags)
-
 -- the bytes of records that follow each other: the place of the record after them
 abbrev pub totalLength : List TagRecord → ℕ
-totalLength rs = sum recordLength rs
+totalLength rs = sum (λ r. recordLength (length (r .tags))) rs
 
 -- the record of an answer, then those that go on from the next place; none where no whole record was read
 abbrev pub onward : ReadAnswer → List ℕ → (ℕ → List TagRecord) → List TagRecord

@@ -4,6 +4,12 @@ use sets::Refusal;
 use sets::Side;
 use sets::head_of;
 use sets::side_word;
+
+// The bytes of a tag.
+pub const TAG_LENGTH: usize = 12;
+// The bytes of a record before its tags: mark, number, count.
+pub const HEAD_LENGTH: usize = 5;
+
 // How much a loader filled: sets and item entries a side, and tags.
 pub struct Loaded {
     pub left_sets: usize,
@@ -22,6 +28,7 @@ pub enum LoadAnswer {
 ghost use mathlib.Core.Path.{_≡_};
 ghost use Prim.Native.Nat.{_+_, _≤_, _<_};
 ghost use lib.ListN.{length};
+ghost use Rattle.tag_file.specs.Format.{headLength};
 ghost use Rattle.tag_file.specs.Reading.{readAt, recordAt, readWords};
 ghost use Rattle.tag_file.specs.Loading.{loadWords};
 ghost use Rattle.tag_file.specs.Inner.{ByteAt};
@@ -104,21 +111,21 @@ pub fn byte_at(file: &[u8], at: usize) -> usize
 
 // A record whose mark is that of the side, and whose head is whole.
 fn record_at(side: Side, file: &[u8], at: usize) -> ReadAnswer
-    requires { ⌜ at + 5 ≤ length (now file) ⌝ }
+    requires { ⌜ at + headLength ≤ length (now file) ⌝ }
     ensures { λ r. ⌜ r ≡ recordAt side (now (file .entry)) at ⌝ }
 {
     let high = byte_at(file, at + 2);
     let low = byte_at(file, at + 3);
     let count = byte_at(file, at + 4);
-    let tags = at + 5;
+    let tags = at + HEAD_LENGTH;
     let room = file.len() - tags;
-    if 12 * count <= room {
+    if TAG_LENGTH * count <= room {
         ReadAnswer::Record {
             side,
             number: (high * 256 + low) as u16,
             count,
             tags,
-            next: tags + 12 * count,
+            next: tags + TAG_LENGTH * count,
         }
     } else {
         ReadAnswer::Refused(Refusal::Malformed(at))
@@ -136,7 +143,7 @@ pub fn read_at(file: &[u8], at: usize) -> ReadAnswer
     if at > len {
         return ReadAnswer::Refused(Refusal::Malformed(at));
     }
-    if len - at < 5 {
+    if len - at < HEAD_LENGTH {
         return ReadAnswer::Refused(Refusal::Malformed(at));
     }
     let first = byte_at(file, at);

@@ -3,7 +3,7 @@
 use mathlib.Core.Path.{_≡_, refl, ap, subst, _∙_}
 use mathlib.Core.List.{List, [], _∷_, _++_}
 use mathlib.Core.Bool.{Bool, true, false, _||_}
-use Prim.Native.Nat.{ℕ, zero, suc, _+_, _-_, _*_, _<_, _≤_}
+use Prim.Native.Nat.{ℕ, zero, suc, _+_, _<_, _≤_}
 use native.Mathlib.Nat.{not-suc-le-zero, le-of-suc-le-suc}
 use native.Mathlib.Omega.{arith}
 use borrow.Author.Tests.{eq-eqb}
@@ -15,37 +15,38 @@ use Rattle.lists.proofs.Bools.{or-left, or-right}
 use Rattle.lists.proofs.Membership.{memb-append}
 use Rattle.lists.proofs.Writing.{Writing, writing-start, writing-room, writing-step, writing-end, written-whole}
 use Rattle.bit_sets.specs.BitSets.{members}
+use Rattle.sets.specs.Limits.{maxItems, maxEntries}
 use Rattle.sets.specs.Lent.{filledOver}
 use Rattle.sets.specs.declared.Side.{Side}
-use Rattle.tag_file.specs.Format.{tagAt}
-use Rattle.tag_file.specs.Reading.{readAt, tagsAt}
+use Rattle.tag_file.specs.Format.{tagLength, tagAt}
+use Rattle.tag_file.specs.Reading.{readAt, pastTags, tagsAt}
 use Rattle.tag_file.specs.Records.{TagRecord, sameSide, recordsAt, records, allTags, tagTable, itemsOf, setsOfSide}
 use Rattle.tag_file.specs.Loading.{numbersOf, endsFrom, endsOf, join, joinedItems}
 use Rattle.tag_file.specs.declared.ReadAnswer.the-variants.{Record}
-use Rattle.tag_file.proofs.RecordLaws.{read-whole, records-next}
+use Rattle.tag_file.proofs.RecordLaws.{read-past, read-within, records-next}
 use Rattle.tag_file.proofs.Tables.{memb-collapse}
 use Rattle.tag_index.specs.Index.{tableOf, Sorted, Ranked}
 use Rattle.tag_index.proofs.Ids.{sorted-size}
-use Rattle.tag_fill.specs.Fill.{Unmarked, Marking, Known, RoomForOne, OneFilled, FillReady}
+use Rattle.tag_fill.specs.Fill.{markWords, Unmarked, Marking, TagsKnown, RoomForOne, OneFilled, FillReady}
 use Rattle.tag_fill.specs.declared.Filled.{Filled}
 use Rattle.tag_fill.proofs.Marks.{unmarked-zeros, marked-items}
 use Rattle.tag_fill.proofs.Runs.{join-one, numbers-cons, sets-cons, join-onto, ends-onto}
 
 -- a tag of a record is among its tags
-memb-tagsAt : (n : ℕ) (file : List ℕ) (at k : ℕ) → k < n → memb (tagAt file (at + 12 * k)) (tagsAt n file at) ≡ true
+memb-tagsAt : (n : ℕ) (file : List ℕ) (at k : ℕ) → k < n → memb (tagAt file (pastTags at k)) (tagsAt n file at) ≡ true
 unfolding tagsAt memb
 memb-tagsAt zero file at k h = absurd (not-suc-le-zero h)
 memb-tagsAt (suc n) file at zero h =
-    let e : at + 12 * 0 ≡ at = omega arith in
-    or-left (eqb (tagAt file (at + 12 * 0)) (tagAt file at)) (memb (tagAt file (at + 12 * 0)) (tagsAt n file (at + 12)))
-    (eq-eqb (tagAt file (at + 12 * 0)) (tagAt file at) (ap (tagAt file) e))
+    let e : pastTags at 0 ≡ at = omega arith in
+    or-left (eqb (tagAt file (pastTags at 0)) (tagAt file at)) (memb (tagAt file (pastTags at 0)) (tagsAt n file (at + tagLength)))
+    (eq-eqb (tagAt file (pastTags at 0)) (tagAt file at) (ap (tagAt file) e))
 memb-tagsAt (suc n) file at (suc k) h =
-    let e : at + 12 + 12 * k ≡ at + 12 * suc k = omega arith in
-    or-right (eqb (tagAt file (at + 12 * suc k)) (tagAt file at)) (memb (tagAt file (at + 12 * suc k)) (tagsAt n file (at + 12)))
-    (subst (λ (m : ℕ). memb (tagAt file m) (tagsAt n file (at + 12)) ≡ true) e
-    (memb-tagsAt n file (at + 12) k (le-of-suc-le-suc h)))
+    let rest = tagsAt n file (at + tagLength) in
+    let e : pastTags (at + tagLength) k ≡ pastTags at (suc k) = omega arith in
+    or-right (eqb (tagAt file (pastTags at (suc k))) (tagAt file at)) (memb (tagAt file (pastTags at (suc k))) rest)
+    (subst (λ (m : ℕ). memb (tagAt file m) rest ≡ true) e (memb-tagsAt n file (at + tagLength) k (le-of-suc-le-suc h)))
 
-pub record Filling (file : List ℕ) (side : Side) (numbers₀ ends₀ items₀ : List ℕ)
+pub record SideFilling (file : List ℕ) (side : Side) (numbers₀ ends₀ items₀ : List ℕ)
     (marks numbers ends items : List ℕ) (done : Filled) (at : ℕ) : Type 0 where
   pub for-numbers : Writing numbers₀ 0 (numbersOf side (records file)) numbers (done .sets) (numbersOf side (recordsAt file at))
   pub for-ends : Writing ends₀ 0 (endsOf side (records file)) ends (done .sets)
@@ -55,20 +56,20 @@ pub record Filling (file : List ℕ) (side : Side) (numbers₀ ends₀ items₀ 
   pub held : (y : ℕ) → memb y (allTags (recordsAt file at)) ≡ true → memb y (tagTable (records file)) ≡ true
   pub unmarked : Unmarked marks
 
-pub filling-start : {file heads tails : List ℕ} {n : ℕ} {order ranks : List ℕ} {side : Side} {numbers ends items : List ℕ}
+pub side-filling-start : {file heads tails : List ℕ} {n : ℕ} {order ranks : List ℕ} {side : Side} {numbers ends items : List ℕ}
     → FillReady file heads tails n order ranks side numbers ends items
-    → Filling file side numbers ends items (replicate 64 0) numbers ends items (record { sets = 0; entries = 0 }) 0
-filling-start {file} {heads} {tails} {n} {order} {ranks} {side} {numbers} {ends} {items} r =
+    → SideFilling file side numbers ends items (replicate markWords 0) numbers ends items (record { sets = 0; entries = 0 }) 0
+side-filling-start {file} {heads} {tails} {n} {order} {ranks} {side} {numbers} {ends} {items} r =
     record {
       for-numbers = writing-start numbers 0 (numbersOf side (records file)) (omega (arith, r .for-numbers));
       for-ends = writing-start ends 0 (endsOf side (records file)) (omega (arith, r .for-ends));
       for-items = writing-start items 0 (joinedItems side (records file)) (omega (arith, r .for-items));
       held = λ y m. memb-collapse y (allTags (records file)) ∙ m;
-      unmarked = unmarked-zeros 64 refl;
+      unmarked = unmarked-zeros markWords refl;
     }
 
 module _ {file : List ℕ} {side : Side} {numbers₀ ends₀ items₀ marks numbers ends items : List ℕ} {done : Filled} {at : ℕ}
-    (f : Filling file side numbers₀ ends₀ items₀ marks numbers ends items done at) where
+    (f : SideFilling file side numbers₀ ends₀ items₀ marks numbers ends items done at) where
   module _ (stop : recordsAt file at ≡ []) where
     pub filled-numbers : numbers ≡ filledOver (numbersOf side (records file)) numbers₀
     unfolding keep
@@ -125,33 +126,27 @@ module _ {file : List ℕ} {side : Side} {numbers₀ ends₀ items₀ marks numb
     unfolding allTags
     tags-next y = ap (λ (rs : List TagRecord). memb y (allTags rs)) rest ∙ memb-append y (tagsAt c file p) later
 
-    pub filling-less : length file - next < length file - at
-    filling-less =
-        let w = read-whole file at kind n c p next e in
-        omega (arith, w .place, w .past, w .within)
-
     pub filling-known : {heads tails : List ℕ} {m : ℕ} {order ranks : List ℕ} → Sorted heads tails m order → Ranked m order ranks
-        → tableOf heads tails m order ≡ table → m ≤ 4096 → Known file heads tails m order ranks p c
+        → tableOf heads tails m order ≡ table → m ≤ maxItems → TagsKnown file heads tails m order ranks p c
     filling-known sorted ranked same small =
-        let w = read-whole file at kind n c p next e in
         record {
           sorted = sorted;
           ranked = ranked;
           small = small;
-          inside = omega (arith, w .past, w .within);
+          inside = omega (arith, read-past file at e, read-within file at e);
           known = λ k h.
-              let x = tagAt file (p + 12 * k) in
+              let x = tagAt file (pastTags p k) in
               ap (memb x) same
               ∙ f .held x (tags-next x ∙ or-left (memb x (tagsAt c file p)) (memb x later) (memb-tagsAt c file p k h));
         }
 
     -- the items of the record are those of its tags that are marked
     pub filling-items : {heads tails : List ℕ} {m : ℕ} {order got : List ℕ} → Sorted heads tails m order
-        → tableOf heads tails m order ≡ table → m ≤ 4096 → Marking file heads tails m order p c got → members got ≡ new
+        → tableOf heads tails m order ≡ table → m ≤ maxItems → Marking file heads tails m order p c got → members got ≡ new
     filling-items sorted same small marking =
         marked-items marking (omega (arith, sorted-size sorted)) ∙ ap (λ (t : List ℕ). itemsOf t (tagsAt c file p)) same
 
-    pub filling-room : length (joinedItems side (records file)) ≤ 65535 → sameSide side kind ≡ true
+    pub filling-room : length (joinedItems side (records file)) ≤ maxEntries → sameSide side kind ≡ true
         → RoomForOne (done .sets) (done .entries) new numbers ends items
     filling-room few mine =
         let a = writing-room (f .for-numbers) (n ∷ []) (numbersOf side (recordsAt file next)) (rw mine at numbers-next) in
@@ -171,7 +166,7 @@ module _ {file : List ℕ} {side : Side} {numbers₀ ends₀ items₀ marks numb
         → Put numbers (done .sets) (onto mine n []) (r .sets) numbers′
         → Put ends (done .sets) (onto mine (done .entries + length new) []) (r .sets) ends′
         → Put items (done .entries) (join (onto mine new [])) (r .entries) items′
-        → Unmarked marks′ → Filling file side numbers₀ ends₀ items₀ marks′ numbers′ ends′ items′ r next
+        → Unmarked marks′ → SideFilling file side numbers₀ ends₀ items₀ marks′ numbers′ ends′ items′ r next
     filling-by mine is {r} put-number put-end put-items none =
         record {
           for-numbers = writing-step (f .for-numbers) (rw is at numbers-next) put-number;
@@ -183,10 +178,10 @@ module _ {file : List ℕ} {side : Side} {numbers₀ ends₀ items₀ marks numb
 
     pub filling-own : sameSide side kind ≡ true → {r : Filled} {marks′ numbers′ ends′ items′ : List ℕ}
         → OneFilled (done .sets) (done .entries) n new numbers ends items r numbers′ ends′ items′
-        → Unmarked marks′ → Filling file side numbers₀ ends₀ items₀ marks′ numbers′ ends′ items′ r next
+        → Unmarked marks′ → SideFilling file side numbers₀ ends₀ items₀ marks′ numbers′ ends′ items′ r next
     filling-own is o none = filling-by true is (o .put-number) (o .put-end) (rw join-one (o .put-items)) none
 
-    pub filling-other : sameSide side kind ≡ false → Filling file side numbers₀ ends₀ items₀ marks numbers ends items done next
+    pub filling-other : sameSide side kind ≡ false → SideFilling file side numbers₀ ends₀ items₀ marks numbers ends items done next
     unfolding join
     filling-other is =
         filling-by false is (record { written = refl; past = omega arith }) (record { written = refl; past = omega arith })

@@ -8,7 +8,8 @@ use lib.ListN.{length, getD, set, drop, length-set, drop-of-length-le}
 use lib.Seq.{drop-cons, sets, set-comm}
 use Rattle.lists.specs.Writing.{Put}
 use Rattle.lists.proofs.Filling.{sets-append}
-use Rattle.tag_file.specs.Format.{bytesOf, tagBytes}
+use Rattle.sets.specs.Limits.{fullWords}
+use Rattle.tag_file.specs.Format.{tagLength, bytesOf, tagBytes}
 use Rattle.tag_file.proofs.ItemCount.{length-bytesOf}
 
 -- a store beyond a run may come before it
@@ -19,18 +20,18 @@ sets-past l at i v (x ∷ run) past =
     ∙ sets-past (set l at x) (suc at) i v run (omega arith)
 
 -- of the bytes of a number the first `left` are still to be written, and `rest` has them
-pub record BytesLeft (was : List ℕ) (at width number : ℕ) (is : List ℕ) (rest left : ℕ) : Type 0 where
+pub record PuttingBytes (was : List ℕ) (at width number : ℕ) (is : List ℕ) (rest left : ℕ) : Type 0 where
   pub written : sets is at (bytesOf left rest) ≡ sets was at (bytesOf width number)
   pub within : left ≤ width
   pub same : length is ≡ length was
 
-pub bytes-start : (was : List ℕ) (at width number : ℕ) → BytesLeft was at width number was number width
-bytes-start was at width number = record { written = refl; within = omega arith; same = refl }
+pub putting-start : (was : List ℕ) (at width number : ℕ) → PuttingBytes was at width number was number width
+putting-start was at width number = record { written = refl; within = omega arith; same = refl }
 
-module _ {was : List ℕ} {at width number : ℕ} {is : List ℕ} {rest left : ℕ} (b : BytesLeft was at width number is rest left) where
-  pub bytes-step : 0 < left → BytesLeft was at width number (set is (at + (left - 1)) (rest % 256)) (rest / 256) (left - 1)
+module _ {was : List ℕ} {at width number : ℕ} {is : List ℕ} {rest left : ℕ} (b : PuttingBytes was at width number is rest left) where
+  pub putting-step : 0 < left → PuttingBytes was at width number (set is (at + (left - 1)) (rest % 256)) (rest / 256) (left - 1)
   unfolding bytesOf
-  bytes-step some =
+  putting-step some =
       let before = left - 1 in
       let high = bytesOf before (rest / 256) in
       let long = length-bytesOf before (rest / 256) in
@@ -45,19 +46,19 @@ module _ {was : List ℕ} {at width number : ℕ} {is : List ℕ} {rest left : �
         same = length-set is (at + before) (rest % 256) ∙ b .same;
       }
 
-  pub bytes-end : left ≡ 0 → Put was at (bytesOf width number) (at + width) is
+  pub putting-end : left ≡ 0 → Put was at (bytesOf width number) (at + width) is
   unfolding bytesOf
-  bytes-end none =
+  putting-end none =
       record {
         written = ap (λ (k : ℕ). sets is at (bytesOf k rest)) (sym none) ∙ b .written;
         past = ap (λ (k : ℕ). at + k) (sym (length-bytesOf width number));
       }
 
 -- the bytes of a tag are those of its head and its tail
-pub tag-parts : (head tail : ℕ) → tail < 4294967296 → bytesOf 12 (head * 4294967296 + tail) ≡ bytesOf 8 head ++ bytesOf 4 tail
+pub tag-parts : (head tail : ℕ) → tail < fullWords → bytesOf tagLength (head * fullWords + tail) ≡ bytesOf 8 head ++ bytesOf 4 tail
 unfolding bytesOf
 tag-parts head tail small =
-    let v = head * 4294967296 + tail in
+    let v = head * fullWords + tail in
     let high : v / 256 / 256 / 256 / 256 ≡ head = omega arith in
     let a : v / 256 / 256 / 256 % 256 ≡ tail / 256 / 256 / 256 % 256 = omega arith in
     let b : v / 256 / 256 % 256 ≡ tail / 256 / 256 % 256 = omega arith in
@@ -67,7 +68,7 @@ tag-parts head tail small =
 
 -- the tags that are left of a table, the first in front
 pub table-next : (table : List ℕ) (i : ℕ) → i < length table
-    → tagBytes (drop i table) ≡ bytesOf 12 (getD table i 0) ++ tagBytes (drop (i + 1) table)
+    → tagBytes (drop i table) ≡ bytesOf tagLength (getD table i 0) ++ tagBytes (drop (i + 1) table)
 unfolding tagBytes
 table-next table i h = rw (drop-cons table i 0 h, add-one i)
 

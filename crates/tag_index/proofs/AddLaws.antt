@@ -3,7 +3,7 @@
 use mathlib.Core.Path.{_≡_, refl, sym, ap, subst, _∙_}
 use mathlib.Core.List.{List, [], _∷_, _++_}
 use mathlib.Core.Bool.{Bool, true, false, not, _||_, or-false}
-use Prim.Native.Nat.{ℕ, _+_, _*_, _<_, _≤_}
+use Prim.Native.Nat.{ℕ, _+_, _<_, _≤_}
 use native.Mathlib.Numerals.{add-one}
 use native.Mathlib.Omega.{arith}
 use borrow.Author.Tests.{le-leb, lt-leb, eq-eqb, ne-eqb, eqb-true, eqb-false, ltb-true, ltb-false}
@@ -14,21 +14,22 @@ use Rattle.lists.specs.Lists.{one, memb, rising}
 use Rattle.lists.proofs.Bools.{by-test, true-false, refuted, or-right}
 use Rattle.lists.proofs.Membership.{memb-append, memb-place}
 use Rattle.lists.proofs.Rising.{rising-below}
-use Rattle.tag_file.specs.Format.{tagAt}
-use Rattle.tag_file.specs.Reading.{tagsAt}
+use Rattle.tag_file.specs.Format.{tagAt, tagLength}
+use Rattle.tag_file.specs.Reading.{tagsAt, pastTags}
 use Rattle.tag_file.specs.Records.{insert, insertAll, collapse}
 use Rattle.tag_file.proofs.Tables.{three-ways, memb-insert, rising-insert, length-insert, insert-known, insert-new}
 use Rattle.tag_file.proofs.Tables.{insertAll-last, length-insertAll-bound, rising-collapse, memb-collapse}
 use Rattle.tag_file.proofs.RecordLaws.{length-tagsAt, tagsAt-last}
-use Rattle.tag_index.specs.Index.{tagOf, tableOf, tagValue, Lower, Seen, NewTag, Adding, OneMore, Ready, AllAdded}
+use Rattle.tag_index.specs.Index.{tagOfId, tableOf, tagValue, Lower, Seen, NewTag, Adding, OneMore, AddReady, AllAdded}
+use Rattle.tag_index.specs.Index.{indexRoom}
 use Rattle.tag_index.specs.declared.Tag.{Tag}
-use Rattle.tag_index.proofs.Ids.{position, sorted-size, sorted-at, sorted-lower, same-id}
+use Rattle.tag_index.proofs.Ids.{id-position, sorted-size, sorted-at, sorted-lower, same-id}
 use Rattle.tag_index.proofs.Ids.{last-id, listed-put, tag-other, tag-this, table-put}
 
 -- ---- one more tag at the end of a list of tags
 
 pub tagsAt-next : (k : ℕ) (file : List ℕ) (start : ℕ)
-    → tagsAt (k + 1) file start ≡ tagsAt k file start ++ (tagAt file (start + 12 * k) ∷ [])
+    → tagsAt (k + 1) file start ≡ tagsAt k file start ++ (tagAt file (pastTags start k) ∷ [])
 tagsAt-next k file start = ap (λ (m : ℕ). tagsAt m file start) (add-one k) ∙ tagsAt-last k file start
 
 memb-last : (y : ℕ) (xs : List ℕ) (x : ℕ) → memb y (xs ++ (x ∷ [])) ≡ (memb y xs || eqb y x)
@@ -46,12 +47,12 @@ not-leb a b =
     by-test (ltb b a) (λ t. rw (lt-leb a b (ltb-true b a t)) (sym t))
     (λ f. rw (le-leb a b (ltb-false b a f)) (sym f))
 
--- ---- the tag at place start + 12 * k
+-- ---- the tag at place pastTags start k
 
 module _ {file heads tails : List ℕ} {start k tags fresh : ℕ} {order seen : List ℕ}
-    (a : Adding file heads tails start k tags fresh order seen) (inside : start + 12 * k + 12 ≤ length file) where
+    (a : Adding file heads tails start k tags fresh order seen) (inside : pastTags start k + tagLength ≤ length file) where
   abbrev place : ℕ
-  place = start + 12 * k
+  place = pastTags start k
 
   abbrev x : ℕ
   x = tagAt file place
@@ -85,7 +86,7 @@ module _ {file heads tails : List ℕ} {start k tags fresh : ℕ} {order seen : 
       here false f =
           a .held y (sym (or-false (memb y done)) ∙ ap (λ (b : Bool). memb y done || b) (sym f) ∙ sym (memb-next y) ∙ m)
 
-  module _ (id : ℕ) (h : id < tags) (e : tagOf heads tails id ≡ x) where
+  module _ (id : ℕ) (h : id < tags) (e : tagOfId heads tails id ≡ x) where
     known : OneMore file start k tags heads tails order tags (fresh + one (ltb (getD seen id 0) start))
         heads tails order (set seen id place)
     known =
@@ -94,9 +95,9 @@ module _ {file heads tails : List ℕ} {start k tags fresh : ℕ} {order seen : 
             sorted = a .sorted;
             wide = length-set seen id place ∙ a .wide;
             inside = omega arith;
-            before = each (λ q y. q < start + 12 * (k + 1)) (omega arith) (λ j g ne. omega (arith, a .before j g));
+            before = each (λ q y. q < pastTags start (k + 1)) (omega arith) (λ j g ne. omega (arith, a .before j g));
             marks = each (λ q y. leb start q ≡ memb y (tagsAt (k + 1) file start)) mark-this
-                (λ j g ne. mark-other (getD seen j 0) (tagOf heads tails j)
+                (λ j g ne. mark-other (getD seen j 0) (tagOfId heads tails j)
                 (λ q. ne (same-id (a .sorted) j id g h (q ∙ sym e))) (a .marks j g));
             held = held-next table (sym kept);
             counted = counted-next (ap (λ (b : Bool). fresh + one b)
@@ -108,31 +109,31 @@ module _ {file heads tails : List ℕ} {start k tags fresh : ℕ} {order seen : 
       where
         kept : insert x table ≡ table
         kept =
-            let p = position (a .sorted .listed) id h in
-            let here : tagOf heads tails (getD order (p .at) 0) ≡ x = ap (tagOf heads tails) (p .here) ∙ e in
+            let p = id-position (a .sorted .listed) id h in
+            let here : tagOfId heads tails (getD order (p .at) 0) ≡ x = ap (tagOfId heads tails) (p .here) ∙ e in
             insert-known x table (p .at) (omega (arith, p .below, sorted-size (a .sorted)))
             (sorted-lower (a .sorted) (p .at) x (p .below) here .below)
             (sorted-at (a .sorted) (p .at) (p .below) ∙ here)
 
-        each : (P : ℕ → ℕ → Type 0) → P place x → ((j : ℕ) → j < tags → (j ≡ id → ⊥) → P (getD seen j 0) (tagOf heads tails j))
-            → (j : ℕ) → j < tags → P (getD (set seen id place) j 0) (tagOf heads tails j)
+        each : (P : ℕ → ℕ → Type 0) → P place x → ((j : ℕ) → j < tags → (j ≡ id → ⊥) → P (getD seen j 0) (tagOfId heads tails j))
+            → (j : ℕ) → j < tags → P (getD (set seen id place) j 0) (tagOfId heads tails j)
         each P new old j g = by-test (eqb j id) (λ t. same j (eqb-true j id t)) (λ f. other j g (eqb-false j id f))
           where
-            here : P (getD (set seen id place) id 0) (tagOf heads tails id)
+            here : P (getD (set seen id place) id 0) (tagOfId heads tails id)
             here = rw (getD-set-same seen id place 0 (omega (arith, a .wide, a .sorted .listed .room)), e) new
 
-            same : (j : ℕ) → j ≡ id → P (getD (set seen id place) j 0) (tagOf heads tails j)
-            same j q = subst (λ (m : ℕ). P (getD (set seen id place) m 0) (tagOf heads tails m)) (sym q) here
+            same : (j : ℕ) → j ≡ id → P (getD (set seen id place) j 0) (tagOfId heads tails j)
+            same j q = subst (λ (m : ℕ). P (getD (set seen id place) m 0) (tagOfId heads tails m)) (sym q) here
 
-            other : (j : ℕ) → j < tags → (j ≡ id → ⊥) → P (getD (set seen id place) j 0) (tagOf heads tails j)
+            other : (j : ℕ) → j < tags → (j ≡ id → ⊥) → P (getD (set seen id place) j 0) (tagOfId heads tails j)
             other j g ne = rw (getD-set-other seen id j place 0 ne) (old j g ne)
 
     pub adding-known : {r : ℕ} {is : List ℕ} → Seen seen id start place r is
         → OneMore file start k tags heads tails order tags (fresh + r) heads tails order is
     adding-known s = rw (s .counted, s .set-to) known
 
-  module _ (at : ℕ) (low : Lower table x at) (free : tags < 4352)
-      (missing : at < tags → tagOf heads tails (getD order at 0) ≡ x → ⊥) where
+  module _ (at : ℕ) (low : Lower table x at) (free : tags < indexRoom)
+      (missing : at < tags → tagOfId heads tails (getD order at 0) ≡ x → ⊥) where
     pub adding-new : {tag : Tag} {now-heads now-tails now-order now-seen : List ℕ} → tagValue tag ≡ x
         → NewTag heads tails order seen tags at tag place now-heads now-tails now-order now-seen
         → OneMore file start k tags heads tails order (tags + 1) (fresh + 1) now-heads now-tails now-order now-seen
@@ -140,9 +141,9 @@ module _ {file heads tails : List ℕ} {start k tags fresh : ℕ} {order seen : 
         record {
           adding = record {
             sorted = record {
-              holds = record {
-                heads-full = ap length (p .heads-to) ∙ length-set heads tags (tag .hi) ∙ a .sorted .holds .heads-full;
-                tails-full = ap length (p .tails-to) ∙ length-set tails tags (tag .lo) ∙ a .sorted .holds .tails-full;
+              kept = record {
+                heads-full = ap length (p .heads-to) ∙ length-set heads tags (tag .hi) ∙ a .sorted .kept .heads-full;
+                tails-full = ap length (p .tails-to) ∙ length-set tails tags (tag .lo) ∙ a .sorted .kept .tails-full;
                 room = omega arith;
               };
               listed = listed-put (a .sorted .listed) free within (p .order-to);
@@ -150,9 +151,9 @@ module _ {file heads tails : List ℕ} {start k tags fresh : ℕ} {order seen : 
             };
             wide = ap length (p .seen-to) ∙ length-set seen tags place ∙ a .wide;
             inside = omega arith;
-            before = each (λ q y. q < start + 12 * (k + 1)) (omega arith) (λ j g. omega (arith, a .before j g));
+            before = each (λ q y. q < pastTags start (k + 1)) (omega arith) (λ j g. omega (arith, a .before j g));
             marks = each (λ q y. leb start q ≡ memb y (tagsAt (k + 1) file start)) mark-this
-                (λ j g. mark-other (getD seen j 0) (tagOf heads tails j) (differs j g) (a .marks j g));
+                (λ j g. mark-other (getD seen j 0) (tagOfId heads tails j) (differs j g) (a .marks j g));
             held = held-next (tableOf now-heads now-tails (tags + 1) now-order) wider;
             counted = counted-next (ap (λ (b : Bool). fresh + one (not b)) (sym absent));
           };
@@ -164,10 +165,10 @@ module _ {file heads tails : List ℕ} {start k tags fresh : ℕ} {order seen : 
         within = omega (arith, low .within, sorted-size (a .sorted))
 
         heads-room : tags < length heads
-        heads-room = omega (arith, a .sorted .holds .heads-full)
+        heads-room = omega (arith, a .sorted .kept .heads-full)
 
         tails-room : tags < length tails
-        tails-room = omega (arith, a .sorted .holds .tails-full)
+        tails-room = omega (arith, a .sorted .kept .tails-full)
 
         above : at < length table → x < getD table at 0
         above h =
@@ -185,25 +186,25 @@ module _ {file heads tails : List ℕ} {start k tags fresh : ℕ} {order seen : 
             let size = sorted-size (a .sorted) in
             three-ways j at (λ l. omega (arith, low .below j l))
             (λ e. missing (subst (λ (m : ℕ). m < tags) e g)
-            (subst (λ (m : ℕ). tagOf heads tails (getD order m 0) ≡ x) e (sym (sorted-at (a .sorted) j g) ∙ q)))
+            (subst (λ (m : ℕ). tagOfId heads tails (getD order m 0) ≡ x) e (sym (sorted-at (a .sorted) j g) ∙ q)))
             (λ u. omega (arith, rising-below table (a .sorted .rises) at j u (omega (arith, size)), above (omega (arith, size))))
 
-        differs : (id : ℕ) → id < tags → tagOf heads tails id ≡ x → ⊥
+        differs : (id : ℕ) → id < tags → tagOfId heads tails id ≡ x → ⊥
         differs id g q =
-            let at-id = position (a .sorted .listed) id g in
+            let at-id = id-position (a .sorted .listed) id g in
             apart (at-id .at) (at-id .below)
-            (sorted-at (a .sorted) (at-id .at) (at-id .below) ∙ ap (tagOf heads tails) (at-id .here) ∙ q)
+            (sorted-at (a .sorted) (at-id .at) (at-id .below) ∙ ap (tagOfId heads tails) (at-id .here) ∙ q)
 
         absent : memb x done ≡ false
         absent =
             refuted (memb x done) (λ m. let q = memb-place x table (a .held x m) in
             apart (q .at) (omega (arith, q .below, sorted-size (a .sorted))) (q .here))
 
-        each : (P : ℕ → ℕ → Type 0) → P place x → ((j : ℕ) → j < tags → P (getD seen j 0) (tagOf heads tails j))
-            → (j : ℕ) → j < tags + 1 → P (getD now-seen j 0) (tagOf now-heads now-tails j)
+        each : (P : ℕ → ℕ → Type 0) → P place x → ((j : ℕ) → j < tags → P (getD seen j 0) (tagOfId heads tails j))
+            → (j : ℕ) → j < tags + 1 → P (getD now-seen j 0) (tagOfId now-heads now-tails j)
         each P new old =
             let stored = getD-set-same seen tags place 0 (omega (arith, a .wide)) in
-            last-id (λ j. P (getD now-seen j 0) (tagOf now-heads now-tails j)) tags
+            last-id (λ j. P (getD now-seen j 0) (tagOfId now-heads now-tails j)) tags
             (rw (p .seen-to, stored, tag-this p heads-room tails-room, value) new)
             (λ j g. rw (p .seen-to, getD-set-other seen tags j place 0 (λ e. omega arith), tag-other p j g) (old j g))
 
@@ -223,7 +224,7 @@ pub record Going (file : List ℕ) (start count n : ℕ) (was-heads was-tails wa
   pub bound : tags ≤ n + k
 
 module _ {file : List ℕ} {start count n : ℕ} {was-heads was-tails was-order : List ℕ} where
-  pub going-start : {seen : List ℕ} → Ready file start count n was-heads was-tails was-order seen
+  pub going-start : {seen : List ℕ} → AddReady file start count n was-heads was-tails was-order seen
       → Going file start count n was-heads was-tails was-order 0 n 0 was-heads was-tails was-order seen
   unfolding tagsAt insertAll memb
   going-start {seen} r =
@@ -250,8 +251,8 @@ module _ {file : List ℕ} {start count n : ℕ} {was-heads was-tails was-order 
     going-step h o =
         record {
           adding = o .adding;
-          table = o .table ∙ ap (insert (tagAt file (start + 12 * k))) (g .table)
-              ∙ sym (insertAll-last (tableOf was-heads was-tails n was-order) (tagsAt k file start) (tagAt file (start + 12 * k)))
+          table = o .table ∙ ap (insert (tagAt file (pastTags start k))) (g .table)
+              ∙ sym (insertAll-last (tableOf was-heads was-tails n was-order) (tagsAt k file start) (tagAt file (pastTags start k)))
               ∙ sym (ap (insertAll (tableOf was-heads was-tails n was-order)) (tagsAt-next k file start));
           within = omega arith;
           bound = omega (arith, g .bound, o .bound);
@@ -263,7 +264,7 @@ module _ {file : List ℕ} {start count n : ℕ} {was-heads was-tails was-order 
         record {
           sorted = g .adding .sorted;
           wide = g .adding .wide;
-          before = subst (λ (m : ℕ). (j : ℕ) → j < tags → getD seen j 0 < start + 12 * m) here (g .adding .before);
+          before = subst (λ (m : ℕ). (j : ℕ) → j < tags → getD seen j 0 < pastTags start m) here (g .adding .before);
           table = g .table ∙ ap (λ (m : ℕ). insertAll (tableOf was-heads was-tails n was-order) (tagsAt m file start)) here;
           counted = g .adding .counted ∙ ap (λ (m : ℕ). length (collapse (tagsAt m file start))) here;
         }

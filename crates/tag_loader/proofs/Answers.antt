@@ -67,7 +67,7 @@ module _ {file heads tails order : List ℕ} {r : LoadAnswer} {total : Loaded} (
       record { clean = both .0; counts = both .1 }
 
   pub sound-limited : Limited total
-  sound-limited = subst (λ (t : Loaded). Limited t) (sym (sound .counts)) (s .limited (sound .clean))
+  sound-limited = subst (λ (t : Loaded). Limited t) (sym (sound .counts)) (s .taken (sound .clean) .limited)
 
   module _ (lent : Lists) where
     abbrev roomOf : Loaded → Bool
@@ -92,9 +92,8 @@ module _ {file heads tails order : List ℕ} {r : LoadAnswer} {total : Loaded} (
       pub room-fillable : Fillable file heads tails order (total .tags) lent
       room-fillable =
           record {
-            index = s .index (sound .clean);
+            taken = s .taken (sound .clean);
             count = ap (λ (q : Loaded). q .tags) (sound .counts);
-            limited = s .limited (sound .clean);
             room = room-here;
           }
 

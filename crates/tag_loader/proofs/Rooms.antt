@@ -5,13 +5,14 @@ use mathlib.Core.Bool.{Bool, true, false, _&&_}
 use Prim.Native.Nat.{ℕ, _≤_}
 use native.Mathlib.Omega.{arith}
 use lib.ListN.{length}
+use Rattle.sets.specs.Lent.{filledOver}
 use Rattle.sets.specs.declared.Side.{Side}
 use Rattle.sets.specs.declared.Side.the-variants.{Left, Right}
 use Rattle.tag_file.specs.Format.{tagBytes}
 use Rattle.tag_file.specs.Records.{TagRecord, records, tagTable, ofSide, entriesOf}
 use Rattle.tag_file.specs.Loading.{Lists, totalsOf, numbersOf, endsOf, joinedItems, fits, roomFor, filled}
 use Rattle.tag_file.proofs.ItemCount.{length-tagBytes, length-numbersOf, length-endsOf, length-joinedItems}
-use Rattle.tag_file.proofs.AnswerLaws.{Room, room-each}
+use Rattle.tag_file.proofs.AnswerLaws.{RoomForEach, room-each}
 use Rattle.tag_index.specs.Index.{tableOf, Sorted, Ranked}
 use Rattle.tag_fill.specs.Fill.{FillReady}
 use Rattle.tag_loader.specs.Passes.{sideFits, hasRoom, Fillable}
@@ -44,17 +45,21 @@ room-counted rs lent =
     regroup a false c d e = refl
 
 module _ {file heads tails order : List ℕ} {n : ℕ} {lent : Lists} (f : Fillable file heads tails order n lent) where
-  each : Room (filled (records file)) lent
+  each : RoomForEach (filled (records file)) lent
   each = room-each (filled (records file)) lent (f .room)
 
   pub sorted-here : Sorted heads tails n order
-  sorted-here = subst (λ (k : ℕ). Sorted heads tails k order) (sym (f .count)) (f .index .sorted)
+  sorted-here = subst (λ (k : ℕ). Sorted heads tails k order) (sym (f .count)) (f .taken .sorted)
 
-  pub table-here : tableOf heads tails n order ≡ tagTable (records file)
-  table-here = ap (λ (k : ℕ). tableOf heads tails k order) (f .count) ∙ f .index .table
+  table-here : tableOf heads tails n order ≡ tagTable (records file)
+  table-here = ap (λ (k : ℕ). tableOf heads tails k order) (f .count) ∙ f .taken .table
 
   pub tags-room : length (tagBytes (tableOf heads tails n order)) ≤ length (lent .tags)
   tags-room = subst (λ (l : List ℕ). length (tagBytes l) ≤ length (lent .tags)) (sym table-here) (each .tags)
+
+  pub tags-filled : (before : List ℕ) {after : List ℕ} → after ≡ filledOver (tagBytes (tableOf heads tails n order)) before
+      → after ≡ filledOver (tagBytes (tagTable (records file))) before
+  tags-filled before e = e ∙ ap (λ (t : List ℕ). filledOver (tagBytes t) before) table-here
 
   module _ {ranks : List ℕ} (ranked : Ranked n order ranks) where
     pub left-ready : FillReady file heads tails n order ranks Left (lent .leftNumbers) (lent .leftEnds) (lent .leftItems)
@@ -63,8 +68,8 @@ module _ {file heads tails order : List ℕ} {n : ℕ} {lent : Lists} (f : Filla
           sorted = sorted-here;
           ranked = ranked;
           table = table-here;
-          small = omega (arith, f .count, f .limited .tags);
-          few = omega (arith, length-joinedItems Left (records file), f .limited .left-entries);
+          small = omega (arith, f .count, f .taken .limited .tags);
+          few = omega (arith, length-joinedItems Left (records file), f .taken .limited .left-entries);
           for-numbers = each .leftNumbers;
           for-ends = each .leftEnds;
           for-items = each .leftItems;
@@ -76,8 +81,8 @@ module _ {file heads tails order : List ℕ} {n : ℕ} {lent : Lists} (f : Filla
           sorted = sorted-here;
           ranked = ranked;
           table = table-here;
-          small = omega (arith, f .count, f .limited .tags);
-          few = omega (arith, length-joinedItems Right (records file), f .limited .right-entries);
+          small = omega (arith, f .count, f .taken .limited .tags);
+          few = omega (arith, length-joinedItems Right (records file), f .taken .limited .right-entries);
           for-numbers = each .rightNumbers;
           for-ends = each .rightEnds;
           for-items = each .rightItems;

@@ -10,7 +10,7 @@ use Rattle.tag_file.specs.declared.Loaded.{Loaded}
 use Rattle.tag_file.specs.Format.{tagLength}
 use Rattle.tag_file.specs.Records.{TagRecord, records, tagTable}
 use Rattle.tag_file.specs.Loading.{Lists, totalsOf, roomFor, filled}
-use Rattle.tag_scan.specs.Scan.{Limited, Indexed}
+use Rattle.tag_scan.specs.Scan.{Taken}
 
 -- whether lists of these lengths hold the numbers, ends and items of a side
 abbrev pub sideFits : ℕ → ℕ → ℕ → ℕ → ℕ → Bool
@@ -47,9 +47,8 @@ pub record AllFilled (rs : List TagRecord) (before after : Lists) : Type 0 where
   pub rightEnds-filled : after .rightEnds ≡ filledOver (filled rs .rightEnds) (before .rightEnds)
   pub rightItems-filled : after .rightItems ≡ filledOver (filled rs .rightItems) (before .rightItems)
 
--- the index of a file with n tags, within the limits, and lists that are long enough
+-- the n tags and the counts of a file's records were taken in, and the lists are long enough
 pub record Fillable (file heads tails order : List ℕ) (n : ℕ) (lent : Lists) : Type 0 where
-  pub index : Indexed file heads tails order
+  pub taken : Taken (records file) (totalsOf (records file)) heads tails order
   pub count : n ≡ length (tagTable (records file))
-  pub limited : Limited (totalsOf (records file))
   pub room : roomFor (filled (records file)) lent ≡ true

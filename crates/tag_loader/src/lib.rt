@@ -7,8 +7,11 @@ use sets::Refusal;
 use sets::Side;
 use tag_file::LoadAnswer;
 use tag_file::Loaded;
+use tag_file::TAG_LENGTH;
 use tag_fill::fill_side;
 use tag_fill::fill_tags;
+use tag_index::HINT_SLOTS;
+use tag_index::INDEX_ROOM;
 use tag_index::rank_ids;
 use tag_scan::scan;
 ghost use mathlib.Core.Path.{_≡_};
@@ -16,6 +19,9 @@ ghost use Rattle.tag_file.specs.Records.{records};
 ghost use Rattle.tag_file.specs.Loading.{listsOf, LoadCall};
 ghost use Rattle.tag_scan.specs.Scan.{Limited};
 ghost use Rattle.tag_loader.specs.Passes.{sideFits, SideCleared, AllCleared, hasRoom, AllFilled, Fillable};
+
+// A hint that leads to no id.
+const NO_ID: u16 = 65535;
 
 // Whether lists of these lengths hold the numbers, ends and items of a side.
 fn side_fits(sets: usize, entries: usize, numbers: usize, ends: usize, items: usize) -> bool
@@ -71,7 +77,7 @@ fn has_room(
     requires { ⌜ Limited total ⌝ }
     ensures { λ r. ⌜ r ≡ hasRoom total tags «left_numbers» «left_ends» «left_items» «right_numbers» «right_ends» «right_items» ⌝ }
 {
-    if tags < 12 * total.tags {
+    if tags < TAG_LENGTH * total.tags {
         return false;
     }
     let left = side_fits(
@@ -96,10 +102,10 @@ fn has_room(
 // The second pass: fills the seven lists.
 fn fill_lists(
     file: &[u8],
-    heads: &[usize; 4352],
-    tails: &[u32; 4352],
-    order: &[u16; 4352],
-    hints: &[u16; 16384],
+    heads: &[usize; INDEX_ROOM],
+    tails: &[u32; INDEX_ROOM],
+    order: &[u16; INDEX_ROOM],
+    hints: &[u16; HINT_SLOTS],
     n: usize,
     tags: &mut [u8],
     left_numbers: &mut [u16],
@@ -120,7 +126,7 @@ fn fill_lists(
         (now («left_numbers» .exit)) (now («left_ends» .exit)) (now («left_items» .exit))
         (now («right_numbers» .exit)) (now («right_ends» .exit)) (now («right_items» .exit))) ⌝ }
 {
-    let mut ranks = [0u16; 4352];
+    let mut ranks = [0u16; INDEX_ROOM];
     rank_ids(order, n, &mut ranks);
     fill_tags(heads, tails, order, n, tags);
     fill_side(
@@ -170,10 +176,10 @@ pub fn load(
         (now («left_numbers» .exit)) (now («left_ends» .exit)) (now («left_items» .exit))
         (now («right_numbers» .exit)) (now («right_ends» .exit)) (now («right_items» .exit))) r ⌝ }
 {
-    let mut heads = [0usize; 4352];
-    let mut tails = [0u32; 4352];
-    let mut order = [0u16; 4352];
-    let mut hints = [65535u16; 16384];
+    let mut heads = [0usize; INDEX_ROOM];
+    let mut tails = [0u32; INDEX_ROOM];
+    let mut order = [0u16; INDEX_ROOM];
+    let mut hints = [NO_ID; HINT_SLOTS];
     let answer = scan(file, &mut heads, &mut tails, &mut order, &mut hints);
     let LoadAnswer::Loaded(total) = answer else {
         clear_lists(

@@ -50,7 +50,7 @@ module _ (table tags : List ℕ) where
   items-below =
       all-keep (λ i. ltb i (length table)) (λ i. memb (getD table i 0) tags) (upto (length table)) (all-upto (length table))
 
-  pub items-rising : rising (itemsOf table tags) ≡ true
+  items-rising : rising (itemsOf table tags) ≡ true
   unfolding itemsOf
   items-rising = rising-keep (λ i. memb (getD table i 0) tags) (upto (length table)) (rising-range 0 (length table))
 

@@ -12,18 +12,18 @@ use Rattle.lists.specs.Lists.{all, prefix, sum}
 use Rattle.lists.proofs.Bools.{and-left, and-right}
 use Rattle.sets.specs.declared.Side.{Side}
 use Rattle.sets.specs.declared.Side.the-variants.{Left, Right}
-use Rattle.tag_file.specs.Format.{mark, tagLength, headLength, bytesOf, tagBytes, recordBytes}
+use Rattle.tag_file.specs.Format.{mark, tagLength, headLength, bytesOf, tagBytes, recordHead, recordBytes}
 use Rattle.tag_file.specs.Reading.{readAt, recordAt, tagsAt}
 use Rattle.tag_file.specs.Records.{TagRecord, totalLength, recordsAt, records}
 use Rattle.tag_file.specs.declared.ReadAnswer.the-variants.{Record, NoMore}
 use Rattle.tag_file.proofs.ReadLaws.{read-end, whole-record}
 use Rattle.tag_file.proofs.RecordLaws.{records-next, records-end}
 use Rattle.tag_file.proofs.ItemCount.{length-tagBytes}
-use Rattle.tag_writer.proofs.Records.{headOf, length-head}
+use Rattle.tag_writer.proofs.Records.{length-head}
 use Rattle.tag_round_trip.specs.Rewritten.{bytesOfRecords}
 use Rattle.tag_round_trip.proofs.Values.{tagsFit, first-fits, rest-fits, tagAt-here, drop-tag}
 
-pub tagsAt-here : (file : List ℕ) (at : ℕ) (tags rest : List ℕ) → tagsFit tags ≡ true → drop at file ≡ tagBytes tags ++ rest
+tagsAt-here : (file : List ℕ) (at : ℕ) (tags rest : List ℕ) → tagsFit tags ≡ true → drop at file ≡ tagBytes tags ++ rest
     → tagsAt (length tags) file at ≡ tags
 unfolding tagsAt tagBytes
 tagsAt-here file at [] rest fit here = refl
@@ -36,20 +36,20 @@ tagsAt-here file at (t ∷ ts) rest fit here =
 
 -- the bytes of a head, and whose mark it has
 module _ (number count : ℕ) (rest : List ℕ) where
-  high-byte : (side : Side) → getD (headOf side number count ++ rest) 2 0 ≡ number / 256
+  high-byte : (side : Side) → getD (recordHead side number count ++ rest) 2 0 ≡ number / 256
   high-byte Left = refl
   high-byte Right = refl
 
-  low-byte : (side : Side) → getD (headOf side number count ++ rest) 3 0 ≡ number % 256
+  low-byte : (side : Side) → getD (recordHead side number count ++ rest) 3 0 ≡ number % 256
   low-byte Left = refl
   low-byte Right = refl
 
-  count-byte : (side : Side) → getD (headOf side number count ++ rest) 4 0 ≡ count
+  count-byte : (side : Side) → getD (recordHead side number count ++ rest) 4 0 ≡ count
   count-byte Left = refl
   count-byte Right = refl
 
 module _ (file : List ℕ) (at number count : ℕ) (rest : List ℕ) (room : tagLength * count ≤ length rest) where
-  whole-head : (side : Side) → drop at file ≡ headOf side number count ++ rest
+  whole-head : (side : Side) → drop at file ≡ recordHead side number count ++ rest
       → recordAt side file at ≡ Record side number count (at + headLength) (at + headLength + tagLength * count)
   whole-head side here =
       let long : length file - at ≡ headLength + length rest =
@@ -63,7 +63,7 @@ module _ (file : List ℕ) (at number count : ℕ) (rest : List ℕ) (room : tag
       let both : getD file (at + 2) 0 * 256 + getD file (at + 3) 0 ≡ number = omega arith in
       whole-record file at side (omega arith) (omega arith) ∙ rw (both, tags)
 
-  pub read-head : (side : Side) → drop at file ≡ headOf side number count ++ rest
+  read-head : (side : Side) → drop at file ≡ recordHead side number count ++ rest
       → readAt file at ≡ Record side number count (at + headLength) (at + headLength + tagLength * count)
   unfolding readAt prefix
   read-head Left here =
@@ -82,20 +82,20 @@ module _ (file : List ℕ) (at number count : ℕ) (rest : List ℕ) (room : tag
 abbrev pub recordsFit : List TagRecord → Bool
 recordsFit rs = all (λ r. tagsFit (r .tags)) rs
 
-pub length-bytesOfRecords : (rs : List TagRecord) → length (bytesOfRecords rs) ≡ totalLength rs
+length-bytesOfRecords : (rs : List TagRecord) → length (bytesOfRecords rs) ≡ totalLength rs
 unfolding bytesOfRecords sum
 length-bytesOfRecords [] = refl
 length-bytesOfRecords (r ∷ rs) =
     length-append (recordBytes (r .side) (r .number) (r .tags)) (bytesOfRecords rs)
     ∙ rw (
       length-bytesOfRecords rs,
-      length-append (headOf (r .side) (r .number) (length (r .tags))),
+      length-append (recordHead (r .side) (r .number) (length (r .tags))),
       length-head (r .side) (r .number) (length (r .tags)),
       length-tagBytes,
     )
 
 -- the records from a place on, where their bytes stand from there to the end
-pub recordsAt-bytes : (file : List ℕ) (at : ℕ) (rs : List TagRecord) → recordsFit rs ≡ true → at ≤ length file
+recordsAt-bytes : (file : List ℕ) (at : ℕ) (rs : List TagRecord) → recordsFit rs ≡ true → at ≤ length file
     → drop at file ≡ bytesOfRecords rs → recordsAt file at ≡ rs
 unfolding bytesOfRecords all
 recordsAt-bytes file at [] fit within here =
@@ -104,11 +104,11 @@ recordsAt-bytes file at [] fit within here =
 recordsAt-bytes file at (r ∷ rs) fit within here =
     let n = length (r .tags) in
     let rest = tagBytes (r .tags) ++ bytesOfRecords rs in
-    let split : drop at file ≡ headOf (r .side) (r .number) n ++ rest =
-    here ∙ append-assoc (headOf (r .side) (r .number) n) (tagBytes (r .tags)) (bytesOfRecords rs) in
+    let split : drop at file ≡ recordHead (r .side) (r .number) n ++ rest =
+    here ∙ append-assoc (recordHead (r .side) (r .number) n) (tagBytes (r .tags)) (bytesOfRecords rs) in
     let tags : drop (at + headLength) file ≡ rest =
     sym (drop-drop headLength at file) ∙ ap (drop headLength) split
-    ∙ drop-at (headOf (r .side) (r .number) n) rest headLength (length-head (r .side) (r .number) n) in
+    ∙ drop-at (recordHead (r .side) (r .number) n) rest headLength (length-head (r .side) (r .number) n) in
     let more : drop (at + headLength + tagLength * n) file ≡ bytesOfRecords rs =
     sym (drop-drop (tagLength * n) (at + headLength) file) ∙ ap (drop (tagLength * n)) tags
     ∙ drop-at (tagBytes (r .tags)) (bytesOfRecords rs) (tagLength * n) (length-tagBytes (r .tags)) in

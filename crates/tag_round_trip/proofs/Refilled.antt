@@ -45,7 +45,7 @@ tags-within table (r ∷ rs) h =
     split : (x : ℕ) → memb x (r .tags ++ allTags rs) ≡ (memb x (r .tags) || memb x (allTags rs))
     split x = memb-append x (r .tags) (allTags rs)
 
-pub tags-in-table : (rs : List TagRecord) → all (λ r. subset (r .tags) (tagTable rs)) rs ≡ true
+tags-in-table : (rs : List TagRecord) → all (λ r. subset (r .tags) (tagTable rs)) rs ≡ true
 tags-in-table rs = tags-within (tagTable rs) rs (λ x m. memb-collapse x (allTags rs) ∙ m)
 
 -- ---- the records that are written

@@ -68,7 +68,7 @@ other-right Left e = sym e
 other-right Right e = refl
 
 -- the records of a side are, collapsed, those of the file
-pub side-rewritten : (side : Side) (rs : List TagRecord) → ofSide side (rewritten rs) ≡ collapsedSide side rs
+side-rewritten : (side : Side) (rs : List TagRecord) → ofSide side (rewritten rs) ≡ collapsedSide side rs
 unfolding rewritten
 side-rewritten Left rs =
     keep-append (λ r. sameSide Left (r .side)) (collapsedSide Left rs) (collapsedSide Right rs)
@@ -89,7 +89,7 @@ module _ (side : Side) (rs : List TagRecord) where
   numbers-rewritten =
       ap (map (λ r. r .number)) (side-rewritten side rs) ∙ map-after (λ r. r .number) collapsed (λ r. refl) (ofSide side rs)
 
-  pub sets-rewritten : (table : List ℕ) → setsOfSide side table (rewritten rs) ≡ setsOfSide side table rs
+  sets-rewritten : (table : List ℕ) → setsOfSide side table (rewritten rs) ≡ setsOfSide side table rs
   sets-rewritten table =
       ap (map (λ r. itemsOf table (r .tags))) (side-rewritten side rs)
       ∙ map-after (λ r. itemsOf table (r .tags)) collapsed (λ r. items-collapse table (r .tags)) (ofSide side rs)
@@ -104,7 +104,7 @@ module _ (side : Side) (rs : List TagRecord) where
 
 -- ---- the tag table
 
-pub memb-allTags : (x : ℕ) (rs : List TagRecord) → memb x (allTags rs) ≡ any (λ r. memb x (r .tags)) rs
+memb-allTags : (x : ℕ) (rs : List TagRecord) → memb x (allTags rs) ≡ any (λ r. memb x (r .tags)) rs
 unfolding allTags any memb
 memb-allTags x [] = refl
 memb-allTags x (r ∷ rs) = memb-append x (r .tags) (allTags rs) ∙ ap (λ (b : Bool). memb x (r .tags) || b) (memb-allTags x rs)

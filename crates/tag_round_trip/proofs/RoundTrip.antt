@@ -19,8 +19,8 @@ use Rattle.tag_writer.specs.declared.WriteAnswer.{WriteAnswer}
 use Rattle.tag_writer.specs.declared.WriteAnswer.the-variants as write
 use Rattle.tag_file.specs.Records.{TagRecord, records, tagTable, totalLength}
 use Rattle.tag_file.specs.Reading.{readAt}
-use Rattle.tag_file.specs.Loading.{Lists, filled, totalsOf, fileFault, firstFault, refusalOf, roomFor, loadAnswer, numbersOf}
-use Rattle.tag_file.specs.Loading.{endsOf, joinedItems, listsAfter, LoadCall}
+use Rattle.tag_file.specs.Loading.{Lists, filled, totalsOf, fileFault, firstFault, refusalOf, roomFor, loadAnswer, listsAfter}
+use Rattle.tag_file.specs.Loading.{LoadCall}
 use Rattle.tag_file.specs.declared.ReadAnswer.{ReadAnswer}
 use Rattle.tag_writer.specs.Writer.{fileBytes, roomTest, writtenWithin, writeAnswer, fileAfter, WriteCall}
 use Rattle.tag_writer.proofs.Tests.{lists-good, room-passed}

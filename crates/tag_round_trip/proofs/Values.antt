@@ -19,7 +19,7 @@ unfolding valueFrom
 valueFrom-last v [] b = refl
 valueFrom-last v (x ∷ xs) b = valueFrom-last (v * 256 + x) xs b
 
-pub value-bytesOf : (n v : ℕ) → v < 256 ^ n → value (bytesOf n v) ≡ v
+value-bytesOf : (n v : ℕ) → v < 256 ^ n → value (bytesOf n v) ≡ v
 unfolding valueFrom bytesOf
 value-bytesOf zero v h = let none : v < 1 = h in omega arith
 value-bytesOf (suc n) v h =

@@ -21,14 +21,14 @@ use Rattle.tag_round_trip.specs.Rewritten.{bytesOfRecords, sideRecords, 
 use Rattle.tag_round_trip.proofs.Values.{tagsFit, tagAt-bound}
 use Rattle.tag_round_trip.proofs.Printing.{recordsFit, records-bytes, read-past}
 
-pub bytesOfRecords-append : (a b : List TagRecord) → bytesOfRecords (a ++ b) ≡ bytesOfRecords a ++ bytesOfRecords b
+bytesOfRecords-append : (a b : List TagRecord) → bytesOfRecords (a ++ b) ≡ bytesOfRecords a ++ bytesOfRecords b
 unfolding bytesOfRecords
 bytesOfRecords-append [] b = refl
 bytesOfRecords-append (r ∷ rs) b =
     rw (bytesOfRecords-append rs b)
     (sym (append-assoc (recordBytes (r .side) (r .number) (r .tags)) (bytesOfRecords rs) (bytesOfRecords b)))
 
-pub side-bytes : (side : Side) (tags numbers : List ℕ) (sets : List (List ℕ))
+side-bytes : (side : Side) (tags numbers : List ℕ) (sets : List (List ℕ))
     → recordsOf side tags numbers sets ≡ bytesOfRecords (sideRecords side tags numbers sets)
 unfolding recordsOf bytesOfRecords sideRecords
 side-bytes side tags [] sets = refl
@@ -49,7 +49,7 @@ side-fit side tags (number ∷ numbers) [] low = refl
 side-fit side tags (number ∷ numbers) (set ∷ sets) low = and-both (itemTags-fit tags low set) (side-fit side tags numbers sets low)
 
 module _ (l : Lists) where
-  pub lists-bytes : fileBytes l ≡ bytesOfRecords (recordsOfLists l)
+  lists-bytes : fileBytes l ≡ bytesOfRecords (recordsOfLists l)
   unfolding fileBytes
   lists-bytes =
       rw (

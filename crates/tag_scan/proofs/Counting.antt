@@ -20,7 +20,7 @@ use Rattle.tag_file.specs.Loading.{tooMany, totalsOf}
 use Rattle.tag_file.proofs.Tables.{insertAll-append}
 use Rattle.tag_scan.specs.Scan.{grownBy, isOver, Limited}
 
-pub allTags-last : (rs : List TagRecord) (r : TagRecord) → allTags (rs ++ (r ∷ [])) ≡ allTags rs ++ r .tags
+allTags-last : (rs : List TagRecord) (r : TagRecord) → allTags (rs ++ (r ∷ [])) ≡ allTags rs ++ r .tags
 unfolding allTags
 allTags-last [] r = append-nil (r .tags)
 allTags-last (s ∷ rs) r =
@@ -33,18 +33,18 @@ module _ (side : Side) (rs : List TagRecord) (r : TagRecord) where
   ofSide-last : ofSide side (rs ++ (r ∷ [])) ≡ ofSide side rs ++ ofSide side (r ∷ [])
   ofSide-last = keep-append (λ r. sameSide side (r .side)) rs (r ∷ [])
 
-  pub ofSide-same : sameSide side (r .side) ≡ true → ofSide side (rs ++ (r ∷ [])) ≡ ofSide side rs ++ (r ∷ [])
+  ofSide-same : sameSide side (r .side) ≡ true → ofSide side (rs ++ (r ∷ [])) ≡ ofSide side rs ++ (r ∷ [])
   unfolding keep
   ofSide-same e = ofSide-last ∙ rw e
 
-  pub ofSide-other : sameSide side (r .side) ≡ false → ofSide side (rs ++ (r ∷ [])) ≡ ofSide side rs
+  ofSide-other : sameSide side (r .side) ≡ false → ofSide side (rs ++ (r ∷ [])) ≡ ofSide side rs
   unfolding keep
   ofSide-other e = ofSide-last ∙ rw (e, append-nil)
 
-  pub sets-same : sameSide side (r .side) ≡ true → length (ofSide side (rs ++ (r ∷ []))) ≡ length (ofSide side rs) + 1
+  sets-same : sameSide side (r .side) ≡ true → length (ofSide side (rs ++ (r ∷ []))) ≡ length (ofSide side rs) + 1
   sets-same e = ap length (ofSide-same e) ∙ length-append (ofSide side rs) (r ∷ [])
 
-  pub entries-same : sameSide side (r .side) ≡ true
+  entries-same : sameSide side (r .side) ≡ true
       → entriesOf side (rs ++ (r ∷ [])) ≡ entriesOf side rs + length (collapse (r .tags))
   unfolding sum
   entries-same e =

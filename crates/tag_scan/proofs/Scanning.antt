@@ -1,13 +1,16 @@
--- The first pass: its invariant over the records seen so far, with its start, its three ends and its step.
+-- The first pass over a file after records of earlier ones: its invariant over the records seen so far, with its start, its three
+-- ends and its step.
 use mathlib.Core.Path.{_≡_, refl, sym, ap, subst, _∙_}
 use mathlib.Core.List.{List, [], _∷_, _++_, append-nil, append-assoc}
 use mathlib.Core.Bool.{true, false}
-use Prim.Native.Nat.{ℕ, _+_, _-_, _<_, _≤_}
+use Prim.Native.Nat.{ℕ, _<_, _≤_}
 use native.Mathlib.Omega.{arith}
-use lib.ListN.{length, getD}
-use Rattle.lists.specs.Lists.{keep, sum, rising}
+use lib.ListN.{length, getD, replicate, length-replicate}
+use Rattle.lists.specs.Lists.{sum}
+use Rattle.lists.proofs.Zeros.{getD-zeros}
 use Rattle.bit_sets.specs.BitSets.{member, Inserted}
-use Rattle.sets.specs.Refusals.{unless}
+use Rattle.sets.specs.Limits.{maxSetLength, halfWords}
+use Rattle.sets.specs.Refusals.{rowOf, unless}
 use Rattle.sets.specs.declared.Side.{Side}
 use Rattle.sets.specs.declared.Refusal.{Refusal}
 use Rattle.sets.specs.declared.Refusal.the-variants.{NumberUsed, TooMany}
@@ -16,43 +19,42 @@ use Rattle.sets.specs.declared.Tested.the-variants.{Passed, Failed}
 use Rattle.tag_file.specs.declared.Loaded.{Loaded}
 use Rattle.tag_file.specs.declared.LoadAnswer.the-variants as load
 use Rattle.tag_file.specs.Reading.{readAt, tagsAt}
-use Rattle.tag_file.specs.Records.{TagRecord, totalLength, recordsAt, records, insertAll, allTags, tagTable}
-use Rattle.tag_file.specs.Loading.{numberUsed, tooMany, faultOf, firstFault, refusalOf, fileFault, totalsOf}
+use Rattle.tag_file.specs.Records.{TagRecord, totalLength, recordsAt, records}
+use Rattle.tag_file.specs.Loading.{numberUsed, tooMany, refusalOf, totalsOf}
 use Rattle.tag_file.specs.declared.ReadAnswer.{ReadAnswer}
-use Rattle.tag_file.specs.declared.ReadAnswer.the-variants.{Record, Refused}
-use Rattle.tag_file.proofs.FaultLaws.{fault-used, fault-past, fault-none}
+use Rattle.tag_file.specs.declared.ReadAnswer.the-variants.{Record, NoMore, Refused}
 use Rattle.tag_file.proofs.Tables.{length-insertAll-bound}
-use Rattle.tag_file.proofs.RecordLaws.{length-tagsAt, read-whole, records-next, totalLength-last}
-use Rattle.tag_index.specs.Index.{tableOf, Sorted, Ready, AllAdded}
-use Rattle.tag_index.proofs.Ids.{sorted-size}
-use Rattle.tag_scan.specs.Scan.{keyOf, grownBy, isOver, Limited, Lengths, Scanned}
+use Rattle.tag_file.proofs.ReadLaws.{read-refused}
+use Rattle.tag_file.proofs.RecordLaws.{length-tagsAt, read-after, read-past, read-within, read-length}
+use Rattle.tag_file.proofs.RecordLaws.{records-next, totalLength-last}
+use Rattle.tag_index.specs.Index.{indexRoom, AddReady, AllAdded}
+use Rattle.tag_scan.specs.Scan.{keyOf, grownBy, isOver, Taken, faultAfter, firstFaultAfter, fileFaultAfter, ScannedAfter}
+use Rattle.tag_scan.proofs.AfterFaults.{after-used, after-past, after-none}
 use Rattle.tag_scan.proofs.Numbers.{Noted, noted-step, noted-tells}
-use Rattle.tag_scan.proofs.Counting.{tagTable-last, grown-counts, grown-tags, over-tooMany, limited-grown}
+use Rattle.tag_scan.proofs.Taking.{taken-over, taken-next}
+use Rattle.tag_scan.proofs.Counting.{grown-tags}
 
 -- what the reading of a file ends with
-abbrev pub lastRefusal : List ℕ → Tested
+abbrev lastRefusal : List ℕ → Tested
 lastRefusal file = refusalOf (readAt file (totalLength (records file)))
 
-pub record Scanning (file used heads tails order places : List ℕ) (total : Loaded) (at : ℕ) : Type 0 where
+pub record Scanning (earlier : List TagRecord) (file used heads tails order places : List ℕ) (total : Loaded) (at : ℕ)
+    : Type 0 where
   pub seen : List TagRecord
   pub split : records file ≡ seen ++ recordsAt file at
   pub place : at ≡ totalLength seen
   pub within : at ≤ length file
-  pub fault : fileFault file ≡ firstFault seen (recordsAt file at) (lastRefusal file)
+  pub fault : fileFaultAfter earlier file ≡ firstFaultAfter earlier seen (recordsAt file at) (lastRefusal file)
   pub noted : Noted used seen
-  pub sorted : Sorted heads tails (total .tags) order
-  pub wide : length places ≡ 4352
-  pub before : (id : ℕ) → id < total .tags → getD places id 0 < at
-  pub table : tableOf heads tails (total .tags) order ≡ tagTable seen
-  pub counts : total ≡ totalsOf seen
-  pub limited : Limited total
+  pub wide : length places ≡ indexRoom
+  pub before : (id : ℕ) → id < total .tags → getD places id 0 ≤ at
+  pub taken : Taken (earlier ++ seen) total heads tails order
 
-pub scanning-start : (file used heads tails order places : List ℕ) (total : Loaded) → Lengths heads tails order
-    → length places ≡ 4352 → Noted used [] → total ≡ totalsOf [] → Scanning file used heads tails order places total 0
-unfolding fileFault sum tableOf rising insertAll allTags keep
-scanning-start file used heads tails order places total l wide noted e =
-    let zero-tags : total .tags ≡ 0 = ap (λ (t : Loaded). t .tags) e in
-    let empty : tableOf heads tails (total .tags) order ≡ [] = ap (λ (n : ℕ). tableOf heads tails n order) zero-tags in
+pub scanning-start : {earlier : List TagRecord} (file used heads tails order : List ℕ) {total : Loaded}
+    → Taken earlier total heads tails order → Noted used []
+    → Scanning earlier file used heads tails order (replicate indexRoom 0) total 0
+unfolding fileFaultAfter sum
+scanning-start {earlier} file used heads tails order {total} taken noted =
     record {
       seen = [];
       split = refl;
@@ -60,154 +62,134 @@ scanning-start file used heads tails order places total l wide noted e =
       within = omega arith;
       fault = refl;
       noted = noted;
-      sorted = record {
-        holds = record { heads-full = l .heads-full; tails-full = l .tails-full; room = omega arith };
-        listed = record {
-          full = l .order-full;
-          room = omega arith;
-          ids = λ j h. absurd (omega arith);
-          all = λ id h. absurd (omega arith);
-        };
-        rises = ap rising empty;
-      };
-      wide = wide;
-      before = λ j h. absurd (omega arith);
-      table = empty;
-      counts = e;
-      limited = record {
-        left-sets = omega (arith, ap (λ (t : Loaded). t .«left_sets») e);
-        right-sets = omega (arith, ap (λ (t : Loaded). t .«right_sets») e);
-        left-entries = omega (arith, ap (λ (t : Loaded). t .«left_entries») e);
-        right-entries = omega (arith, ap (λ (t : Loaded). t .«right_entries») e);
-        tags = omega (arith, zero-tags);
-      };
+      wide = length-replicate {A = ℕ} indexRoom 0;
+      before = λ id h. omega (arith, getD-zeros indexRoom id);
+      taken = subst (λ (rs : List TagRecord). Taken rs total heads tails order) (sym (append-nil earlier)) taken;
     }
 
+same-refusal : (a b : Refusal) → load.Refused a ≡ load.Refused b → a ≡ b
+same-refusal a b e = cc
+
 -- a fault is what the file is refused with
-pub refused : {file heads tails order : List ℕ} (why : Refusal) → fileFault file ≡ Failed why
-    → Scanned file heads tails order (load.Refused why)
-refused why e =
-    record { answer = rw e; index = λ n. never (sym e ∙ n); limited = λ n. never (sym e ∙ n) }
+scanning-refused : {earlier : List TagRecord} {file heads tails order : List ℕ} (why : Refusal)
+    → fileFaultAfter earlier file ≡ Failed why → rowOf why .first ≤ length file
+    → ScannedAfter earlier file heads tails order (load.Refused why)
+scanning-refused {earlier} {file} why e small =
+    record {
+      answer = rw e;
+      place = λ other same. subst (λ (w : Refusal). rowOf w .first ≤ length file) (same-refusal why other same) small;
+      taken = λ n. never (sym e ∙ n);
+    }
   where
     never : {A : Type 0} {w : Refusal} → Failed w ≡ Passed → A
     never e = let z : _≡_ {A = ℕ} 0 1 = cc in absurd (omega arith)
 
-module _ {file used heads tails order places : List ℕ} {total : Loaded} {at : ℕ}
-    (s : Scanning file used heads tails order places total at) where
+module _ {earlier : List TagRecord} {file used heads tails order places : List ℕ} {total : Loaded} {at : ℕ}
+    (s : Scanning earlier file used heads tails order places total at) where
   -- the reading ended: there are no records from here on
   pub scanning-stop : (a : ReadAnswer) → readAt file at ≡ a → recordsAt file at ≡ []
-      → Scanned file heads tails order (unless load.Refused (refusalOf a) (load.Loaded total))
-  unfolding firstFault
+      → ScannedAfter earlier file heads tails order (unless load.Refused (refusalOf a) (load.Loaded total))
+  unfolding firstFaultAfter
   scanning-stop a e stop =
       record {
         answer = ap (λ (t : Tested). unless load.Refused t (load.Loaded total)) (sym ends)
-            ∙ ap (λ (t : Loaded). unless load.Refused (fileFault file) (load.Loaded t)) (s .counts ∙ ap totalsOf (sym all));
-        index = λ n. record {
-          sorted = subst (λ (k : ℕ). Sorted heads tails k order) size (s .sorted);
-          table = ap (λ (k : ℕ). tableOf heads tails k order) (sym size) ∙ s .table ∙ ap tagTable (sym all);
-        };
-        limited = λ n. subst (λ (t : Loaded). Limited t) (s .counts ∙ ap totalsOf (sym all)) (s .limited);
+            ∙ ap (λ (t : Loaded). unless load.Refused (fileFaultAfter earlier file) (load.Loaded t))
+            (s .taken .counts ∙ ap (λ (rs : List TagRecord). totalsOf (earlier ++ rs)) (sym all));
+        place = λ why same. told a e why same;
+        taken = λ n. subst (λ (rs : List TagRecord). Taken (earlier ++ rs) (totalsOf (earlier ++ rs)) heads tails order) (sym all)
+            (subst (λ (t : Loaded). Taken (earlier ++ s .seen) t heads tails order) (s .taken .counts) (s .taken));
       }
     where
       all : records file ≡ s .seen
       all = s .split ∙ ap (λ (l : List TagRecord). s .seen ++ l) stop ∙ append-nil (s .seen)
 
-      size : total .tags ≡ length (tagTable (records file))
-      size = ap (λ (t : Loaded). t .tags) (s .counts) ∙ ap (λ (l : List TagRecord). length (tagTable l)) (sym all)
-
-      ends : fileFault file ≡ refusalOf a
+      ends : fileFaultAfter earlier file ≡ refusalOf a
       ends =
-          s .fault ∙ ap (λ (l : List TagRecord). firstFault (s .seen) l (lastRefusal file)) stop
+          s .fault ∙ ap (λ (l : List TagRecord). firstFaultAfter earlier (s .seen) l (lastRefusal file)) stop
           ∙ ap refusalOf (ap (readAt file) (ap totalLength all ∙ sym (s .place)) ∙ e)
+
+      told : (a : ReadAnswer) → readAt file at ≡ a → (why : Refusal)
+          → unless load.Refused (refusalOf a) (load.Loaded total) ≡ load.Refused why → rowOf why .first ≤ length file
+      told (Record side n c p next) e why same = let z : _≡_ {A = ℕ} 0 1 = cc in absurd (omega arith)
+      told NoMore e why same = let z : _≡_ {A = ℕ} 0 1 = cc in absurd (omega arith)
+      told (Refused w) e why same =
+          subst (λ (q : Refusal). rowOf q .first ≤ length file) (sym (read-refused file at w e) ∙ same-refusal w why same) (s .within)
 
   -- the record here: its number was used, it passes a limit, or it is taken in
   module _ {side : Side} {n c p next : ℕ} (e : readAt file at ≡ Record side n c p next) where
-    abbrev pub this : TagRecord
+    abbrev this : TagRecord
     this = record { side = side; number = n; tags = tagsAt c file p }
 
-    here : fileFault file
-        ≡ unless Failed (faultOf (s .seen) this) (firstFault (s .seen ++ (this ∷ [])) (recordsAt file next) (lastRefusal file))
-    unfolding firstFault
+    here : fileFaultAfter earlier file
+        ≡ unless Failed (faultAfter earlier (s .seen) this)
+        (firstFaultAfter earlier (s .seen ++ (this ∷ [])) (recordsAt file next) (lastRefusal file))
+    unfolding firstFaultAfter
     here =
         s .fault
-        ∙ ap (λ (l : List TagRecord). firstFault (s .seen) l (lastRefusal file)) (records-next file at side n c p next e)
-
-    pub scanning-less : length file - next < length file - at
-    scanning-less =
-        let w = read-whole file at side n c p next e in
-        omega (arith, w .place, w .past, w .within)
-
-    -- its number has two bytes, its count one
-    module _ (byte : (i : ℕ) → getD file i 0 < 256) where
-      pub number-small : n < 65536
-      number-small = omega (arith, read-whole file at side n c p next e .number, byte (at + 2), byte (at + 3))
-
-      pub count-small : c < 256
-      count-small = omega (arith, read-whole file at side n c p next e .count, byte (at + 4))
+        ∙ ap (λ (l : List TagRecord). firstFaultAfter earlier (s .seen) l (lastRefusal file))
+        (records-next file at side n c p next e)
 
     -- what the noted numbers tell of it
-    pub scanning-tells : n < 65536 → numberUsed (s .seen) this ≡ member used (keyOf side n)
-    scanning-tells small = sym (noted-tells this small (s .noted))
+    module _ (small : n < halfWords) where
+      tells : numberUsed (s .seen) this ≡ member used (keyOf side n)
+      tells = sym (noted-tells this small (s .noted))
 
-    -- the record's number was used
-    pub scanning-used : numberUsed (s .seen) this ≡ true → fileFault file ≡ Failed (NumberUsed at)
-    scanning-used t = here ∙ rw (fault-used (s .seen) this t, ← s .place)
+      -- the record's number was used
+      pub scanning-used : member used (keyOf side n) ≡ true
+          → ScannedAfter earlier file heads tails order (load.Refused (NumberUsed at))
+      scanning-used t =
+          scanning-refused (NumberUsed at) (here ∙ rw (after-used earlier (s .seen) this (tells ∙ t), ← s .place)) (s .within)
 
-    -- the record passes a limit
-    pub scanning-past : numberUsed (s .seen) this ≡ false → tooMany side (s .seen ++ (this ∷ [])) ≡ true
-        → fileFault file ≡ Failed (TooMany at)
-    scanning-past f t = here ∙ rw (fault-past (s .seen) this f t, ← s .place)
-
-    pub scanning-ready : c < 256 → Ready file p c (total .tags) heads tails order places
-    scanning-ready byte =
-        let w = read-whole file at side n c p next e in
+    pub scanning-ready : c ≤ maxSetLength → AddReady file p c (total .tags) heads tails order places
+    scanning-ready few =
         record {
-          sorted = s .sorted;
+          sorted = s .taken .sorted;
           wide = s .wide;
-          before = λ j h. omega (arith, s .before j h, w .place);
-          inside = omega (arith, w .past, w .within);
-          room = omega (arith, s .limited .tags);
+          before = λ j h. omega (arith, s .before j h, read-after file at e);
+          inside = omega (arith, read-past file at e, read-within file at e);
+          room = omega (arith, s .taken .limited .tags);
         }
 
     module _ {tags fresh : ℕ} {now-heads now-tails now-order now-places : List ℕ}
         (added : AllAdded file p c (total .tags) heads tails order tags fresh now-heads now-tails now-order now-places) where
-      table-next : tableOf now-heads now-tails tags now-order ≡ tagTable (s .seen ++ (this ∷ []))
-      table-next =
-          added .table ∙ ap (λ (l : List ℕ). insertAll l (tagsAt c file p)) (s .table) ∙ sym (tagTable-last (s .seen) this)
-
-      counts-next : grownBy total side tags fresh ≡ totalsOf (s .seen ++ (this ∷ []))
-      counts-next =
-          ap (λ (t : Loaded). grownBy t side tags fresh) (s .counts)
-          ∙ grown-counts (s .seen) this tags fresh
-          (sym (sorted-size (added .sorted)) ∙ ap length table-next) (added .counted)
-
-      pub fresh-small : c < 256 → fresh ≤ 255
-      fresh-small small =
+      pub fresh-few : c ≤ maxSetLength → fresh ≤ maxSetLength
+      fresh-few few =
           omega (arith, added .counted, length-insertAll-bound [] (tagsAt c file p), length-tagsAt c file p)
 
-      -- what the limits say of it
-      pub scanning-over : isOver (grownBy total side tags fresh) side ≡ tooMany side (s .seen ++ (this ∷ []))
-      scanning-over = ap (λ (t : Loaded). isOver t side) counts-next ∙ over-tooMany side (s .seen ++ (this ∷ []))
+      assoc : (earlier ++ s .seen) ++ (this ∷ []) ≡ earlier ++ (s .seen ++ (this ∷ []))
+      assoc = append-assoc earlier (s .seen) (this ∷ [])
 
-      pub scanning-next : {now-used : List ℕ} {now-total : Loaded} → n < 65536 → numberUsed (s .seen) this ≡ false
-          → Inserted used (keyOf side n) now-used → now-total ≡ grownBy total side tags fresh
-          → isOver (grownBy total side tags fresh) side ≡ false
-          → Scanning file now-used now-heads now-tails now-order now-places now-total next
-      scanning-next {now-used} {now-total} small f noted grew limit =
-          let w = read-whole file at side n c p next e in
-          let same : now-total .tags ≡ tags = ap (λ (t : Loaded). t .tags) grew ∙ grown-tags total side tags fresh in
-          record {
-            seen = s .seen ++ (this ∷ []);
-            split = s .split ∙ ap (λ (l : List TagRecord). s .seen ++ l) (records-next file at side n c p next e)
-                ∙ sym (append-assoc (s .seen) (this ∷ []) (recordsAt file next));
-            place = omega (arith, totalLength-last (s .seen) this, s .place, length-tagsAt c file p, w .place, w .past);
-            within = w .within;
-            fault = here ∙ rw (fault-none (s .seen) this f (sym scanning-over ∙ limit));
-            noted = noted-step this small (s .noted) noted;
-            sorted = subst (λ (k : ℕ). Sorted now-heads now-tails k now-order) (sym same) (added .sorted);
-            wide = added .wide;
-            before = λ j h. omega (arith, added .before j (subst (λ (k : ℕ). j < k) same h), w .past);
-            table = ap (λ (k : ℕ). tableOf now-heads now-tails k now-order) same ∙ table-next;
-            counts = grew ∙ counts-next;
-            limited = subst (λ (t : Loaded). Limited t) (sym grew) (limited-grown total side tags fresh (s .limited) limit);
-          }
+      -- what the limits say of it
+      over : isOver (grownBy total side tags fresh) side ≡ tooMany side (earlier ++ (s .seen ++ (this ∷ [])))
+      over = taken-over (s .taken) this (added .sorted) (added .table) (added .counted) ∙ ap (tooMany side) assoc
+
+      module _ (small : n < halfWords) (free : member used (keyOf side n) ≡ false) {now-total : Loaded}
+          (grew : now-total ≡ grownBy total side tags fresh) where
+        limit : isOver now-total side ≡ tooMany side (earlier ++ (s .seen ++ (this ∷ [])))
+        limit = ap (λ (t : Loaded). isOver t side) grew ∙ over
+
+        -- the record passes a limit
+        pub scanning-past : isOver now-total side ≡ true
+            → ScannedAfter earlier file now-heads now-tails now-order (load.Refused (TooMany at))
+        scanning-past t =
+            scanning-refused (TooMany at)
+            (here ∙ rw (after-past earlier (s .seen) this (tells small ∙ free) (sym limit ∙ t), ← s .place)) (s .within)
+
+        pub scanning-next : {now-used : List ℕ} → Inserted used (keyOf side n) now-used → isOver now-total side ≡ false
+            → Scanning earlier file now-used now-heads now-tails now-order now-places now-total next
+        scanning-next noted few =
+            let same : now-total .tags ≡ tags = ap (λ (t : Loaded). t .tags) grew ∙ grown-tags total side tags fresh in
+            record {
+              seen = s .seen ++ (this ∷ []);
+              split = s .split ∙ ap (λ (l : List TagRecord). s .seen ++ l) (records-next file at side n c p next e)
+                  ∙ sym (append-assoc (s .seen) (this ∷ []) (recordsAt file next));
+              place = omega (arith, totalLength-last (s .seen) this, s .place, length-tagsAt c file p, read-length file at e);
+              within = read-within file at e;
+              fault = here ∙ rw (after-none earlier (s .seen) this (tells small ∙ free) (sym limit ∙ few));
+              noted = noted-step this small (s .noted) noted;
+              wide = added .wide;
+              before = λ j h. omega (arith, added .before j (subst (λ (k : ℕ). j < k) same h), read-past file at e);
+              taken = subst (λ (rs : List TagRecord). Taken rs now-total now-heads now-tails now-order) assoc
+                  (taken-next (s .taken) this (added .sorted) (added .table) (added .counted) grew
+                  (sym (ap (λ (t : Loaded). isOver t side) grew) ∙ few));
+            }

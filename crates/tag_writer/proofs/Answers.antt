@@ -1,5 +1,5 @@
 -- Laws of the writer's answer: what a side without a fault has, its bytes put one side after the other, and the call.
-use mathlib.Core.Path.{_≡_, refl, sym, ap, _∙_}
+use mathlib.Core.Path.{_≡_, sym, ap, _∙_}
 use mathlib.Core.List.{List, _++_}
 use mathlib.Core.Bool.{false}
 use Prim.Native.Nat.{ℕ, _+_, _*_, _/_, _≤_, _<_}

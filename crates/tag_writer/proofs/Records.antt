@@ -1,25 +1,21 @@
 -- Laws of records as bytes: marks, the tags of a set one after the other, and the lengths.
 use mathlib.Core.Path.{_≡_, refl}
-use Prim.Native.Nat.{ℕ, _+_, _*_, _/_, _%_, _≤_, _<_}
+use Prim.Native.Nat.{ℕ, _+_, _*_, _≤_, _<_}
 use mathlib.Core.List.{List, [], _∷_, _++_}
 use lib.ListN.{length, take, drop, getD, length-map}
 use Rattle.sets.specs.Collections.{between}
 use Rattle.sets.proofs.Between.{between-cons}
 use Rattle.sets.specs.declared.Side.{Side}
 use Rattle.sets.specs.declared.Side.the-variants.{Left, Right}
-use Rattle.tag_file.specs.Format.{tagLength, headLength, tagBytes, mark}
+use Rattle.tag_file.specs.Format.{tagLength, headLength, tagBytes, mark, recordHead}
 use Rattle.tag_writer.specs.Writer.{itemTag, itemTags}
 use Rattle.tag_file.proofs.Bytes.{bytesOf-tagAt}
-
--- a record before its tags
-abbrev pub headOf : Side → ℕ → ℕ → List ℕ
-headOf side number count = mark side ++ (number / 256 ∷ number % 256 ∷ count ∷ [])
 
 pub mark-bytes : (side : Side) → mark side ≡ getD (mark side) 0 0 ∷ getD (mark side) 1 0 ∷ []
 mark-bytes Left = refl
 mark-bytes Right = refl
 
-pub length-head : (side : Side) (number count : ℕ) → length (headOf side number count) ≡ headLength
+pub length-head : (side : Side) (number count : ℕ) → length (recordHead side number count) ≡ headLength
 length-head Left number count = refl
 length-head Right number count = refl
 

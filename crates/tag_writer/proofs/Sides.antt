@@ -14,7 +14,7 @@ use Rattle.sets.specs.declared.Side.{Side}
 use Rattle.sets.specs.declared.Verdict.the-variants.{Good}
 use Rattle.sets.proofs.Between.{length-between}
 use Rattle.sets.proofs.Good.{GoodSet, good-cons, good-rest}
-use Rattle.tag_file.specs.Format.{tagLength, headLength, recordBytes}
+use Rattle.tag_file.specs.Format.{tagLength, headLength, recordLength, recordBytes}
 use Rattle.tag_file.proofs.ItemCount.{length-tagBytes}
 use Rattle.tag_writer.specs.Room.{ItemsFit}
 use Rattle.tag_writer.specs.Writer.{itemTags, recordsOf}
@@ -41,7 +41,7 @@ fit-items tags items k start end so =
         omega arith
 
 pub length-record : (side : Side) (number : ℕ) (tags set : List ℕ)
-    → length (recordBytes side number (itemTags tags set)) ≡ headLength + tagLength * length set
+    → length (recordBytes side number (itemTags tags set)) ≡ recordLength (length set)
 length-record side number tags set =
     rw (length-append, length-head side number _, length-tagBytes, length-itemTags)
 

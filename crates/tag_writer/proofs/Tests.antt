@@ -85,14 +85,14 @@ module _ (T : ℕ) (l : Lists) where
     unfolding listsTest
     lists-left why failed = rw (table, failed)
 
-    pub lists-right : left ≡ Passed → right ≡ listsTest T l
+    pub lists-right : {r : Tested} → left ≡ Passed → r ≡ right → r ≡ listsTest T l
     unfolding listsTest
-    lists-right passed = rw (table, passed)
+    lists-right passed e = rw (table, passed) e
 
   pub lists-good : T ≤ maxItems → length (l .tags) ≡ tagLength * T → left ≡ Passed → right ≡ Passed → listsTest T l ≡ Passed
   lists-good few whole good-left good-right =
       let table = table-whole T (l .tags) (ap (λ (b : Bool). refuseIf b BadSettings) (le-ltb maxItems T few)) whole in
-      sym (lists-right (sym table) good-left) ∙ good-right
+      sym (lists-right (sym table) good-left (sym good-right))
 
 -- ---- what lists have that passed
 

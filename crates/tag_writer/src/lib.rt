@@ -1,10 +1,9 @@
 // The writer of a tag file (document 01, "Tag file"): a record for each left set (kit), then for each right set (stack). What
 // it answers and leaves in the lent output is defined in specs/. A record is put by one function, whatever its side.
 ghost use mathlib.Core.Path.{_≡_};
-ghost use Prim.Native.Nat.{_+_, _*_, _-_, _/_, _%_, _≤_, _<_};
-ghost use mathlib.Core.List.{_∷_, [], _++_};
+ghost use Prim.Native.Nat.{_+_, _*_, _-_, _≤_};
 ghost use lib.ListN.{length, take, drop, getD};
-ghost use Rattle.tag_file.specs.Format.{tagLength, headLength, tagBytes, mark, recordBytes};
+ghost use Rattle.tag_file.specs.Format.{tagLength, headLength, recordLength, tagBytes, mark, recordHead, recordBytes};
 ghost use lib.Seq.{sets};
 ghost use Rattle.sets.specs.Limits.{maxSets, maxEntries, maxSetLength};
 ghost use Rattle.sets.specs.Collections.{between, setsOf, entries};
@@ -90,7 +89,7 @@ fn second_mark(side: Side) -> u8
 // The mark, the number and the count of a record go to a place of the file.
 fn put_head(side: Side, number: u16, count: u8, file: &mut [u8], at: usize)
     requires { ⌜ at + headLength ≤ length (now file) ⌝ }
-    ensures { λ r. ⌜ now (file .exit) ≡ sets (now (file .entry)) at (mark side ++ (number / 256 ∷ number % 256 ∷ count ∷ [])) ⌝ }
+    ensures { λ r. ⌜ now (file .exit) ≡ sets (now (file .entry)) at (recordHead side number count) ⌝ }
 {
     let first = first_mark(side);
     let second = second_mark(side);
@@ -130,13 +129,21 @@ fn put_record(
     at: usize,
 )
     requires { ⌜ ItemsFit (now tags) (now items) start end ⌝ }
-    requires { ⌜ (end - start ≤ maxSetLength) × (at + (headLength + tagLength * (end - start)) ≤ length (now file)) ⌝ }
+    requires { ⌜ (end - start ≤ maxSetLength) × (at + recordLength (end - start) ≤ length (now file)) ⌝ }
     ensures { λ r. ⌜ now (file .exit) ≡ sets (now (file .entry)) at
         (recordBytes side number (itemTags (now (tags .entry)) (between start end (now (items .entry))))) ⌝ }
 {
     let count = (end - start) as u8;
     put_head(side, number, count, file, at);
     put_tags(tags, items, start, end, file, at + HEAD_LENGTH);
+}
+
+// The bytes of a record with so many tags.
+fn record_length(count: usize) -> usize
+    requires { ⌜ count ≤ maxSetLength ⌝ }
+    ensures { λ r. ⌜ r ≡ recordLength count ⌝ }
+{
+    HEAD_LENGTH + TAG_LENGTH * count
 }
 
 // The records of a side, by place, go to a place of the file.
@@ -161,7 +168,7 @@ fn put_side(
         let end = ends[k] as usize;
         let number = numbers[k];
         put_record(side, number, tags, items, start, end, file, to);
-        to += HEAD_LENGTH + TAG_LENGTH * (end - start);
+        to += record_length(end - start);
         start = end;
         k += 1;
     }

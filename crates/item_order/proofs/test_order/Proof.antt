@@ -47,8 +47,8 @@ returns-3 : tie.Need-returns-3
 returns-3 c =
     let told = c .before .before in
     let p = told .before .before in
-    c .test-sets .ensures
-    ∙ test-sets (input (start p)) (start p .args .places) (found p ∙ told .enum-told .given .1) (c .before .if1 .left)
+    test-sets (input (start p)) (start p .args .places) (found p ∙ told .enum-told .given .1) (c .before .if1 .left)
+    (c .test-sets .ensures)
 
 pub test-order-spec : {M : Type 1} → statement M
 test-order-spec =

@@ -96,7 +96,7 @@ list-counted-requires c κs =
     (loaded-within _
     (listsOf (tags .result) (left-numbers .result) (left-ends .result) (left-items .result)
     (right-numbers .result) (right-ends .result) (right-items .result))
-    (ranks .result) (load .ensures) (told .answer .given .1)
+    (ranks .result) (load .ensures .answered) (told .answer .given .1)
     (omega (arith, tags .ensures)) (omega (arith, ranks .ensures)))
     (load .kept .1 .1 .0) (load .kept .1 .1 .1 .0) (load .kept .1 .1 .1 .1 .1 .0) (load .kept .1 .1 .1 .1 .1 .1 .0)
 

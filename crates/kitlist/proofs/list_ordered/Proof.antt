@@ -1,6 +1,5 @@
 -- `list_ordered` is safe: the filled part of the pair list has whole pairs of places within the two collections.
 use mathlib.Core.Path.{_≡_, sym}
-use mathlib.Core.Bool.{true}
 use Prim.Native.Nat.{_*_, _≤_}
 use native.Mathlib.Omega.{arith}
 use lib.ListN.{length}

@@ -1,28 +1,38 @@
 -- `tag_fill::fill_side` meets its contract. The invariant: what is written of each list and what the records still to come give
--- are together what is wanted, and no item is marked (`Filling`). The measure is how many bytes are left.
-use mathlib.Core.Path.{sym, _∙_}
+-- are together what is wanted, and no item is marked (`SideFilling`). The measure is how many bytes are left.
+use mathlib.Core.Path.{_≡_, sym, _∙_}
 use Prim.Native.Nat.{_-_}
 use borrow.Author.Tests.{not-true, not-false}
 use lib.ListN.{length}
-use Rattle.tag_file.specs.Reading.{tagsAt}
+use Rattle.tag_file.specs.Reading.{readAt, tagsAt}
+use Rattle.tag_file.specs.declared.ReadAnswer.the-variants.{Record}
 use Rattle.tag_file.proofs.Ended.{no-records}
+use Rattle.tag_file.proofs.RecordLaws.{read-less}
 use Rattle.tag_index.specs.Index.{tableOf}
-use Rattle.tag_fill.proofs.Filling.{Filling, filling-start, filled-numbers, filled-ends, filled-items}
-use Rattle.tag_fill.proofs.Filling.{filling-less, filling-known, filling-items, filling-room, filling-own, filling-other}
+use Rattle.tag_fill.proofs.Filling.{SideFilling, side-filling-start, filled-numbers, filled-ends, filled-items}
+use Rattle.tag_fill.proofs.Filling.{filling-known, filling-items, filling-room, filling-own, filling-other}
 use Rattle.tag_fill.proofs.Marks.{unmarked-marked}
 use Rattle.tag_fill.proofs.fill_side.Statement.{statement}
 use Rattle.tag_fill.proofs.fill_side.Tie as tie
 
 abbrev Inv-loop : tie.InvT-loop
 Inv-loop file heads tails order ranks hints n side numbers₀ ends₀ items₀ marks₀ done₀ at₀ numbers ends items marks done at =
-    Filling file side numbers₀ ends₀ items₀ marks numbers ends items done at
+    SideFilling file side numbers₀ ends₀ items₀ marks numbers ends items done at
 
 abbrev μ-loop : tie.MeasureT-loop
 μ-loop file heads tails order ranks hints n side numbers₀ ends₀ items₀ marks₀ done₀ at₀ numbers ends items marks done at =
     length file - at
 
+-- the record that was read
+read : (a : tie.After-answer Inv-loop μ-loop)
+    → let at-loop = a .before .before .before in
+    let r = a .answer .given .0 in
+    readAt (at-loop .before .before .before .before .before .args .file .now) (at-loop .loop .at)
+    ≡ Record (r .0) (r .1 .0) (r .1 .1 .0) (r .1 .1 .1 .0) (r .1 .1 .1 .1 .0)
+read a = sym (a .before .before .read-record .ensures) ∙ a .answer .given .1
+
 loop-holds : tie.Need-loop-holds Inv-loop μ-loop
-loop-holds c = filling-start (c .before .before .before .before .pre)
+loop-holds c = side-filling-start (c .before .before .before .before .pre)
 
 read-record-requires : tie.Need-read-record-requires Inv-loop μ-loop
 read-record-requires c κs = tt
@@ -51,19 +61,14 @@ is-side-requires : tie.Need-is-side-requires Inv-loop μ-loop
 is-side-requires c κs = tt
 
 loop-less : tie.Need-loop-less Inv-loop μ-loop
-loop-less c =
-    let told = c .before .before .before in
-    let read = told .before .before in
-    filling-less (read .before .loop .inv) (sym (read .read-record .ensures) ∙ told .answer .given .1)
+loop-less c = read-less _ _ (read (c .before .before .before))
 
 loop-again : tie.Need-loop-again Inv-loop μ-loop
 loop-again c =
     let told = c .before .before .before in
-    let read = told .before .before in
-    let l = read .before .loop in
-    let e = sym (read .read-record .ensures) ∙ told .answer .given .1 in
-    let other = sym (c .before .is-side .ensures) ∙ not-true (c .before .is-side .result) (c .if1 .taken) in
-    filling-other (l .inv) e other
+    let side = c .before .is-side in
+    filling-other (told .before .before .before .loop .inv) (read told)
+    (sym (side .ensures) ∙ not-true (side .result) (c .if1 .taken))
 
 slice-aggregate-mark-tags : tie.Need-slice-aggregate-mark-tags Inv-loop μ-loop
 slice-aggregate-mark-tags c = sym (c .before .before .before .before .before .before .before .loop .inv .unmarked .wide)
@@ -72,14 +77,12 @@ mark-tags-requires : tie.Need-mark-tags-requires Inv-loop μ-loop
 unfolding tagsAt
 mark-tags-requires c κs =
     let told = c .before .before .before .before in
-    let read = told .before .before in
-    let l = read .before .loop in
-    let start = read .before .before .before .before .before .before in
-    let e = sym (read .read-record .ensures) ∙ told .answer .given .1 in
+    let at-loop = told .before .before .before in
+    let start = at-loop .before .before .before .before .before in
     let a = start .args in
     let p = start .pre in (
-      filling-known (l .inv) e (p .sorted) (p .ranked) (p .table) (p .small),
-      unmarked-marked (tableOf (a .heads .now) (a .tails .now) (a .n) (a .order .now)) (l .inv .unmarked),
+      filling-known (at-loop .loop .inv) (read told) (p .sorted) (p .ranked) (p .table) (p .small),
+      unmarked-marked (tableOf (a .heads .now) (a .tails .now) (a .n) (a .order .now)) (at-loop .loop .inv .unmarked),
     )
 
 slice-aggregate-put-record : tie.Need-slice-aggregate-put-record Inv-loop μ-loop
@@ -87,44 +90,38 @@ slice-aggregate-put-record c = sym (c .before .before .mark-tags .ensures .wide)
 
 put-record-requires : tie.Need-put-record-requires Inv-loop μ-loop
 put-record-requires c κs =
-    let mark = c .before .before .before .before .before in
-    let own = mark .before .before in
+    let at-mark = c .before .before .before .before .before in
+    let own = at-mark .before .before in
     let told = own .before .before .before in
-    let read = told .before .before in
-    let l = read .before .loop in
-    let start = read .before .before .before .before .before .before in
-    let e = sym (read .read-record .ensures) ∙ told .answer .given .1 in
-    let p = start .pre in
-    let m = mark .mark-tags .ensures in
-    let same = filling-items (l .inv) e (p .sorted) (p .table) (p .small) m in
-    let mine = sym (own .before .is-side .ensures) ∙ not-false (own .before .is-side .result) (own .if1 .left) in
-    (m .wide, rw same (filling-room (l .inv) e (p .few) mine))
+    let at-loop = told .before .before .before in
+    let l = at-loop .loop in
+    let p = at-loop .before .before .before .before .before .pre in
+    let side = own .before .is-side in
+    let m = at-mark .mark-tags .ensures in (
+      m .wide,
+      rw (filling-items (l .inv) (read told) (p .sorted) (p .table) (p .small) m)
+          (filling-room (l .inv) (read told) (p .few) (sym (side .ensures) ∙ not-false (side .result) (own .if1 .left))),
+    )
 
 loop-less-2 : tie.Need-loop-less-2 Inv-loop μ-loop
 loop-less-2 c =
     let put = c .before .before .before .before .before .before .before in
-    let mark = put .before .before .before .before .before .before in
-    let own = mark .before .before in
-    let told = own .before .before .before in
-    let read = told .before .before in
-    filling-less (read .before .loop .inv) (sym (read .read-record .ensures) ∙ told .answer .given .1)
+    let own = put .before .before .before .before .before .before .before .before in
+    read-less _ _ (read (own .before .before .before))
 
 loop-again-2 : tie.Need-loop-again-2 Inv-loop μ-loop
 loop-again-2 c =
     let put = c .before .before .before .before .before .before .before in
-    let mark = put .before .before .before .before .before .before in
-    let own = mark .before .before in
+    let at-mark = put .before .before .before .before .before .before in
+    let own = at-mark .before .before in
     let told = own .before .before .before in
-    let read = told .before .before in
-    let l = read .before .loop in
-    let start = read .before .before .before .before .before .before in
-    let e = sym (read .read-record .ensures) ∙ told .answer .given .1 in
-    let p = start .pre in
-    let m = mark .mark-tags .ensures in
-    let same = filling-items (l .inv) e (p .sorted) (p .table) (p .small) m in
-    let mine = sym (own .before .is-side .ensures) ∙ not-false (own .before .is-side .result) (own .if1 .left) in
+    let at-loop = told .before .before .before in
+    let l = at-loop .loop in
+    let p = at-loop .before .before .before .before .before .pre in
+    let side = own .before .is-side in
+    let same = filling-items (l .inv) (read told) (p .sorted) (p .table) (p .small) (at-mark .mark-tags .ensures) in
     let o = put .put-record .ensures in
-    filling-own (l .inv) e mine (rw same at (o .1)) (o .0)
+    filling-own (l .inv) (read told) (sym (side .ensures) ∙ not-false (side .result) (own .if1 .left)) (rw same at (o .1)) (o .0)
 
 pub fill-side-spec : {M : Type 1} → statement M
 fill-side-spec =

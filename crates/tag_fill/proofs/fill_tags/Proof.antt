@@ -1,13 +1,13 @@
 -- `tag_fill::fill_tags` meets its contract. The invariant: the tags written and those still to come are together the table
 -- (`Writing`). The measure is how many are left.
 use mathlib.Core.Path.{sym, ap}
-use Prim.Native.Nat.{_+_, _-_, _≤_}
+use Prim.Native.Nat.{_+_, _-_, _<_, _≤_}
 use native.Mathlib.Omega.{arith}
 use lib.ListN.{getD, drop}
 use Rattle.lists.proofs.Writing.{Writing, writing-start, writing-room, writing-step, writing-end, written-whole}
-use Rattle.tag_file.specs.Format.{bytesOf, tagBytes}
+use Rattle.tag_file.specs.Format.{bytesOf, tagBytes, tagLength}
 use Rattle.tag_file.proofs.ItemCount.{length-bytesOf}
-use Rattle.tag_index.specs.Index.{tableOf}
+use Rattle.tag_index.specs.Index.{indexRoom, tableOf}
 use Rattle.tag_index.proofs.Ids.{sorted-size, sorted-at}
 use Rattle.tag_fill.proofs.TableBytes.{table-next, table-end}
 use Rattle.tag_fill.proofs.fill_tags.Statement.{statement}
@@ -20,6 +20,12 @@ Inv-loop heads tails order n tags₀ i₀ at₀ tags i at =
 abbrev μ-loop : tie.MeasureT-loop
 μ-loop heads tails order n tags₀ i₀ at₀ tags i at =
     n - i
+
+-- the id here lies within the index
+id-low : (t : tie.In-loop Inv-loop μ-loop) → getD (t .before .before .before .args .order .now) (t .before .loop .i) 0 < indexRoom
+id-low t =
+    let listed = t .before .before .before .pre .0 .listed in
+    omega (arith, listed .ids (t .before .loop .i) (t .loop-test .taken), listed .room)
 
 loop-holds : tie.Need-loop-holds Inv-loop μ-loop
 loop-holds c =
@@ -36,34 +42,19 @@ element-copy-out-id c =
     omega (arith, c .before .before .before .pre .0 .listed .room)
 
 cast-id : tie.Need-cast-id Inv-loop μ-loop
-cast-id c =
-    let at-loop = c .before .before in
-    let listed = at-loop .before .before .pre .0 .listed in
-    omega (arith, listed .ids (at-loop .loop .i) (c .before .loop-test .taken), listed .room)
+cast-id c = omega (arith, id-low (c .before))
 
 mul-put-tag : tie.Need-mul-put-tag Inv-loop μ-loop
-mul-put-tag c =
-    let at-loop = c .before .before in
-    let listed = at-loop .before .before .pre .0 .listed in
-    omega (arith, listed .ids (at-loop .loop .i) (c .before .loop-test .taken), listed .room)
+mul-put-tag c = omega (arith, id-low (c .before))
 
 element-copy-out-put-tag : tie.Need-element-copy-out-put-tag Inv-loop μ-loop
-element-copy-out-put-tag c =
-    let at-loop = c .before .before in
-    let listed = at-loop .before .before .pre .0 .listed in
-    omega (arith, listed .ids (at-loop .loop .i) (c .before .loop-test .taken), listed .room)
+element-copy-out-put-tag c = omega (arith, id-low (c .before))
 
 mul-put-tag-2 : tie.Need-mul-put-tag-2 Inv-loop μ-loop
-mul-put-tag-2 c =
-    let at-loop = c .before .before .before in
-    let listed = at-loop .before .before .pre .0 .listed in
-    omega (arith, listed .ids (at-loop .loop .i) (c .before .before .loop-test .taken), listed .room)
+mul-put-tag-2 c = omega (arith, id-low (c .before .before))
 
 element-copy-out-put-tag-2 : tie.Need-element-copy-out-put-tag-2 Inv-loop μ-loop
-element-copy-out-put-tag-2 c =
-    let at-loop = c .before .before .before in
-    let listed = at-loop .before .before .pre .0 .listed in
-    omega (arith, listed .ids (at-loop .loop .i) (c .before .before .loop-test .taken), listed .room)
+element-copy-out-put-tag-2 c = omega (arith, id-low (c .before .before))
 
 put-tag-requires : tie.Need-put-tag-requires Inv-loop μ-loop
 put-tag-requires c κs =
@@ -75,8 +66,8 @@ put-tag-requires c κs =
     let table = tableOf (a .heads .now) (a .tails .now) (a .n) (a .order .now) in
     let i = at-loop .loop .i in
     let next = table-next table i (omega (arith, sorted-size s, test .loop-test .taken)) in
-    let room = writing-room (at-loop .loop .inv .0) (bytesOf 12 (getD table i 0)) (tagBytes (drop (i + 1) table)) next in
-    omega (arith, room, length-bytesOf 12 (getD table i 0))
+    let room = writing-room (at-loop .loop .inv .0) (bytesOf tagLength (getD table i 0)) (tagBytes (drop (i + 1) table)) next in
+    omega (arith, room, length-bytesOf tagLength (getD table i 0))
 
 add-i : tie.Need-add-i Inv-loop μ-loop
 add-i c =
@@ -97,7 +88,7 @@ loop-again c =
     let i = at-loop .loop .i in
     let inside = test .loop-test .taken in
     let next = table-next table i (omega (arith, sorted-size s)) in
-    let here = ap (bytesOf 12) (sym (sorted-at s i inside)) in
+    let here = ap (bytesOf tagLength) (sym (sorted-at s i inside)) in
     (writing-step (at-loop .loop .inv .0) next (rw here at (c .before .before .put-tag .ensures)), omega arith)
 
 same-length : tie.Need-same-length Inv-loop μ-loop

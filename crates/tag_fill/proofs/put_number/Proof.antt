@@ -1,13 +1,13 @@
 -- `tag_fill::put_number` meets its contract. The invariant: with the bytes still to come the whole number is written
--- (`BytesLeft`). The measure is how many bytes are left.
+-- (`PuttingBytes`). The measure is how many bytes are left.
 use native.Mathlib.Omega.{arith}
-use Rattle.tag_fill.proofs.TableBytes.{BytesLeft, bytes-start, bytes-step, bytes-end}
+use Rattle.tag_fill.proofs.TableBytes.{PuttingBytes, putting-start, putting-step, putting-end}
 use Rattle.tag_fill.proofs.put_number.Statement.{statement}
 use Rattle.tag_fill.proofs.put_number.Tie as tie
 
 abbrev Inv-loop : tie.InvT-loop
 Inv-loop number width tags₀ at rest₀ left₀ tags rest left =
-    BytesLeft tags₀ at width number tags rest left
+    PuttingBytes tags₀ at width number tags rest left
 
 abbrev μ-loop : tie.MeasureT-loop
 μ-loop number width tags₀ at rest₀ left₀ tags rest left =
@@ -15,7 +15,7 @@ abbrev μ-loop : tie.MeasureT-loop
 
 loop-holds : tie.Need-loop-holds Inv-loop μ-loop
 loop-holds c =
-    bytes-start (c .args .tags .now) (c .args .at) (c .args .width) (c .args .number)
+    putting-start (c .args .tags .now) (c .args .at) (c .args .width) (c .args .number)
 
 sub-left : tie.Need-sub-left Inv-loop μ-loop
 sub-left c =
@@ -39,7 +39,7 @@ loop-less c =
 
 loop-again : tie.Need-loop-again Inv-loop μ-loop
 loop-again c =
-    bytes-step (c .before .loop .inv) (c .loop-test .taken)
+    putting-step (c .before .loop .inv) (c .loop-test .taken)
 
 add-result : tie.Need-add-result Inv-loop μ-loop
 add-result c =
@@ -51,7 +51,7 @@ same-length c =
 
 returns : tie.Need-returns Inv-loop μ-loop
 returns c =
-    bytes-end (c .before .loop .inv) (omega (arith, c .loop-test .left))
+    putting-end (c .before .loop .inv) (omega (arith, c .loop-test .left))
 
 pub put-number-spec : {M : Type 1} → statement M
 put-number-spec =

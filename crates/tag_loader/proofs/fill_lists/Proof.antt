@@ -1,11 +1,8 @@
 -- `tag_loader::fill_lists` meets its contract.
-use mathlib.Core.Path.{ap, _∙_}
-use mathlib.Core.List.{List}
 use Prim.Native.Nat.{ℕ}
 use lib.ListN.{length-replicate}
-use Rattle.tag_file.specs.Format.{tagBytes}
-use Rattle.sets.specs.Lent.{filledOver}
-use Rattle.tag_loader.proofs.Rooms.{sorted-here, table-here, tags-room, left-ready, right-ready}
+use Rattle.tag_index.specs.Index.{indexRoom}
+use Rattle.tag_loader.proofs.Rooms.{sorted-here, tags-room, tags-filled, left-ready, right-ready}
 use borrow.Author.Needs.{needs}
 use Rattle.tag_loader.proofs.fill_lists.Statement.{statement}
 use Rattle.tag_loader.proofs.fill_lists.Tie as tie
@@ -13,7 +10,7 @@ use Rattle.tag_loader.proofs.fill_lists.Tie as tie
 rank-ids-requires : tie.Need-rank-ids-requires
 rank-ids-requires c κs =
     let start = c .before .before .before .before .before .before .before .before .before in
-    (sorted-here (start .pre) .listed, length-replicate {A = ℕ} 4352 0)
+    (sorted-here (start .pre) .listed, length-replicate {A = ℕ} indexRoom 0)
 
 fill-tags-requires : tie.Need-fill-tags-requires
 fill-tags-requires c κs =
@@ -63,8 +60,7 @@ returns c =
     let l = at-left .fill-side .ensures in
     let r = at-right .fill-side2 .ensures in
     record {
-      tags-filled = at-tags .fill-tags .ensures
-          ∙ ap (λ (t : List ℕ). filledOver (tagBytes t) (start .args .tags .now)) (table-here (start .pre));
+      tags-filled = tags-filled (start .pre) (start .args .tags .now) (at-tags .fill-tags .ensures);
       leftNumbers-filled = l .0;
       leftEnds-filled = l .1 .0;
       leftItems-filled = l .1 .1;

@@ -1,8 +1,16 @@
 -- `tag_loader::load` meets its contract: by the three ends of `Answers`.
+use Rattle.tag_file.specs.Loading.{Lists, listsOf}
 use Rattle.tag_loader.proofs.Answers.{call-fault, sound-limited, call-short, room-fillable, call-loaded}
 use borrow.Author.Needs.{needs}
 use Rattle.tag_loader.proofs.load.Statement.{statement}
 use Rattle.tag_loader.proofs.load.Tie as tie
+
+-- the lists that were lent
+abbrev lent : tie.After-scan → Lists
+lent at-scan =
+    let a = at-scan .before .before .before .before .before .before .before .before .before .before .before .before .before .args in
+    listsOf (a .tags .now) (a .left-numbers .now) (a .left-ends .now) (a .left-items .now)
+    (a .right-numbers .now) (a .right-ends .now) (a .right-items .now)
 
 scan-requires : tie.Need-scan-requires
 scan-requires c κs = search needs
@@ -44,7 +52,7 @@ returns c =
     let at-told = at-clear .before .before .before .before .before .before .before .before in
     let at-scan = at-told .before .before in
     let told = at-told .enum-told .given in
-    call-fault (told .0 .0) (at-scan .scan .ensures) (told .1) (at-clear .clear-lists .ensures)
+    call-fault {before = lent at-scan} (told .0 .0) (at-scan .scan .ensures) (told .1) (at-clear .clear-lists .ensures)
 
 has-room-requires : tie.Need-has-room-requires
 has-room-requires c κs =
@@ -83,7 +91,7 @@ returns-2 c =
     let at-room = at-if1 .before in
     let at-answer = at-room .before .before in
     let at-scan = at-answer .before .before in
-    call-short (at-scan .scan .ensures) (at-answer .answer .given .1) _
+    call-short (at-scan .scan .ensures) (at-answer .answer .given .1) (lent at-scan)
     (at-room .has-room .ensures) (at-if1 .if1 .taken)
     (at-clear .clear-lists2 .ensures)
 
@@ -93,7 +101,7 @@ fill-lists-requires c κs =
     let at-room = at-if1 .before in
     let at-answer = at-room .before .before in
     let at-scan = at-answer .before .before in
-    room-fillable (at-scan .scan .ensures) (at-answer .answer .given .1) _
+    room-fillable (at-scan .scan .ensures) (at-answer .answer .given .1) (lent at-scan)
     (at-room .has-room .ensures) (at-if1 .if1 .left)
 
 same-length-15 : tie.Need-same-length-15
@@ -125,7 +133,7 @@ returns-3 c =
     let at-room = at-if1 .before in
     let at-answer = at-room .before .before in
     let at-scan = at-answer .before .before in
-    call-loaded (at-scan .scan .ensures) (at-answer .answer .given .1) _
+    call-loaded (at-scan .scan .ensures) (at-answer .answer .given .1) (lent at-scan)
     (at-room .has-room .ensures) (at-if1 .if1 .left)
     (at-fill .fill-lists .ensures)
 

@@ -8,15 +8,15 @@ use lib.ListN.{length, getD, set, length-set}
 use borrow.Author.Needs.{needs}
 use Rattle.sets.specs.declared.Side.{Side}
 use lib.Seq.{sets}
-use Rattle.tag_file.specs.Format.{mark, headLength}
-use Rattle.tag_writer.proofs.Records.{mark-bytes, headOf}
+use Rattle.tag_file.specs.Format.{mark, headLength, recordHead}
+use Rattle.tag_writer.proofs.Records.{mark-bytes}
 use Rattle.tag_writer.proofs.put_head.Statement.{statement}
 use Rattle.tag_writer.proofs.put_head.Tie as tie
 
 head-stores : (side : Side) (file : List ℕ) (at number count first second : ℕ) → at + headLength ≤ length file
     → first ≡ getD (mark side) 0 0 → second ≡ getD (mark side) 1 0
     → set (set (set (set (set file at first) (at + 1) second) (at + 2) (number / 256)) (at + 3) (number % 256)) (at + 4) count
-    ≡ sets file at (headOf side number count)
+    ≡ sets file at (recordHead side number count)
 head-stores side file at number count first second room e₁ e₂ =
     rw (mark-bytes side, ← e₁, ← e₂)
     (simp towards-suc)

@@ -6,25 +6,25 @@ use native.Mathlib.Omega.{arith}
 use lib.ListN.{length}
 use Rattle.sets.specs.Collections.{between}
 use Rattle.sets.specs.declared.Side.{Side}
-use Rattle.tag_file.specs.Format.{tagLength, headLength, tagBytes, recordBytes}
+use Rattle.tag_file.specs.Format.{headLength, recordLength, tagBytes, recordHead, recordBytes}
 use lib.Seq.{sets}
 use Rattle.tag_writer.specs.Room.{ItemsFit}
 use Rattle.tag_writer.specs.Writer.{itemTags}
 use Rattle.lists.proofs.Filling.{sets-then}
 use Rattle.sets.proofs.Between.{length-between}
-use Rattle.tag_writer.proofs.Records.{headOf, length-head, length-itemTags}
+use Rattle.tag_writer.proofs.Records.{length-head, length-itemTags}
 use Rattle.tag_writer.proofs.put_record.Statement.{statement}
 use Rattle.tag_writer.proofs.put_record.Tie as tie
 
 record-put : (side : Side) (number : ℕ) (tags items : List ℕ) (start end : ℕ) (file : List ℕ) (at : ℕ) (file′ file″ : List ℕ)
-    → ItemsFit tags items start end → at + (headLength + tagLength * (end - start)) ≤ length file
-    → file′ ≡ sets file at (headOf side number (end - start))
-    → file″ ≡ sets file′ (at + 5) (tagBytes (itemTags tags (between start end items)))
+    → ItemsFit tags items start end → at + recordLength (end - start) ≤ length file
+    → file′ ≡ sets file at (recordHead side number (end - start))
+    → file″ ≡ sets file′ (at + headLength) (tagBytes (itemTags tags (between start end items)))
     → file″ ≡ sets file at (recordBytes side number (itemTags tags (between start end items)))
 record-put side number tags items start end file at file′ file″ fit room e₁ e₂ =
     let n : length (itemTags tags (between start end items)) ≡ end - start =
     length-itemTags tags (between start end items) ∙ length-between start end items (fit .inside) in
-    e₂ ∙ rw (e₁, n) (sym (sets-then file at (headOf side number (end - start)) _ headLength (length-head side _ _)))
+    e₂ ∙ rw (e₁, n) (sym (sets-then file at (recordHead side number (end - start)) _ headLength (length-head side _ _)))
 
 sub-count : tie.Need-sub-count
 sub-count c = c .before .before .before .pre .0 .rise

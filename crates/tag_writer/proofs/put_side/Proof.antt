@@ -10,7 +10,7 @@ use Rattle.sets.specs.declared.Side.{Side}
 use Rattle.sets.specs.declared.Verdict.the-variants.{Good}
 use Rattle.sets.proofs.Between.{length-between}
 use Rattle.sets.proofs.Good.{GoodSet, good-step, good-next}
-use Rattle.tag_file.specs.Format.{tagLength, headLength, recordBytes}
+use Rattle.tag_file.specs.Format.{tagLength, recordLength, recordBytes}
 use lib.Seq.{sets, length-sets}
 use Rattle.tag_writer.specs.Room.{ItemsFit, GoodSide}
 use Rattle.tag_writer.specs.Writer.{itemTags, recordsOf}
@@ -39,7 +39,7 @@ putting-start side tags numbers ends items file at so =
 record Turn (tags items file : List ℕ) (k start end to : ℕ) : Type 0 where
   set : GoodSet (length tags / tagLength) k start end items
   fit : ItemsFit tags items start end
-  room : to + (headLength + tagLength * (end - start)) ≤ length file
+  room : to + recordLength (end - start) ≤ length file
 
 module _ (side : Side) (tags numbers ends items file₀ : List ℕ) (at : ℕ) (file : List ℕ) (k start to : ℕ)
     (whole : GoodSide tags numbers ends items)
@@ -48,7 +48,7 @@ module _ (side : Side) (tags numbers ends items file₀ : List ℕ) (at : ℕ) (
   -- the length of the record at place k
   size : GoodSet (length tags / tagLength) k start (getD ends k 0) items
       → length (recordBytes side (getD numbers k 0) (itemTags tags (between start (getD ends k 0) items)))
-      ≡ headLength + tagLength * (getD ends k 0 - start)
+      ≡ recordLength (getD ends k 0 - start)
   size here =
       length-record side (getD numbers k 0) tags (between start (getD ends k 0) items)
       ∙ rw (length-between start (getD ends k 0) items (here .within))
@@ -69,12 +69,12 @@ module _ (side : Side) (tags numbers ends items file₀ : List ℕ) (at : ℕ) (
         room = omega (arith, so .place, so .long);
       }
 
-  putting-step : (file′ : List ℕ)
+  putting-step : (file′ : List ℕ) (size′ : ℕ)
       → file′ ≡ sets file to (recordBytes side (getD numbers k 0) (itemTags tags (between start (getD ends k 0) items)))
-      → PuttingRecords side tags numbers ends items file₀ at file′ (k + 1) (getD ends k 0)
-      (to + (headLength + tagLength * (getD ends k 0 - start)))
-  putting-step file′ e =
-      let n = size (turn .set) in
+      → size′ ≡ recordLength (getD ends k 0 - start)
+      → PuttingRecords side tags numbers ends items file₀ at file′ (k + 1) (getD ends k 0) (to + size′)
+  putting-step file′ size′ e long =
+      let n = size (turn .set) ∙ sym long in
       let l = split in
       let bytes = recordBytes side (getD numbers k 0) (itemTags tags (between start (getD ends k 0) items)) in
       record {
@@ -103,6 +103,19 @@ Inv-loop side tags numbers ends items file₀ at k₀ start₀ to₀ file k star
 abbrev μ-loop : tie.MeasureT-loop
 μ-loop side tags numbers ends items file₀ at k₀ start₀ to₀ file k start to = length ends - k
 
+-- the call that a turn belongs to, and what the turn has
+abbrev begin : tie.In-loop Inv-loop μ-loop → tie.Start Inv-loop μ-loop
+begin p = p .before .before .before .before .before .before .before
+
+now-turn : (p : tie.In-loop Inv-loop μ-loop)
+    → Turn (begin p .args .tags .now) (begin p .args .items .now) (p .before .loop .file) (p .before .loop .k) (p .before .loop .start)
+    (getD (begin p .args .ends .now) (p .before .loop .k) 0) (p .before .loop .to)
+now-turn p = turn _ _ _ _ _ _ _ _ _ _ _ (begin p .pre .0) (begin p .pre .1) (p .loop-test .taken) (p .before .loop .inv)
+
+-- the turn after its record was put
+abbrev within : tie.After-slice-known2 Inv-loop μ-loop → tie.In-loop Inv-loop μ-loop
+within c = c .before .before .before .before .before .before
+
 loop-holds : tie.Need-loop-holds Inv-loop μ-loop
 loop-holds c = putting-start _ _ _ _ _ _ _ (c .before .before .before .before .before .pre .0)
 
@@ -123,38 +136,19 @@ shared-slice-read-number c = omega arith
 
 put-record-requires : tie.Need-put-record-requires Inv-loop μ-loop
 put-record-requires c κs =
-    let test = c .before .before .before in
-    let entry = test .before .before .before .before .before .before .before in
-    let now = turn _ _ _ _ _ _ _ _ _ _ _ (entry .pre .0) (entry .pre .1) (test .loop-test .taken) (test .before .loop .inv) in
+    let now = now-turn (c .before .before .before) in
     (now .fit, (now .set .short, now .room))
 
-sub-to : tie.Need-sub-to Inv-loop μ-loop
-sub-to c =
-    let test = c .before .before .before .before .before .before in
-    let entry = test .before .before .before .before .before .before .before in
-    let now = turn _ _ _ _ _ _ _ _ _ _ _ (entry .pre .0) (entry .pre .1) (test .loop-test .taken) (test .before .loop .inv) in
-    omega (arith, now .set .ordered, now .room, entry .good)
+sub-record-length : tie.Need-sub-record-length Inv-loop μ-loop
+sub-record-length c = omega (arith, now-turn (within c) .set .ordered)
 
-mul-to : tie.Need-mul-to Inv-loop μ-loop
-mul-to c =
-    let test = c .before .before .before .before .before .before in
-    let entry = test .before .before .before .before .before .before .before in
-    let now = turn _ _ _ _ _ _ _ _ _ _ _ (entry .pre .0) (entry .pre .1) (test .loop-test .taken) (test .before .loop .inv) in
-    omega (arith, now .set .ordered, now .room, entry .good)
+record-length-requires : tie.Need-record-length-requires Inv-loop μ-loop
+record-length-requires c κs = now-turn (within c) .set .short
 
 add-to : tie.Need-add-to Inv-loop μ-loop
 add-to c =
-    let test = c .before .before .before .before .before .before in
-    let entry = test .before .before .before .before .before .before .before in
-    let now = turn _ _ _ _ _ _ _ _ _ _ _ (entry .pre .0) (entry .pre .1) (test .loop-test .taken) (test .before .loop .inv) in
-    omega (arith, now .set .ordered, now .room, entry .good)
-
-add-to-2 : tie.Need-add-to-2 Inv-loop μ-loop
-add-to-2 c =
-    let test = c .before .before .before .before .before .before in
-    let entry = test .before .before .before .before .before .before .before in
-    let now = turn _ _ _ _ _ _ _ _ _ _ _ (entry .pre .0) (entry .pre .1) (test .loop-test .taken) (test .before .loop .inv) in
-    omega (arith, now .set .ordered, now .room, entry .good)
+    let p = within (c .before) in
+    omega (arith, c .record-length .ensures, now-turn p .room, begin p .good)
 
 add-k : tie.Need-add-k Inv-loop μ-loop
 add-k c = omega arith
@@ -164,10 +158,9 @@ loop-less c = omega arith
 
 loop-again : tie.Need-loop-again Inv-loop μ-loop
 loop-again c =
-    let test = c .before .before .before .before .before .before in
-    let entry = test .before .before .before .before .before .before .before in
-    putting-step _ _ _ _ _ _ _ _ _ _ _ (entry .pre .0) (entry .pre .1) (test .loop-test .taken) (test .before .loop .inv) _
-    (c .before .before .put-record .ensures)
+    let p = within (c .before) in
+    putting-step _ _ _ _ _ _ _ _ _ _ _ (begin p .pre .0) (begin p .pre .1) (p .loop-test .taken) (p .before .loop .inv) _ _
+    (c .before .before .before .put-record .ensures) (c .record-length .ensures)
 
 same-length : tie.Need-same-length Inv-loop μ-loop
 same-length c = c .before .loop .inv .long
@@ -190,10 +183,9 @@ put-side-spec =
     mul-number
     shared-slice-read-number
     put-record-requires
-    sub-to
-    mul-to
+    sub-record-length
+    record-length-requires
     add-to
-    add-to-2
     add-k
     loop-less
     loop-again

@@ -68,9 +68,8 @@ returns-3 : tie.Need-returns-3
 returns-3 c =
     let p = c .before .before .before in
     let s = start (earlier p) in
-    c .test-numbered2 .ensures
-    ∙ lists-right (s .args .t) (lists s) (table (earlier p) ∙ p .before .enum-told .given .1)
-    (left p ∙ c .before .enum-told2 .given .1)
+    lists-right (s .args .t) (lists s) (table (earlier p) ∙ p .before .enum-told .given .1)
+    (left p ∙ c .before .enum-told2 .given .1) (c .test-numbered2 .ensures)
 
 pub test-lists-spec : {M : Type 1} → statement M
 test-lists-spec =

@@ -1,6 +1,6 @@
 -- `write_good` meets its contract: the two sides' lengths decide between zeros and the records put one after the other.
 use mathlib.Core.Path.{_≡_, sym, _∙_}
-use Prim.Native.Nat.{_+_, _≤_}
+use Prim.Native.Nat.{_+_}
 use native.Mathlib.Omega.{arith}
 use lib.ListN.{length}
 use Rattle.tag_file.specs.Loading.{Lists, listsOf}
