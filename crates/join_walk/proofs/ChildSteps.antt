@@ -1,6 +1,6 @@
--- The children of a path: the left sets that go on after it are the groups by their next rank, from some key on. The first of them
--- begins a whole group, which is a child; what follows are the groups of greater keys. With the candidates after the path a child
--- is a node, and its slot lies beyond these candidates, since its rank is greater than the path's last.
+-- The children of a path: the left sets that go on after it are the groups by their next rank, from some key on. The first of
+-- them begins a whole group, which is a child; what follows are the groups of greater keys. With the candidates after the path a
+-- child is a node, and its slot lies beyond these candidates, since its rank is greater than the path's last.
 use Prim.Native.Nat.{ℕ, suc, _+_, _-_, _≤_, _<_}
 use mathlib.Core.Path.{_≡_, refl, sym, ap, subst, _∙_}
 use mathlib.Core.List.{List, [], _∷_, _++_}
@@ -55,8 +55,9 @@ last-longer path r =
     ap (λ (n : ℕ). getD (path ++ (r ∷ [])) n 0) end ∙ getD-at path r [] 0 (length path) refl
 
 -- fewer left sets need less room
-pub underway-less : {st : Settings} {q : Query} {t : Tally} {n : ℕ} (m : ℕ) → m ≤ n → Underway st q t n → Underway st q t m
-underway-less {st} {q} {t} {n} m less before =
+pub underway-less : {st : Settings} {q : Query} {tally : Tally} {n : ℕ} (m : ℕ) → m ≤ n → Underway st q tally n
+    → Underway st q tally m
+underway-less {st} {q} {tally} {n} m less before =
     record {
       limit = before .limit;
       shallow = before .shallow;
@@ -65,8 +66,8 @@ underway-less {st} {q} {t} {n} m less before =
       bounded = omega (arith, before .bounded, mul-le-mul-right (length (q .rights)) less);
     }
 
-module _ {lay : Layout} {st : Settings} {q : Query} {path w : List ℕ} {d i hi : ℕ} {t : Tally}
-    (kids : Children lay st q path w d i hi t) (more : i < hi) where
+module _ {lay : Layout} {st : Settings} {q : Query} {path w : List ℕ} {d i hi : ℕ} {tally : Tally}
+    (kids : Children lay st q path w d i hi tally) (more : i < hi) where
   abbrev rest : List ℕ
   rest = beginners q path (suc d)
 
@@ -76,8 +77,8 @@ module _ {lay : Layout} {st : Settings} {q : Query} {path w : List ℕ} {d i hi 
   pub kids-run : RunThere lay q w i hi
   kids-run = record { index = kids .index; some = more; within = kids .few }
 
-  first : FirstGroup (keyAt q d) (kids .x) (kids .n) rest (leftIn lay w i)
-  first = group-first d (kids .x) (kids .n) rest kids-run (kids .lefts)
+  first : FirstGroup (keyAt q d) (kids .least) (kids .span) rest (leftIn lay w i)
+  first = group-first d (kids .least) (kids .span) rest kids-run (kids .lefts)
 
   -- the child's own rank, and its path
   abbrev pub childRank : ℕ
@@ -94,11 +95,11 @@ module _ {lay : Layout} {st : Settings} {q : Query} {path w : List ℕ} {d i hi 
 
   module _ {j : ℕ} (end : RunEnd lay w d i hi j) where
     parted : Cut lay w i j hi (keep (λ k. eqb (keyAt q d k) key) rest)
-        (groupsFrom (keyAt q d) (suc key) (kids .x + kids .n - suc key) rest)
-    parted = group-cut d (kids .x) (kids .n) rest kids-run (kids .lefts) end
+        (groupsFrom (keyAt q d) (suc key) (kids .least + kids .span - suc key) rest)
+    parted = group-cut d (kids .least) (kids .span) rest kids-run (kids .lefts) end
 
     -- the first child
-    pub first-child : Child lay st q childPath w (suc d) i j t
+    pub first-child : Child lay st q childPath w (suc d) i j tally
     first-child =
         record {
           index = kids .index;
@@ -115,9 +116,9 @@ module _ {lay : Layout} {st : Settings} {q : Query} {path w : List ℕ} {d i hi 
               (kids .depth) (keep-further q path childRank (orderFrom q (q .limit - suc d) (suc d)));
         }
 
-    -- what is left of the children after it
+    -- the children after it
     pub kids-next : {w′ : List ℕ} {slot : ℕ} {one : Walked} → lay .slots ≤ slot
-        → RunVisited lay q (st .budget) slot (suc d) w w′ i j t one → one .spent ≡ false
+        → RunVisited lay q (st .budget) slot (suc d) w w′ i j tally one → one .spent ≡ false
         → Children lay st q path w′ d j hi (one .tally)
     kids-next low visit calm =
         record {
@@ -128,17 +129,17 @@ module _ {lay : Layout} {st : Settings} {q : Query} {path w : List ℕ} {d i hi 
           within = kids .within;
           upto = end .within;
           few = kids .few;
-          x = suc key;
-          n = kids .x + kids .n - suc key;
+          least = suc key;
+          span = kids .least + kids .span - suc key;
           keys = omega (arith, kids .keys, first .high);
           further = omega arith;
           lefts = run-framed (kids .index) (visit .framed) low j hi (kids .few) ∙ parted .back;
         }
 
 -- the first child of a node, with the candidates after the node
-module _ {lay : Layout} {st : Settings} {q : Query} {path w : List ℕ} {d i hi from to : ℕ} {t : Tally}
-    (at : ChildrenAt lay st q path w d i hi from to t) (more : i < hi) {j : ℕ} (end : RunEnd lay w d i hi j) where
-  kids : Children lay st q path w d i hi t
+module _ {lay : Layout} {st : Settings} {q : Query} {path w : List ℕ} {d i hi from to : ℕ} {tally : Tally}
+    (at : ChildrenAt lay st q path w d i hi from to tally) (more : i < hi) {j : ℕ} (end : RunEnd lay w d i hi j) where
+  kids : Children lay st q path w d i hi tally
   kids = at .kids
 
   after : After lay q path w d from to
@@ -150,7 +151,7 @@ module _ {lay : Layout} {st : Settings} {q : Query} {path w : List ℕ} {d i hi 
   abbrev longer : List ℕ
   longer = childPath (at .kids) more
 
-  child : Child lay st q longer w (suc d) i j t
+  child : Child lay st q longer w (suc d) i j tally
   child = first-child (at .kids) more end
 
   -- the child's rank is greater than the parent's last
@@ -196,7 +197,7 @@ module _ {lay : Layout} {st : Settings} {q : Query} {path w : List ℕ} {d i hi 
       (upto (length (q .rights)))
       (λ s. sym (same-candidates s))
 
-  child-node : Node lay st q longer w (suc d) i j from to t
+  child-node : Node lay st q longer w (suc d) i j from to tally
   child-node =
       record {
         at = record {
@@ -222,18 +223,18 @@ module _ {lay : Layout} {st : Settings} {q : Query} {path w : List ℕ} {d i hi 
       }
 
   -- the child at its depth as the code writes it
-  pub next-node : Node lay st q longer w (d + 1) i j from to t
-  next-node = subst (λ (e : ℕ). Node lay st q longer w e i j from to t) (sym (add-one d)) child-node
+  pub next-node : Node lay st q longer w (d + 1) i j from to tally
+  next-node = subst (λ (e : ℕ). Node lay st q longer w e i j from to tally) (sym (add-one d)) child-node
 
   -- and its visit as that of a part of the children
-  child-done : {w′ : List ℕ} {one : Walked} → NodeVisited lay st q longer w w′ (d + 1) i j t one
+  child-done : {w′ : List ℕ} {one : Walked} → NodeVisited lay st q longer w w′ (d + 1) i j tally one
       → PartDone lay (st .budget) (suc d) hi (λ path w. slotOf lay w (suc (lastOf path)))
-      (λ q path w i r. ChildrenAt lay st q path w d i hi from to r) q path w i t w′ j one
+      (λ q path w i r. ChildrenAt lay st q path w d i hi from to r) q path w i tally w′ j one
   child-done {w′} {one} done =
       let low : lay .slots ≤ slotOf lay w (suc (lastOf path)) = omega arith in
       let framed : Framed (slotOf lay w (suc (lastOf path))) w w′ = framed-lower slot-beyond (done .framed) in
-      let visited : Visited q (st .budget) (suc d) (run lay w i j) t one =
-      subst (λ (e : ℕ). Visited q (st .budget) e (run lay w i j) t one) (add-one d) (done .visited) in
+      let visited : Visited q (st .budget) (suc d) (run lay w i j) tally one =
+      subst (λ (e : ℕ). Visited q (st .budget) e (run lay w i j) tally one) (add-one d) (done .visited) in
       let same = slot-framed (kids .index) framed low (suc (lastOf path)) (after .last) in
       record {
         facts = record { index = kids .index; few = kids .few; slots = low };
@@ -254,10 +255,11 @@ module _ {lay : Layout} {st : Settings} {q : Query} {path w : List ℕ} {d i hi 
       }
 
 -- every child's visit so, from what the visit of a node promises
-pub children-done : {lay : Layout} {st : Settings} {w w′ : List ℕ} {d i j hi from to : ℕ} {t : Tally} {one : Walked} → i < hi
+pub children-done : {lay : Layout} {st : Settings} {w w′ : List ℕ} {d i j hi from to : ℕ} {tally : Tally} {one : Walked} → i < hi
     → RunEnd lay w d i hi j
-    → ((q : Query) (path : List ℕ) → Node lay st q path w (d + 1) i j from to t → NodeVisited lay st q path w w′ (d + 1) i j t one)
-    → (q : Query) (path : List ℕ) → ChildrenAt lay st q path w d i hi from to t
+    → ((q : Query) (path : List ℕ) → Node lay st q path w (d + 1) i j from to tally
+    → NodeVisited lay st q path w w′ (d + 1) i j tally one)
+    → (q : Query) (path : List ℕ) → ChildrenAt lay st q path w d i hi from to tally
     → PartDone lay (st .budget) (suc d) hi (λ path w. slotOf lay w (suc (lastOf path)))
-    (λ q path w i r. ChildrenAt lay st q path w d i hi from to r) q path w i t w′ j one
+    (λ q path w i r. ChildrenAt lay st q path w d i hi from to r) q path w i tally w′ j one
 children-done more end each q path at = child-done at more end (each q (childPath (at .kids) more) (next-node at more end))

@@ -51,19 +51,19 @@ use Rattle.join_walk.proofs.FrameLaws.{index-framed, slot-framed, run-f
 use Rattle.join_walk.proofs.NodeStops.{goes-on, node-rooted}
 
 -- a node where the walk goes on, its candidates narrowed to a part of the work list, which became w′
-pub record Onward (lay : Layout) (st : Settings) (q : Query) (path w w′ : List ℕ) (d lo hi from to : ℕ) (t : Tally)
+pub record Onward (lay : Layout) (st : Settings) (q : Query) (path w w′ : List ℕ) (d lo hi from to : ℕ) (tally : Tally)
     (part : Part) : Type 0 where
-  pub node : Node lay st q path w d lo hi from to t
+  pub node : Node lay st q path w d lo hi from to tally
   pub narrowed : Narrowed lay q path d w w′ part
   pub on : true ≡ goes q path
 
 -- as the decision was answered, the path's last rank read, and the candidates narrowed by it
-pub onward-read : {lay : Layout} {st : Settings} {q : Query} {path w w′ : List ℕ} {d lo hi from to : ℕ} {t : Tally} {part : Part}
-    {b : Bool} {rank : ℕ} → Node lay st q path w d lo hi from to t
+pub onward-read : {lay : Layout} {st : Settings} {q : Query} {path w w′ : List ℕ} {d lo hi from to : ℕ} {tally : Tally}
+    {part : Part} {b : Bool} {rank : ℕ} → Node lay st q path w d lo hi from to tally
     → ((q : Query) (path : List ℕ) → NodeAt lay q path w d lo hi from to → q .rule ≡ st .rule → b ≡ goes q path) → not b ≡ false
     → ((q : Query) (path : List ℕ) → OnPath lay q path w lo (d - 1) → rank ≡ getD path (d - 1) 0)
     → ((q : Query) (path : List ℕ) → Candidates lay q path w d from to → rank ≡ lastOf path → Narrowed lay q path d w w′ part)
-    → Onward lay st q path w w′ d lo hi from to t part
+    → Onward lay st q path w w′ d lo hi from to tally part
 onward-read {q = q} {path = path} node decided test read narrowed =
     record {
       node = node;
@@ -71,8 +71,8 @@ onward-read {q = q} {path = path} node decided test read narrowed =
       on = goes-on node decided test;
     }
 
-module _ {lay : Layout} {st : Settings} {q : Query} {path w w′ : List ℕ} {d lo hi from to : ℕ} {t : Tally} {part : Part}
-    (so : Onward lay st q path w w′ d lo hi from to t part) where
+module _ {lay : Layout} {st : Settings} {q : Query} {path w w′ : List ℕ} {d lo hi from to : ℕ} {tally : Tally} {part : Part}
+    (so : Onward lay st q path w w′ d lo hi from to tally part) where
   cands : Candidates lay q path w d from to
   cands = so .node .at .candidates
 
@@ -98,7 +98,7 @@ module _ {lay : Layout} {st : Settings} {q : Query} {path w w′ : List ℕ} {d 
   after-few = omega (arith, after-length, ap length (so .narrowed .holds), candidates-most q path d)
 
   -- at the limit
-  pub node-limit : st .limit ≤ d → AtLimit lay st q path w′ d lo hi (part .«from») (part .to) t
+  pub node-limit : st .limit ≤ d → AtLimit lay st q path w′ d lo hi (part .«from») (part .to) tally
   node-limit deepest =
       record {
         index = index-after;
@@ -110,19 +110,21 @@ module _ {lay : Layout} {st : Settings} {q : Query} {path w w′ : List ℕ} {d 
         upto = omega (arith, so .node .at .some);
         few = so .node .at .few;
         begins =
-            subst (λ (l : List ℕ). Begin q path l) (sym (run-framed index framed low lo hi (so .node .at .few))) (node-rooted (so .node) .begin);
+            subst (λ (l : List ℕ). Begin q path l) (sym (run-framed index framed low lo hi (so .node .at .few)))
+            (node-rooted (so .node) .begin);
         rise = so .narrowed .rise;
         within = part-inside;
         holds = so .narrowed .holds;
       }
 
-  pub limit-visited : {r : Walked} → Visited q (st .budget) d (run lay w′ lo hi) t r
-      → NodeVisited lay st q path w w′ d lo hi t r
+  pub limit-visited : {r : Walked} → Visited q (st .budget) d (run lay w′ lo hi) tally r
+      → NodeVisited lay st q path w w′ d lo hi tally r
   limit-visited {r} done =
       record {
         framed = framed;
         visited =
-            subst (λ (l : List ℕ). Visited q (st .budget) d l t r) (run-framed index framed low lo hi (so .node .at .few)) done;
+            subst (λ (l : List ℕ). Visited q (st .budget) d l tally r) (run-framed index framed low lo hi (so .node .at .few))
+            done;
       }
 
   pub node-run : RunThere lay q w′ lo hi
@@ -150,7 +152,7 @@ module _ {lay : Layout} {st : Settings} {q : Query} {path w w′ : List ℕ} {d 
       front-length : length (run lay w lo mid) ≡ mid - lo
       front-length = run-length lay q w lo mid index (omega (arith, end .high, so .node .at .few))
 
-      pub merged-room : t .«by_path» + pathPairs (mid - lo) (part .to - part .«from») isByPath ≤ maxPairs
+      pub merged-room : tally .«by_path» + pathPairs (mid - lo) (part .to - part .«from») isByPath ≤ maxPairs
       unfolding sum
       merged-room =
           let product : (mid - lo) * (part .to - part .«from») ≤ (hi - lo) * length (q .rights) =
@@ -174,11 +176,12 @@ module _ {lay : Layout} {st : Settings} {q : Query} {path w w′ : List ℕ} {d 
 
       after-listing : Listing (length (q .rights)) (λ s. isCandidate d path (rightAt q s)) (slice (part .«from») (part .to) w′)
       after-listing =
-          subst (λ (l : List ℕ). Listing (length (q .rights)) (λ s. isCandidate d path (rightAt q s)) l) (sym (so .narrowed .holds))
+          subst (λ (l : List ℕ). Listing (length (q .rights)) (λ s. isCandidate d path (rightAt q s)) l)
+          (sym (so .narrowed .holds))
           (listing-kept (length (q .rights)) (λ s. isCandidate d path (rightAt q s)))
 
-      module _ {m : Tally} (merged : Merged (mid - lo) (part .to - part .«from») t m) where
-        pub merged-lefts : Added q d (run lay w lo mid) t m
+      module _ {m : Tally} (merged : Merged (mid - lo) (part .to - part .«from») tally m) where
+        pub merged-lefts : Added q d (run lay w lo mid) tally m
         merged-lefts =
             merged-added (run lay w lo mid)
             (λ is met.
@@ -190,13 +193,13 @@ module _ {lay : Layout} {st : Settings} {q : Query} {path w w′ : List ℕ} {d 
         merged-budget = omega (arith, merged-checks merged, so .node .underway .budget)
 
         -- no left set goes on
-        pub all-merged : hi ≤ mid → NodeVisited lay st q path w w′ d lo hi t (record { tally = m; spent = false })
+        pub all-merged : hi ≤ mid → NodeVisited lay st q path w w′ d lo hi tally (record { tally = m; spent = false })
         all-merged past =
             let same : mid ≡ hi = omega (arith, end .high) in
             record {
               framed = framed;
               visited = record {
-                added = λ calm. subst (λ (n : ℕ). Added q d (run lay w lo n) t m) same merged-lefts;
+                added = λ calm. subst (λ (n : ℕ). Added q d (run lay w lo n) tally m) same merged-lefts;
                 within = λ calm. merged-budget;
                 beyond = λ spent. true-false spent refl;
               };
@@ -214,8 +217,8 @@ module _ {lay : Layout} {st : Settings} {q : Query} {path w w′ : List ℕ} {d 
                 within = omega (arith, so .node .underway .limit);
                 upto = omega arith;
                 few = so .node .at .few;
-                x = 1;
-                n = q .T;
+                least = 1;
+                span = q .T;
                 keys = omega arith;
                 further = omega arith;
                 lefts = run-framed index framed low mid hi (so .node .at .few) ∙ child-lefts;
@@ -255,7 +258,7 @@ module _ {lay : Layout} {st : Settings} {q : Query} {path w w′ : List ℕ} {d 
 
         -- and their visit makes the node's
         pub children-visited : {w″ : List ℕ} {r : Walked} → ChildrenVisited lay st q path w′ w″ d mid hi m r
-            → NodeVisited lay st q path w w″ d lo hi t r
+            → NodeVisited lay st q path w w″ d lo hi tally r
         children-visited {w″} {r} done =
             record {
               framed = framed-then (omega (
@@ -264,7 +267,7 @@ module _ {lay : Layout} {st : Settings} {q : Query} {path w w′ : List ℕ} {d 
                 offsets-rise lay q w (index .ground) (lastOf path) (suc (lastOf path)) (omega arith) (cands .last),
               )) framed (done .framed);
               visited =
-                  subst (λ (l : List ℕ). Visited q (st .budget) d l t r)
+                  subst (λ (l : List ℕ). Visited q (st .budget) d l tally r)
                   (sym (run-split lay q w lo mid hi index (end .low) (end .high) (so .node .at .few)))
                   (visited-then merged-lefts
                   (visited-rows (run lay w mid hi) rows-deeper

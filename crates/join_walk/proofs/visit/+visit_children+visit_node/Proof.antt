@@ -149,7 +149,8 @@ module _ (t : ℕ) where
       (children-done (test .loop-test .taken) (end .run-end .ensures) (visit .visit-node .ensures))
       (visit .visit-node .kept .0) (calm .if1 .left)
 
-  children-same-length-2 : children-lts.Need-same-length-2 (children-callees t) (children-at t) visit-children.Post Inv-loop μ-loop
+  children-same-length-2 : children-lts.Need-same-length-2 (children-callees t) (children-at t) visit-children.Post Inv-loop
+      μ-loop
   children-same-length-2 c = c .before .loop .inv .size
 
   children-returns-2 : children-lts.Need-returns-2 (children-callees t) (children-at t) visit-children.Post Inv-loop μ-loop
