@@ -19,6 +19,7 @@ pub mod GroupSteps
 pub mod NodeStops
 pub mod NodeSteps
 pub mod ChildSteps
+pub mod ChildNodes
 pub mod PartitionSteps
 pub mod Totals
 pub mod WalkSteps
