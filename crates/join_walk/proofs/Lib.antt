@@ -18,6 +18,7 @@ pub mod LimitLaws
 pub mod GroupSteps
 pub mod NodeStops
 pub mod NodeSteps
+pub mod NodeChildren
 pub mod ChildSteps
 pub mod ChildNodes
 pub mod PartitionSteps
