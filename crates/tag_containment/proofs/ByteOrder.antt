@@ -9,8 +9,12 @@ use borrow.Author.Tests.{lt-ltb, le-ltb, eq-eqb, ne-eqb}
 use lib.Dec.{eqb, ltb}
 use lib.ListN.{length, getD, take, drop, length-take, length-drop}
 use lib.Seq.{getD-take, getD-drop}
-use Rattle.tag_file.specs.Format.{tagLength, valueFrom, value, tagAt}
+use Rattle.lists.specs.Lists.{rising}
+use Rattle.lists.proofs.Rising.{rising-below}
+use Rattle.tag_file.specs.Format.{tagLength, valueFrom, value, tagAt, tagBytes}
+use Rattle.tag_file.proofs.ItemCount.{length-tagBytes}
 use Rattle.tag_file.proofs.Tables.{three-ways}
+use Rattle.tag_round_trip.proofs.Values.{tagsFit, tagAt-table, tagBytes-low}
 
 -- the lexicographic order: the first bytes that differ decide, and a list is above its own beginnings
 unfoldable pub bytesBelow : List ℕ → List ℕ → Bool
@@ -18,6 +22,10 @@ bytesBelow [] [] = false
 bytesBelow [] (y ∷ ys) = true
 bytesBelow (x ∷ xs) [] = false
 bytesBelow (x ∷ xs) (y ∷ ys) = ltb x y || (eqb x y && bytesBelow xs ys)
+
+-- the bytes of the tag of item i in a table
+abbrev pub tagIn : List ℕ → ℕ → List ℕ
+tagIn table i = take tagLength (drop (tagLength * i) table)
 
 -- the numbers of a list are bytes
 abbrev pub AreBytes : List ℕ → Type 0
@@ -82,3 +90,14 @@ pub tag-order : (a b : List ℕ) (p q : ℕ) → p + tagLength ≤ length a → 
 tag-order a b p q whole-a whole-b low-a low-b =
     value-order (take tagLength (drop p a)) (take tagLength (drop q b))
     (length-tag a p whole-a low-a ∙ sym (length-tag b q whole-b low-b)) (tag-low a p whole-a low-a) (tag-low b q whole-b low-b)
+
+-- the tags of a rising table, written one after the other, rise as bytes
+pub table-order : (table : List ℕ) → rising table ≡ true → tagsFit table ≡ true → (i j : ℕ) → i < j → j < length table
+    → bytesBelow (tagIn (tagBytes table) i) (tagIn (tagBytes table) j) ≡ true
+table-order table rises fit i j less within =
+    let bytes = tagBytes table in
+    let size = length-tagBytes table in
+    sym (tag-order bytes bytes (tagLength * i) (tagLength * j) (omega arith) (omega arith)
+    (λ k h. tagBytes-low table k) (λ k h. tagBytes-low table k))
+    ∙ rw (tagAt-table table i fit (omega arith), tagAt-table table j fit within)
+    (lt-ltb (getD table i 0) (getD table j 0) (rising-below table rises i j less within))

@@ -2,7 +2,7 @@
 -- the file's end. Document 01, "Tag file": "records fill the file".
 use mathlib.Core.Path.{_≡_, refl, sym, ap, subst}
 use Prim.Native.Nat.{ℕ, zero, suc, _+_, _≤_}
-use mathlib.Core.List.{List, [], _∷_, _++_}
+use mathlib.Core.List.{List, [], _∷_}
 use mathlib.Core.Bool.{Bool, true, false, cond}
 use native.Mathlib.Omega.{arith}
 use borrow.Author.Tests.{eqb-true}
@@ -12,18 +12,17 @@ use Rattle.lists.specs.Lists.{sum}
 use Rattle.sets.specs.declared.Side.{Side}
 use Rattle.sets.specs.declared.Side.the-variants.{Left, Right}
 use Rattle.sets.specs.declared.Refusal.the-variants.{Malformed}
-use Rattle.sets.specs.declared.Tested.{Tested}
 use Rattle.sets.specs.declared.Tested.the-variants.{Passed}
 use Rattle.tag_file.specs.Reading.{marked, wholeAt, recordAt, readAt, tagsAt}
-use Rattle.tag_file.specs.Records.{TagRecord, onward, recordsFrom, totalLength, records}
-use Rattle.tag_file.specs.Loading.{Lists, faultOf, firstFault, refusalOf, fileFault, LoadCall}
+use Rattle.tag_file.specs.Records.{onward, recordsFrom, totalLength, records}
+use Rattle.tag_file.specs.Loading.{Lists, refusalOf, fileFault, LoadCall}
 use Rattle.tag_file.specs.declared.Loaded.{Loaded}
 use Rattle.tag_file.specs.declared.LoadAnswer.the-variants as load
 use Rattle.tag_file.specs.declared.ReadAnswer.{ReadAnswer}
 use Rattle.tag_file.specs.declared.ReadAnswer.the-variants.{Record, NoMore, Refused}
 use Rattle.tag_file.proofs.AnswerLaws.{accepted}
-use Rattle.tag_file.proofs.FaultLaws.{both-passed}
 use Rattle.tag_file.proofs.RecordLaws.{read-whole, length-tagsAt}
+use Rattle.tag_round_trip.proofs.Faults.{free-from, free-nil}
 
 -- whether a whole record was read
 unfoldable isRecord : ReadAnswer → Bool
@@ -64,13 +63,6 @@ module _ (file : List ℕ) where
       here again NoMore e = none-here at (ap isRecord e)
       here again (Refused why) e = none-here at (ap isRecord e)
 
--- the last test is passed where all are
-last-passed : (seen rs : List TagRecord) (last : Tested) → firstFault seen rs last ≡ Passed → last ≡ Passed
-unfolding firstFault
-last-passed seen [] last e = e
-last-passed seen (r ∷ rs) last e =
-    last-passed (seen ++ (r ∷ [])) rs last (both-passed (faultOf seen r) (firstFault (seen ++ (r ∷ [])) rs last) e .1)
-
 -- an answer that is neither a whole record nor a refusal
 no-more : (a : ReadAnswer) → isRecord a ≡ false → refusalOf a ≡ Passed → a ≡ NoMore
 unfolding isRecord
@@ -94,7 +86,9 @@ module _ (file : List ℕ) (at : ℕ) where
       right false e = let z : _≡_ {A = ℕ} 0 1 = cc in absurd (omega arith)
 
       left : {P : Type 0} (b : Bool)
-          → cond b (recordAt Left file at) (cond (marked Right file at) (recordAt Right file at) (Refused (Malformed at))) ≡ NoMore → P
+          → cond b (recordAt Left file at) (cond (marked Right file at) (recordAt Right file at) (Refused (Malformed at)))
+          ≡ NoMore
+          → P
       left true e = record-not (wholeAt file at) Left _ _ _ _ e
       left false e = right (marked Right file at) e
 
@@ -115,7 +109,7 @@ module _ (file : List ℕ) (clear : fileFault file ≡ Passed) where
       let start : 0 + totalLength (records file) ≡ totalLength (records file) = omega arith in
       no-more (readAt file (totalLength (records file)))
       (subst (λ (k : ℕ). isRecord (readAt file k) ≡ false) start (ends-from file (length file) 0 (omega arith)))
-      (last-passed [] (records file) (refusalOf (readAt file (totalLength (records file)))) clear)
+      (free-from [] (records file) (refusalOf (readAt file (totalLength (records file)))) free-nil clear .1)
 
   pub records-cover : totalLength (records file) ≡ length file
   records-cover = end-only file (totalLength (records file)) reading-ends
