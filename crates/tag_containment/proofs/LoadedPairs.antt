@@ -12,6 +12,7 @@ use Rattle.lists.proofs.Mapping.{map-at}
 use Rattle.sets.specs.Collections.{contained}
 use Rattle.sets.specs.declared.Side.{Side}
 use Rattle.sets.specs.declared.Side.the-variants.{Left, Right}
+use Rattle.inputs.specs.Input.{Input, leftSets, rightSets}
 use Rattle.join_spec.specs.declared.Counts.{Counts}
 use Rattle.join_spec.specs.declared.JoinAnswer.the-variants.{Joined}
 use Rattle.join_spec.specs.Query.{Settings}
@@ -22,7 +23,7 @@ use Rattle.tag_file.specs.declared.Loaded.{Loaded}
 use Rattle.tag_file.specs.declared.LoadAnswer.the-variants as load
 use Rattle.tag_file.specs.Records.{TagRecord, records, ofSide, tagTable, itemsOf, setsOfSide}
 use Rattle.tag_file.specs.Loading.{Lists, LoadCall}
-use Rattle.tag_containment.proofs.LoadedLists.{loadedInput, load-left-sets, load-right-sets}
+use Rattle.tag_containment.proofs.LoadedLists.{OverLoaded, load-left-sets, load-right-sets}
 use Rattle.tag_containment.proofs.ItemTags.{noRecord, recordOf, contained-records}
 
 -- what is asked of a pair of places: that they are places of records, and that the left record's tags are the right one's too
@@ -59,10 +60,12 @@ sets-tags rs l r lefts rights left right =
     (contained-records rs Left l (ltb-true l A in-left) (recordOf Right rs r .tags)))))
 
 module _ (file : List ℕ) {lent got : Lists} {loaded : Loaded} (loads : LoadCall file lent got (load.Loaded loaded))
-    (s : Settings) {counts : Counts} {work before work′ after : List ℕ}
-    (runs : RunCall (loadedInput loaded got) s work before work′ after (Joined counts)) where
+    (i : Input) (over : OverLoaded loaded got i) (s : Settings) {counts : Counts} {work before work′ after : List ℕ}
+    (runs : RunCall i s work before work′ after (Joined counts)) where
   -- a pair of places stands in the list once where the left record's tags are the right one's too, else not at all
   pub loaded-pairs : (l r : ℕ) → pairOccurs l r (take (2 * counts .pairs) after) ≡ one (tagsContained (records file) l r)
   loaded-pairs l r =
-      call-once (loadedInput loaded got) s runs l r
-      ∙ ap one (sets-tags (records file) l r _ _ (load-left-sets file loads) (load-right-sets file loads))
+      call-once i s runs l r
+      ∙ ap one
+      (sets-tags (records file) l r (leftSets i) (rightSets i)
+      (load-left-sets file loads i over) (load-right-sets file loads i over))
