@@ -1,6 +1,6 @@
 -- After the walk: it can begin over the index that was built, the pairs are those by path and those confirmed, and its counters
 -- make the answer.
-use Prim.Native.Nat.{ℕ, _+_, _*_, _^_, _≤_, _<_}
+use Prim.Native.Nat.{ℕ, _+_, _*_, _≤_, _<_}
 use mathlib.Core.Path.{_≡_, refl, sym, ap, _∙_}
 use mathlib.Core.List.{List}
 use mathlib.Core.Bool.{Bool, true, false, cond}
@@ -8,6 +8,7 @@ use native.Mathlib.Omega.{arith}
 use borrow.Author.Tests.{lt-ltb, le-ltb}
 use lib.Dec.{ltb}
 use lib.ListN.{length}
+use Rattle.sets.specs.Limits.{maxPairs, fullWords}
 use Rattle.sets.proofs.Good.{good-places}
 use Rattle.sets.proofs.Ordered.{items-below}
 use Rattle.join_spec.specs.declared.Rule.{Rule}
@@ -80,7 +81,7 @@ module _ {i : Input} {limit : ℕ} {ranks : List ℕ} {words : ℕ} (ok : Tests 
       pairs-met q (ok .settings .permutation) (items-below (i .T) (i .left .ends) (i .left .items) (ok .good .left))
       (items-below (i .T) (i .right .ends) (i .right .items) (ok .good .right))
 
-  small : (is : Outcome → Bool) → total is q ≤ 2 ^ 24
+  small : (is : Outcome → Bool) → total is q ≤ maxPairs
   small is =
       total-small is q
       (omega (arith, lefts-count, good-places (i .T) (i .left .ends) (i .left .items) (ok .good .left)))
@@ -129,7 +130,7 @@ module _ {i : Input} {limit : ℕ} {ranks : List ℕ} {words : ℕ} {rule : Rule
     pub count-is : r .tally .«by_path» + r .tally .confirmed ≡ pairCount (asked .lefts) (asked .rights)
     count-is = omega (arith, done .counted .counts calm pathPair, done .counted .counts calm confirmedCheck, all-met ok rule)
 
-    pub count-small : r .tally .«by_path» + r .tally .confirmed < 4294967296
+    pub count-small : r .tally .«by_path» + r .tally .confirmed < fullWords
     count-small =
         omega (
           arith,
@@ -139,7 +140,7 @@ module _ {i : Input} {limit : ℕ} {ranks : List ℕ} {words : ℕ} {rule : Rule
           small ok rule isConfirmed,
         )
 
-    pub checks-small : r .tally .dropped + (r .tally .«false_drops» + r .tally .confirmed) < 4294967296
+    pub checks-small : r .tally .dropped + (r .tally .«false_drops» + r .tally .confirmed) < fullWords
     checks-small =
         omega (
           arith,

@@ -16,8 +16,8 @@ use Rattle.join_spec.specs.Kinds.{isOf}
 use Rattle.join_index.specs.declared.Layout.{Layout}
 use Rattle.join_check.specs.declared.Tally.{Tally}
 use Rattle.word_lists.specs.Words.{Word}
-use Rattle.join_check.specs.Asking.{RunThere}
-use Rattle.join_check.specs.Runs.{leftIn, run}
+use Rattle.join_check.specs.Asking.{Some, RunThere}
+use Rattle.join_check.specs.Runs.{leftIn, run, RunEnd}
 use Rattle.join_check.specs.Checks.{rowCount, runCount, holdFirst}
 use Rattle.join_check.specs.Counters.{checksIn}
 use Rattle.join_check.specs.Checks.{RowThere, RunsThere, RowChecked, RunsChecked}
@@ -26,16 +26,16 @@ use Rattle.join_check.proofs.Tallying.{tallied-same, Leaving, leaving-s
 
 module _ {lay : Layout} {q : Query} {w : List ℕ} {e lo hi from to : ℕ} (there : RunsThere lay q w e lo hi from to) where
   pub runs-within : lay .order + hi ≤ length w
-  runs-within = omega (arith, order-within lay q w (there .places .index), there .within)
+  runs-within = omega (arith, order-within (there .places .index), there .within)
 
   pub runs-run : (i : ℕ) → i < hi → RunThere lay q w i hi
   runs-run i more = record { index = there .places .index; some = more; within = there .within }
 
   -- a left set of the run
-  pub runs-row : (i k : ℕ) → lo ≤ i → i < hi → Word w (lay .order + i) k → RowThere lay q w k e from to
-  runs-row i k low high word =
+  pub runs-row : {k : ℕ} (i : ℕ) → lo ≤ i → i < hi → Word w (lay .order + i) k → RowThere lay q w k e from to
+  runs-row i low high word =
       record {
-        left = run-left (runs-run i high) i k high word;
+        left = run-left (runs-run i high) i high word;
         places = there .places;
         holding = ap (holdFirst q e (slice from to w)) (word .is)
             ∙ all-slice (holdFirst q e (slice from to w)) (lay .order + lo) (lay .order + hi) w runs-within (there .holding)
@@ -60,16 +60,16 @@ unfolding sum
 sum-one f x = omega arith
 
 -- one row is a run of one
-pub row-runs : (lay : Layout) (w : List ℕ) (k e i from to : ℕ) (t r : Tally) → Word w (lay .order + i) k
+pub row-runs : {lay : Layout} {w : List ℕ} {k e i from to : ℕ} {t r : Tally} → Word w (lay .order + i) k
     → RowChecked lay w k e from to t r → RunsChecked lay w e i (i + 1) from to t r
-row-runs lay w k e i from to t r word row =
+row-runs {lay} {w} {k} {e} {i} {from} {to} word row =
     record {
       grown =
           let single : i + 1 - i ≡ 1 = omega arith in
           let times : (i + 1 - i) * (to - from) ≡ to - from = ap (λ (n : ℕ). n * (to - from)) single ∙ one-mul (to - from) in
           omega (arith, row .grown);
       tallied = λ q there.
-          let one-left : run lay w i (i + 1) ≡ leftIn lay w i ∷ [] =
+          let alone : run lay w i (i + 1) ≡ leftIn lay w i ∷ [] =
           run-next lay w i (i + 1) (omega arith) (runs-within there)
           ∙ ap (λ (l : List ℕ). leftIn lay w i ∷ l) (run-none lay w (i + 1) (i + 1) (omega arith))
           in
@@ -77,8 +77,8 @@ row-runs lay w k e i from to t r word row =
           (λ kind.
           ap (rowCount q (isOf kind) (slice from to w)) (word .is)
           ∙ sum-one (rowCount q (isOf kind) (slice from to w)) (leftIn lay w i)
-          ∙ ap (runCount q (isOf kind) (slice from to w)) (sym one-left))
-          (row .tallied q (runs-row there i k (omega arith) (omega arith) word));
+          ∙ ap (runCount q (isOf kind) (slice from to w)) (sym alone))
+          (row .tallied q (runs-row there i (omega arith) (omega arith) word));
     }
 
 pub record RunsChecking (lay : Layout) (w : List ℕ) (e lo hi from to : ℕ) (t r : Tally) (i : ℕ) : Type 0 where
@@ -89,7 +89,7 @@ pub record RunsChecking (lay : Layout) (w : List ℕ) (e lo hi from to : ℕ) (t
       → Leaving (λ is. runCount q is (slice from to w) (run lay w i hi))
       (λ is. runCount q is (slice from to w) (run lay w lo hi)) t r
 
-module _ (lay : Layout) (w : List ℕ) (e lo hi from to : ℕ) (t : Tally) where
+module _ {lay : Layout} {w : List ℕ} {e lo hi from to : ℕ} {t : Tally} where
   pub runs-start : RunsChecking lay w e lo hi from to t t lo
   runs-start =
       record {
@@ -98,7 +98,7 @@ module _ (lay : Layout) (w : List ℕ) (e lo hi from to : ℕ) (t : Tally) where
         tallied = λ q there. leaving-start (λ is. runCount q is (slice from to w) (run lay w lo hi)) t;
       }
 
-  module _ (r : Tally) (i : ℕ) (so : RunsChecking lay w e lo hi from to t r i) where
+  module _ {r : Tally} {i : ℕ} (so : RunsChecking lay w e lo hi from to t r i) where
     cut : (j : ℕ) → i ≤ j → j ≤ hi → (hi - i) * (to - from) ≡ (j - i) * (to - from) + (hi - j) * (to - from)
     cut j some high =
         let parts : hi - i ≡ j - i + (hi - j) = omega arith in
@@ -109,9 +109,21 @@ module _ (lay : Layout) (w : List ℕ) (e lo hi from to : ℕ) (t : Tally) where
         → checksIn r + (j - i) * (to - from) < fullWords
     runs-room j some high fits = omega (arith, cut j some high, so .grown)
 
-    pub runs-step : (j : ℕ) (u : Tally) → i ≤ j → j ≤ hi → RunsChecked lay w e i j from to r u
+    -- the next run as it is asked of its checks: it can be checked, and its checks fit
+    pub runs-next : {d j : ℕ} → Some (λ q. RunsThere lay q w e lo hi from to) → RunEnd lay w d i hi j
+        → checksIn t + (hi - lo) * (to - from) < fullWords
+        → Some (λ q. RunsThere lay q w e i j from to) × (checksIn r + (j - i) * (to - from) < fullWords)
+    runs-next {j = j} some end fits = (
+      record {
+        query = some .query;
+        holds = runs-part (some .holds) i j (so .low) (omega (arith, end .more)) (end .within);
+      },
+      runs-room j (omega (arith, end .more)) (end .within) fits,
+    )
+
+    pub runs-step : {j : ℕ} {u : Tally} → i ≤ j → j ≤ hi → RunsChecked lay w e i j from to r u
         → RunsChecking lay w e lo hi from to t u j
-    runs-step j u some high more =
+    runs-step {j} some high more =
         record {
           low = omega (arith, so .low);
           grown = omega (arith, cut j some high, so .grown, more .grown);

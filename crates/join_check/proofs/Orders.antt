@@ -18,7 +18,7 @@ use Rattle.join_check.specs.Asking.{Index, LeftThere, RunThere}
 use Rattle.join_check.specs.Runs.{lead, leftIn, run}
 use Rattle.join_check.proofs.Reading.{holds-length, holds-at}
 
-module _ (lay : Layout) (q : Query) (w : List ℕ) (index : Index lay q w) where
+module _ {lay : Layout} {q : Query} {w : List ℕ} (index : Index lay q w) where
   pub order-within : lay .order + length (q .lefts) ≤ length w
   order-within = let o = index .ground .ordered in omega (arith, index .room, o .within)
 
@@ -32,14 +32,16 @@ module _ (lay : Layout) (q : Query) (w : List ℕ) (index : Index lay q w) where
 
 -- the left set at a place of a run, as it was read, and its key
 module _ {lay : Layout} {q : Query} {w : List ℕ} {lo hi : ℕ} (there : RunThere lay q w lo hi) where
-  pub run-left : (i k : ℕ) → i < hi → Word w (lay .order + i) k → LeftThere lay q w k
-  run-left i k below word =
-      subst (λ (n : ℕ). LeftThere lay q w n) (sym (word .is))
-      (order-left lay q w (there .index) i (omega (arith, there .within)))
+  pub run-left : {k : ℕ} (i : ℕ) → i < hi → Word w (lay .order + i) k → LeftThere lay q w k
+  run-left i below word =
+      subst (λ (n : ℕ). LeftThere lay q w n) (sym (word .is)) (order-left (there .index) i (omega (arith, there .within)))
 
-  pub run-key : (d i k r : ℕ) → i < hi → Word w (lay .order + i) k → ((q : Query) → LeftThere lay q w k → r ≡ keyAt q d k)
+  pub run-key : {k r : ℕ} (d i : ℕ) → i < hi → Word w (lay .order + i) k → ((q : Query) → LeftThere lay q w k → r ≡ keyAt q d k)
       → r ≡ keyAt q d (leftIn lay w i)
-  run-key d i k r below word is = is q (run-left i k below word) ∙ ap (keyAt q d) (word .is)
+  run-key d i below word is = is q (run-left i below word) ∙ ap (keyAt q d) (word .is)
+
+  pub run-within : lay .order + hi ≤ length w
+  run-within = omega (arith, order-within (there .index), there .within)
 
 -- a run by its first place
 pub run-none : (lay : Layout) (w : List ℕ) (i hi : ℕ) → hi ≤ i → run lay w i hi ≡ []
@@ -70,18 +72,24 @@ pub lead-nil : {A : Type 0} (p : A → Bool) → lead p [] ≡ 0
 unfolding lead
 lead-nil p = refl
 
+-- the first left set of a run, and the others
+pub run-first : {lay : Layout} {q : Query} {w : List ℕ} {i hi : ℕ} → RunThere lay q w i hi
+    → run lay w i hi ≡ leftIn lay w i ∷ run lay w (i + 1) hi
+run-first {lay} {q} {w} {i} {hi} there = run-next lay w i hi (there .some) (run-within there)
+
 -- the leading left sets of a run, counted from place j on
-module _ (lay : Layout) (w : List ℕ) (hi : ℕ) (p : ℕ → Bool) (within : lay .order + hi ≤ length w) where
-  pub run-pass : (j : ℕ) → j < hi → p (leftIn lay w j) ≡ true
-      → j + lead p (run lay w j hi) ≡ j + 1 + lead p (run lay w (j + 1) hi)
-  run-pass j more h =
-      let e = ap (lead p) (run-next lay w j hi more within) ∙ lead-pass p (leftIn lay w j) (run lay w (j + 1) hi) h in
+module _ {lay : Layout} {q : Query} {w : List ℕ} {lo hi : ℕ} (there : RunThere lay q w lo hi) (p : ℕ → Bool) (j : ℕ) where
+  pub run-pass : j < hi → p (leftIn lay w j) ≡ true → j + lead p (run lay w j hi) ≡ j + 1 + lead p (run lay w (j + 1) hi)
+  run-pass more h =
+      let e =
+      ap (lead p) (run-next lay w j hi more (run-within there)) ∙ lead-pass p (leftIn lay w j) (run lay w (j + 1) hi) h in
       omega (arith, e)
 
-  pub run-fail : (j : ℕ) → j < hi → p (leftIn lay w j) ≡ false → j + lead p (run lay w j hi) ≡ j
-  run-fail j more h =
-      let e = ap (lead p) (run-next lay w j hi more within) ∙ lead-fail p (leftIn lay w j) (run lay w (j + 1) hi) h in
+  pub run-fail : j < hi → p (leftIn lay w j) ≡ false → j + lead p (run lay w j hi) ≡ j
+  run-fail more h =
+      let e =
+      ap (lead p) (run-next lay w j hi more (run-within there)) ∙ lead-fail p (leftIn lay w j) (run lay w (j + 1) hi) h in
       omega (arith, e)
 
-  pub run-past : (j : ℕ) → hi ≤ j → j + lead p (run lay w j hi) ≡ j
-  run-past j h = let e = ap (lead p) (run-none lay w j hi h) ∙ lead-nil p in omega (arith, e)
+  pub run-past : hi ≤ j → j + lead p (run lay w j hi) ≡ j
+  run-past h = let e = ap (lead p) (run-none lay w j hi h) ∙ lead-nil p in omega (arith, e)

@@ -64,14 +64,14 @@ seen-first r [] h = absurd (omega arith)
 seen-first r (x ∷ xs) h = refl
 
 -- a right set as it is stored
-module _ (lay : Layout) (q : Query) (w : List ℕ) (s r : ℕ) (there : RightThere lay q w s) where
+module _ {lay : Layout} {q : Query} {w : List ℕ} {s : ℕ} (r : ℕ) (there : RightThere lay q w s) where
   pub right-none : getD w (lay .«right_starts» + s + 1) 0 ≤ getD w (lay .«right_starts» + s) 0 → false ≡ seen r (rightAt q s)
-  right-none h = let t = right-stored lay q w s there in seen-none r (rightAt q s) (omega arith)
+  right-none h = let t = right-stored there in seen-none r (rightAt q s) (omega arith)
 
   pub right-first : getD w (lay .«right_starts» + s) 0 < getD w (lay .«right_starts» + s + 1) 0
       → leb (getD w (lay .«right_ranks» + getD w (lay .«right_starts» + s) 0) 0) r ≡ seen r (rightAt q s)
   right-first h =
-      let t = right-stored lay q w s there in
+      let t = right-stored there in
       let some : 0 < length (rightAt q s) = omega arith in
       let start = getD w (lay .«right_starts» + s) 0 in
       let at : lay .«right_ranks» + start + 0 ≡ lay .«right_ranks» + start = omega arith in

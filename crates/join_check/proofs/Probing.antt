@@ -28,7 +28,7 @@ use Rattle.join_check.proofs.Reading.{left-stored, right-stored}
 use Rattle.join_check.proofs.Tallying.{tallied-each}
 
 -- what remains of a left set whose starts were read
-module _ (lay : Layout) (q : Query) (w : List ℕ) (k e start next sign : ℕ)
+module _ {lay : Layout} {q : Query} {w : List ℕ} {k start next sign : ℕ} (e : ℕ)
     (first : Word w (lay .«left_starts» + k) start) (second : Word w (lay .«left_starts» + k + 1) next)
     (signed : sign ≡ double w (lay .«left_signatures» + 2 * k)) (there : LeftThere lay q w k)
   where
@@ -38,7 +38,7 @@ module _ (lay : Layout) (q : Query) (w : List ℕ) (k e start next sign : ℕ)
     pub probe-none : lay .«left_ranks» + next - (lay .«left_ranks» + start) ≤ e
         → ProbeOf q w k e (record { signature = sign; from = lay .«left_ranks» + next; to = lay .«left_ranks» + next })
     probe-none few =
-        let s = left-stored lay q w k there in
+        let s = left-stored there in
         record {
           signed = left-signed;
           rest =
@@ -49,7 +49,7 @@ module _ (lay : Layout) (q : Query) (w : List ℕ) (k e start next sign : ℕ)
     pub probe-some :
         ProbeOf q w k e (record { signature = sign; from = lay .«left_ranks» + start + e; to = lay .«left_ranks» + next })
     probe-some =
-        let s = left-stored lay q w k there in
+        let s = left-stored there in
         record {
           signed = left-signed;
           rest =
@@ -57,13 +57,13 @@ module _ (lay : Layout) (q : Query) (w : List ℕ) (k e start next sign : ℕ)
         }
 
 -- a right set whose starts were read
-module _ (lay : Layout) (q : Query) (w : List ℕ) (s start next : ℕ)
+module _ {lay : Layout} {q : Query} {w : List ℕ} {s start next : ℕ}
     (first : Word w (lay .«right_starts» + s) start) (second : Word w (lay .«right_starts» + s + 1) next)
     (there : RightThere lay q w s)
   where
     pub right-part : slice (lay .«right_ranks» + start) (lay .«right_ranks» + next) w ≡ rightAt q s
     right-part =
-        let t = right-stored lay q w s there in
+        let t = right-stored there in
         let first-at = getD w (lay .«right_starts» + s) 0 in
         let next-at = getD w (lay .«right_starts» + s + 1) 0 in
         let from : lay .«right_ranks» + start ≡ lay .«right_ranks» + first-at + 0 = omega (arith, first .is) in
@@ -72,11 +72,11 @@ module _ (lay : Layout) (q : Query) (w : List ℕ) (s start next : ℕ)
 
     pub right-part-rising : Rising (lay .«right_ranks» + start) (lay .«right_ranks» + next) w
     right-part-rising =
-        let t = right-stored lay q w s there in
+        let t = right-stored there in
         record { within = omega (arith, second .is); rise = ap rising right-part ∙ right-rising q s }
 
 -- the outcome of a check
-module _ (lay : Layout) (q : Query) (w : List ℕ) (p : Probe) (s sign : ℕ)
+module _ {lay : Layout} {q : Query} {w : List ℕ} {s sign : ℕ} (p : Probe)
     (signed : sign ≡ double w (lay .«right_signatures» + 2 * s)) (there : RightThere lay q w s)
   where
     right-signed : sign ≡ signature (getD (q .rights) s [])
@@ -89,12 +89,12 @@ module _ (lay : Layout) (q : Query) (w : List ℕ) (p : Probe) (s sign : ℕ)
     pub outcome-dropped : (bitAnd (p .signature) sign ≡ p .signature → ⊥) → probeOutcome q w p s ≡ dropped
     outcome-dropped other = rw (missing false (ne-eqb (bitAnd (p .signature) sign) (p .signature) other))
 
-    pub outcome-checked : (start next : ℕ) → Word w (lay .«right_starts» + s) start → Word w (lay .«right_starts» + s + 1) next
-        → bitAnd (p .signature) sign ≡ p .signature → (b : Bool)
+    pub outcome-checked : {start next : ℕ} → Word w (lay .«right_starts» + s) start → Word w (lay .«right_starts» + s + 1) next
+        → bitAnd (p .signature) sign ≡ p .signature → {b : Bool}
         → b ≡ subset (slice (p .from) (p .to) w) (slice (lay .«right_ranks» + start) (lay .«right_ranks» + next) w)
         → cond b confirmed falseDrop ≡ probeOutcome q w p s
-    outcome-checked start next first second same b test =
-        let part = right-part lay q w s start next first second there in
+    outcome-checked first second same test =
+        let part = right-part first second there in
         rw (missing true (eq-eqb (bitAnd (p .signature) sign) (p .signature) same), ← part)
         (ap (λ (x : Bool). cond x confirmed falseDrop) test)
 

@@ -22,7 +22,7 @@ pub index-frame : {lay : Layout} {q : Query} {w v : List ℕ} → take (lay .slo
 index-frame {lay} {q} {w} {v} frame size index =
     record { ground = ground-frame lay q w v frame size (index .ground); room = omega (arith, index .room) }
 
--- a region that holds a list: how long it is, its elements, and what is left of it
+-- a region that holds a list: how long it is, its elements, and what follows some of them
 module _ {w : List ℕ} {top lo hi : ℕ} {l : List ℕ} (h : RegionHolds w top lo hi l) (room : top ≤ length w) where
   pub holds-length : length l ≡ hi - lo
   unfolding slice
@@ -59,37 +59,37 @@ stored w top starts ranks k l room h =
       rest = λ e. rw next (holds-rest h room e);
     }
 
-pub left-stored : (lay : Layout) (q : Query) (w : List ℕ) (k : ℕ) → LeftThere lay q w k
+pub left-stored : {lay : Layout} {q : Query} {w : List ℕ} {k : ℕ} → LeftThere lay q w k
     → RanksStored w (lay .«left_starts») (lay .«left_ranks») k (leftAt q k)
-left-stored lay q w k there =
+left-stored {lay} {q} {w} {k} there =
     stored w (lay .slots) (lay .«left_starts») (lay .«left_ranks») k (leftAt q k) (there .index .room)
     (there .index .ground .left k (there .below))
 
-pub right-stored : (lay : Layout) (q : Query) (w : List ℕ) (s : ℕ) → RightThere lay q w s
+pub right-stored : {lay : Layout} {q : Query} {w : List ℕ} {s : ℕ} → RightThere lay q w s
     → RanksStored w (lay .«right_starts») (lay .«right_ranks») s (rightAt q s)
-right-stored lay q w s there =
+right-stored {lay} {q} {w} {s} there =
     stored w (lay .slots) (lay .«right_starts») (lay .«right_ranks») s (rightAt q s) (there .index .room)
     (there .index .ground .right s (there .below))
 
 -- the ranks of a left set lie below the slots
-pub left-low : (lay : Layout) (q : Query) (w : List ℕ) (k : ℕ) → LeftThere lay q w k
+pub left-low : {lay : Layout} {q : Query} {w : List ℕ} {k : ℕ} → LeftThere lay q w k
     → lay .«left_ranks» + getD w (lay .«left_starts» + k + 1) 0 ≤ lay .slots
-left-low lay q w k there =
+left-low {lay} {q} {w} {k} there =
     let here : lay .«left_starts» + k + 1 ≡ lay .«left_starts» + suc k = omega arith in
     let next : getD w (lay .«left_starts» + k + 1) 0 ≡ getD w (lay .«left_starts» + suc k) 0 = ap (λ (i : ℕ). getD w i 0) here in
     omega (arith, there .index .ground .left k (there .below) .within)
 
 -- the key at a depth, by the ranks as they are stored
-pub key-none : (lay : Layout) (q : Query) (w : List ℕ) (k d : ℕ) → LeftThere lay q w k
+pub key-none : {lay : Layout} {q : Query} {w : List ℕ} {k : ℕ} (d : ℕ) → LeftThere lay q w k
     → getD w (lay .«left_starts» + k + 1) 0 - getD w (lay .«left_starts» + k) 0 ≤ d → 0 ≡ keyAt q d k
 unfolding keyAt
-key-none lay q w k d there past =
-    let s = left-stored lay q w k there in rw (le-leb (length (leftAt q k)) d (omega arith))
+key-none {q = q} {k = k} d there past =
+    let s = left-stored there in rw (le-leb (length (leftAt q k)) d (omega arith))
 
-pub key-rank : (lay : Layout) (q : Query) (w : List ℕ) (k d : ℕ) → LeftThere lay q w k
+pub key-rank : {lay : Layout} {q : Query} {w : List ℕ} {k : ℕ} (d : ℕ) → LeftThere lay q w k
     → d < getD w (lay .«left_starts» + k + 1) 0 - getD w (lay .«left_starts» + k) 0
     → getD w (lay .«left_ranks» + getD w (lay .«left_starts» + k) 0 + d) 0 + 1 ≡ keyAt q d k
 unfolding keyAt
-key-rank lay q w k d there more =
-    let s = left-stored lay q w k there in
+key-rank {q = q} {k = k} d there more =
+    let s = left-stored there in
     rw (lt-leb (length (leftAt q k)) d (omega arith), s .rank d (omega arith)) (omega arith)

@@ -71,7 +71,8 @@ module _ {leftEnds leftItems rightEnds rightItems ranks w a b c d f : List ℕ} 
       frame-less (lay .«right_ranks» + nr) (lay .«least_offsets») b f (least-below plan) from-left ∙ built .leftBuilt .frame
 
   pub size : length f ≡ length w
-  size = built .signed .size ∙ built .orderBuilt .size ∙ built .leastBuilt .size ∙ built .leftBuilt .size ∙ built .rightBuilt .size
+  size =
+      built .signed .size ∙ built .orderBuilt .size ∙ built .leastBuilt .size ∙ built .leftBuilt .size ∙ built .rightBuilt .size
 
   pub least-slots : lay .«least_offsets» ≤ lay .slots
   least-slots = omega (arith, order-above plan, signed-above plan, slots-above plan)

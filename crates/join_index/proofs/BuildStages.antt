@@ -76,8 +76,8 @@ module _ {leftEnds leftItems rightEnds rightItems ranks w : List ℕ} {nl nr : �
         (startOf v (lay .«right_starts») (lay .«right_ranks») (suc s))
         (ordered T ranks (getD rights s []))
     right-set v kept high more s below =
-        side-set (right-built .held) (right-end p) v kept (lay .«right_starts») (lay .«right_ranks») high (p .out .rightStarts) (right-ranks p)
-        more s below
+        side-set (right-built .held) (right-end p) v kept (lay .«right_starts») (lay .«right_ranks») high (p .out .rightStarts)
+        (right-ranks p) more s below
 
     module _ {b : List ℕ} (left-built : SideBuilt (lay .«right_ranks» + nr) nl ranks lefts a b) where
       pub left-set : (v : List ℕ) → take (lay .«least_offsets») v ≡ take (lay .«least_offsets») b → (high : ℕ)
@@ -86,8 +86,8 @@ module _ {leftEnds leftItems rightEnds rightItems ranks w : List ℕ} {nl nr : �
           (startOf v (lay .«left_starts») (lay .«left_ranks») (suc k))
           (ordered T ranks (getD lefts k []))
       left-set v kept high more k below =
-          side-set (left-built .held) (left-end p) v kept (lay .«left_starts») (lay .«left_ranks») high (left-starts p) (left-ranks p)
-          more k below
+          side-set (left-built .held) (left-end p) v kept (lay .«left_starts») (lay .«left_ranks») high (left-starts p)
+          (left-ranks p) more k below
 
       pub least-runs : (s : ℕ) → s < length rightEnds
           → RegionHolds b (lay .«least_offsets») (startOf b (lay .«right_starts») (lay .«right_ranks») s)

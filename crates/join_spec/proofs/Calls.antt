@@ -1,16 +1,21 @@
 -- Demand 3 over what `run` promises of a call, the record `RunCall`: what any calls of it show, whatever their settings and lists.
 use Prim.Native.Nat.{ℕ, _+_, _*_, _≤_, _<_}
 use mathlib.Core.Path.{_≡_, sym, ap, _∙_}
-use mathlib.Core.List.{List}
-use lib.ListN.{length, take, drop}
+use mathlib.Core.List.{List, []}
+use mathlib.Core.Bool.{true, _&&_}
+use lib.Dec.{ltb}
+use lib.ListN.{length, getD, take, drop}
+use Rattle.lists.specs.Lists.{one}
+use Rattle.sets.specs.Collections.{contained}
 use Rattle.join_spec.specs.declared.Counts.{Counts}
-use Rattle.inputs.specs.Input.{Input}
+use Rattle.inputs.specs.Input.{Input, leftSets, rightSets}
 use Rattle.sets.specs.declared.Refusal.the-variants.{Spent}
 use Rattle.join_spec.specs.declared.JoinAnswer.{JoinAnswer}
 use Rattle.join_spec.specs.declared.JoinAnswer.the-variants.{Joined, Refused}
 use Rattle.join_spec.specs.Query.{Settings, queryOf}
 use Rattle.join_spec.specs.Counting.{checksOf, countsOf}
 use Rattle.join_spec.specs.Answer.{roomOf, joinAnswer, pairsAfter, RunCall}
+use Rattle.join_spec.proofs.PairListLaws.{pairOccurs, pairsRising, pair-occurs, pairList-rising}
 use Rattle.join_spec.proofs.Accepted.{Accepted, Tests, accepted, joined, spent-only-above, spent-wherever-above}
 use Rattle.join_spec.proofs.AcceptedRuns as laws
 use Rattle.join_spec.proofs.AcceptedRuns.{pairsOf}
@@ -32,6 +37,16 @@ module _ (i : Input) (s : Settings) {counts : Counts} {work before work′ after
       ap (drop (2 * counts .pairs))
       (call .pairs ∙ ap (λ (r : JoinAnswer). pairsAfter r (pairsOf i) before) (call .answer))
       ∙ laws.rest-part i s (roomOf work before) counts joins before
+
+  -- it holds each contained pair of places once and nothing else, rising by left place and then right place
+  pub call-once : (l r : ℕ)
+      → pairOccurs l r (take (2 * counts .pairs) after)
+      ≡ one (ltb l (length (leftSets i))
+      && (ltb r (length (rightSets i)) && contained (getD (leftSets i) l []) (getD (rightSets i) r [])))
+  call-once l r = ap (pairOccurs l r) call-filled ∙ pair-occurs l r (leftSets i) (rightSets i)
+
+  pub call-rising : pairsRising (take (2 * counts .pairs) after) ≡ true
+  call-rising = ap pairsRising call-filled ∙ pairList-rising (leftSets i) (rightSets i)
 
   -- each count is its definition's, and the sums hold
   pub call-counts : counts ≡ countsOf (queryOf i s)

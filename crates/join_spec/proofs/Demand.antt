@@ -1,6 +1,6 @@
 -- The six counts: contained pairs are those by path and those confirmed; a check ends as a drop, false or confirmed; and no
 -- count is above left sets x right sets. Any query; the first law asks that ranks are a permutation and items are below T.
-use Prim.Native.Nat.{ℕ, _+_, _*_, _^_, _≤_}
+use Prim.Native.Nat.{ℕ, _+_, _*_, _≤_}
 use mathlib.Core.Path.{_≡_, refl, sym, ap, _∙_}
 use mathlib.Core.List.{List}
 use mathlib.Core.Bool.{Bool, true, false, _||_}
@@ -9,7 +9,7 @@ use lib.ListN.{length}
 use Rattle.lists.specs.Lists.{all, count}
 use Rattle.lists.proofs.Counting.{count-same-where, count-or, count-bound}
 use Rattle.lists.proofs.Summing.{sum-same, sum-same-where, sum-add, sum-bound}
-use Rattle.sets.specs.Limits.{maxSets}
+use Rattle.sets.specs.Limits.{maxSets, maxPairs}
 use Rattle.sets.specs.Collections.{contained}
 use Rattle.sets.specs.Ordered.{isPermutation}
 use Rattle.sets.proofs.Ordered.{below}
@@ -90,7 +90,7 @@ total-bound is q =
     (q .lefts)
     (λ left. count-bound (λ (right : List ℕ). is (outcome q left right)) (q .rights))
 
--- so with at most 4,096 sets a side every count is at most 2^24, within 32 bits
+-- so with at most 4,096 sets a side every count is within 32 bits
 pub total-small : (is : Outcome → Bool) (q : Query) → length (q .lefts) ≤ maxSets → length (q .rights) ≤ maxSets
-    → total is q ≤ 2 ^ 24
+    → total is q ≤ maxPairs
 total-small is q few-lefts few-rights = le-trans (total-bound is q) (mul-le-mul few-lefts few-rights)

@@ -1,15 +1,15 @@
 -- Document 01, "Shelf examples": P1 to P9 as one computed table, and one result about it. Ranks equal items, T is 4 and the
 -- budget the greatest unless a row says otherwise; every row states number, detail and six counts, and the whole pair list at
--- exit.
+-- exit; P4 also what the rule decides at two nodes.
 use Prim.Native.Nat.{ℕ, _-_, _^_}
-use mathlib.Core.List.{List, [], _∷_, _++_}
-use mathlib.Core.Bool.{Bool, true, false, _&&_}
+use mathlib.Core.List.{List, [], _∷_, _++_, map}
+use mathlib.Core.Bool.{Bool, true, false, not, _&&_}
 use lib.Dec.{T, eqb}
 use lib.Ieee.{fin, lt, add, mul, ofInt}
 use lib.IntN.{pos, negsuc}
 use lib.ListN.{length, replicate}
 use Rattle.lists.specs.Lists.{all, any, count, sum, keep, memb, range, upto, rising, risingAfter, distinct, prefix}
-use Rattle.inputs.specs.Input.{inputOf}
+use Rattle.inputs.specs.Input.{inputOf, leftSets, rightSets}
 use Rattle.inputs.specs.Tests.{setsTest, wordsNeeded, workTest}
 use Rattle.sets.specs.Collections.{setsOf, setsFrom, contained, firstBadFrom, badSet, lastEnd}
 use Rattle.sets.specs.Ordered.{ordered, isPermutation}
@@ -22,6 +22,11 @@ use Rattle.join_spec.specs.Node.{seen, goesOn, goesOnAt}
 use Rattle.join_spec.specs.Walk.{ending, endingFrom, isCandidate, endingIn, outcome}
 use Rattle.join_spec.specs.Counting.{total}
 use Rattle.join_spec.specs.Answer.{joinAnswer, joinWords, joinTests, walkAnswer, badSettings, pairsAfter}
+
+-- a decision of the rule: the path of a node, and whether the walk goes on there
+record Decision : Type 0 where
+  path : List ℕ
+  goes : Bool
 
 -- one example: its input, the pair list before, and what is right: number with detail, six counts, pair list after
 record Example : Type 0 where
@@ -37,12 +42,17 @@ record Example : Type 0 where
   refusal : List ℕ
   counts : List ℕ
   after : List ℕ
+  decisions : List Decision
 
 unfoldable pub same : List ℕ → List ℕ → Bool
 same [] [] = true
 same [] (y ∷ ys) = false
 same (x ∷ xs) [] = false
 same (x ∷ xs) (y ∷ ys) = eqb x y && same xs ys
+
+unfoldable pub alike : Bool → Bool → Bool
+alike true b = b
+alike false b = not b
 
 -- whether the definitions give what the example says, with ranks equal to items and just the work list needed
 right : Example → Bool
@@ -51,15 +61,19 @@ right e =
     let answer =
     joinAnswer input (settingsOf (e .limit) (upto (e .items)) (e .budget) (e .rule))
     (record { words = wordsNeeded input; places = length (e .before) }) in
+    let ranked = map (ordered (e .items) (upto (e .items))) in
     let pairs = pairList (setsOf (e .leftEnds) (e .leftItems)) (setsOf (e .rightEnds) (e .rightItems)) in
-    same (joinWords answer) (e .refusal ++ e .counts) && same (pairsAfter answer pairs (e .before)) (e .after)
+    same (joinWords answer) (e .refusal ++ e .counts)
+    && (same (pairsAfter answer pairs (e .before)) (e .after)
+    && all (λ (d : Decision). alike (d .goes) (goesOnAt (e .rule) (ranked (leftSets input)) (ranked (rightSets input)) (d .path)))
+    (e .decisions))
 
 unfoldable pub greatest : ℕ
 greatest = 2 ^ 32 - 1
 
 -- the shelf: left sets {0,1}, {1}, {0,2,3}; right sets {0,1,2}, {1,3}, {0,2,3}
-shelf : ℕ → Rule → ℕ → List ℕ → List ℕ → List ℕ → List ℕ → Example
-shelf limit rule budget before refusal counts after =
+shelfDecided : List Decision → ℕ → Rule → ℕ → List ℕ → List ℕ → List ℕ → List ℕ → Example
+shelfDecided decisions limit rule budget before refusal counts after =
     record {
       items = 4;
       leftEnds = 2 ∷ 3 ∷ 6 ∷ [];
@@ -73,7 +87,11 @@ shelf limit rule budget before refusal counts after =
       refusal = refusal;
       counts = counts;
       after = after;
+      decisions = decisions;
     }
+
+shelf : ℕ → Rule → ℕ → List ℕ → List ℕ → List ℕ → List ℕ → Example
+shelf = shelfDecided []
 
 -- the shelf's pair list in ten places that held 7
 ten : List ℕ
@@ -113,6 +131,7 @@ other items leftEnds leftItems rightEnds rightItems counts after =
       refusal = accepted;
       counts = counts;
       after = after;
+      decisions = [];
     }
 
 examples : List Example
@@ -123,8 +142,10 @@ examples =
     ∷ shelfAccepted 2 Merge (4 ∷ 3 ∷ 1 ∷ 2 ∷ 1 ∷ 0 ∷ [])
     -- P3 Check
     ∷ shelfAccepted 1 Check (4 ∷ 0 ∷ 4 ∷ 7 ∷ 3 ∷ 0 ∷ [])
-    -- P4 Weighed 1, 1, 0, 1.5, limit 255
-    ∷ shelfAccepted 255 weighed (4 ∷ 0 ∷ 4 ∷ 7 ∷ 3 ∷ 0 ∷ [])
+    -- P4 Weighed 1, 1, 0, 1.5, limit 255: goes on at {0}, not at {0,1}
+    ∷ shelfDecided
+    (record { path = 0 ∷ []; goes = true } ∷ record { path = 0 ∷ 1 ∷ []; goes = false } ∷ [])
+    255 weighed greatest ten accepted (4 ∷ 0 ∷ 4 ∷ 7 ∷ 3 ∷ 0 ∷ []) (shelfPairs ++ 7 ∷ 7 ∷ [])
     -- P5 T 257, left set {256}, right set {0}, Check
     ∷ other 257 (1 ∷ []) (256 ∷ []) (1 ∷ []) (0 ∷ []) (0 ∷ 0 ∷ 0 ∷ 1 ∷ 0 ∷ 1 ∷ []) (replicate 6 7)
     -- P6 no left sets
@@ -143,6 +164,6 @@ examples =
 examples-right : T (all right examples)
 unfolding all any count sum keep memb range rising risingAfter distinct prefix setsFrom contained firstBadFrom badSet lastEnd ordered
     isPermutation position signatureFrom pairsFrom rowFrom seen goesOn goesOnAt ending endingFrom isCandidate endingIn
-    outcome total joinAnswer joinTests setsTest wordsNeeded workTest walkAnswer badSettings lt add mul ofInt right examples shelf shelfAccepted other same
+    outcome total joinAnswer joinTests setsTest wordsNeeded workTest walkAnswer badSettings lt add mul ofInt right examples shelfDecided shelf shelfAccepted other same alike
     greatest ten shelfPairs accepted noCounts weighed
 examples-right = tt

@@ -16,7 +16,6 @@ use Rattle.lists.proofs.Counting.{count-none, count-same-where}
 use Rattle.lists.proofs.Summing.{sum-same-where}
 use Rattle.lists.proofs.Ranges.{all-upto}
 use Rattle.join_spec.specs.Query.{Query}
-use Rattle.join_spec.specs.Node.{seen}
 use Rattle.join_spec.specs.Walk.{Outcome, isCandidate}
 use Rattle.join_index.specs.Grouping.{leftAt, rightAt, keyAt}
 use Rattle.join_index.specs.Ground.{Listing}
@@ -26,7 +25,7 @@ use Rattle.join_check.specs.Runs.{run}
 use Rattle.join_check.specs.Checks.{rowCount, runCount, holdFirst, RunsThere}
 use Rattle.join_walk.specs.Rows.{goes, row, pathPairs}
 use Rattle.join_walk.proofs.Prefixes.{prefix-take, prefix-length}
-use Rattle.join_walk.proofs.Narrowing.{candidate-path, listing-same}
+use Rattle.join_walk.proofs.Narrowing.{candidate-path, candidate-holds, listing-same}
 use Rattle.join_walk.proofs.RowLaws.{MetOnly, row-stops, row-limit, row-merges}
 use Rattle.join_walk.proofs.PathLaws.{paths-many}
 
@@ -81,87 +80,95 @@ key-longer q d k some =
     (λ e. true-false (ap (λ (b : Bool). eqb (cond b 0 (suc (getD (leftAt q k) d 0))) 0) e) some)
     (λ e. leb-false (length (leftAt q k)) d e)
 
-module _ (q : Query) (p : ℕ) (ps : List ℕ) where
+-- the left sets of a list begin with a path of d ranks, which are some
+pub record Rooted (q : Query) (path : List ℕ) (d : ℕ) (lefts : List ℕ) : Type 0 where
+  pub depth : length path ≡ d
+  pub deep : 0 < d
+  pub begin : Begin q path lefts
+
+module _ {q : Query} {path : List ℕ} {d : ℕ} {lefts : List ℕ} (rooted : Rooted q path d lefts) where
+  some : 0 < length path
+  some = omega (arith, rooted .depth, rooted .deep)
+
   -- the candidates of the path are those of a left set that begins with it
-  listing-left : (e k : ℕ) (list : List ℕ) → prefix (p ∷ ps) (leftAt q k) ≡ true → e ≤ length (p ∷ ps)
-      → Listing (length (q .rights)) (λ s. isCandidate e (p ∷ ps) (rightAt q s)) list
+  listing-left : (e k : ℕ) (list : List ℕ) → prefix path (leftAt q k) ≡ true → e ≤ d
+      → Listing (length (q .rights)) (λ s. isCandidate e path (rightAt q s)) list
       → Listing (length (q .rights)) (λ s. isCandidate e (leftAt q k) (rightAt q s)) list
   listing-left e k list begins short listing =
-      listing-same (length (q .rights)) (λ s. isCandidate e (p ∷ ps) (rightAt q s))
+      listing-same (length (q .rights)) (λ s. isCandidate e path (rightAt q s))
       (λ s. isCandidate e (leftAt q k) (rightAt q s)) list
-      (λ s. sym (candidate-path e p ps (leftAt q k) (rightAt q s) begins short)) listing
+      (λ s. sym (candidate-path e path (leftAt q k) (rightAt q s) some begins (omega (arith, rooted .depth, short)))) listing
 
-  left-goes : (k : ℕ) (b : Bool) → prefix (p ∷ ps) (leftAt q k) ≡ true → goes q (p ∷ ps) ≡ b
-      → goes q (take (length (p ∷ ps)) (leftAt q k)) ≡ b
-  left-goes k b begins is = sym (ap (goes q) (prefix-take (p ∷ ps) (leftAt q k) begins)) ∙ is
+  left-goes : (k : ℕ) (b : Bool) → prefix path (leftAt q k) ≡ true → goes q path ≡ b → goes q (take d (leftAt q k)) ≡ b
+  left-goes k b begins is =
+      subst (λ (n : ℕ). goes q (take n (leftAt q k)) ≡ b) (rooted .depth)
+      (sym (ap (goes q) (prefix-take path (leftAt q k) begins)) ∙ is)
 
-  candidate-holds : (e k s : ℕ) → prefix (p ∷ ps) (leftAt q k) ≡ true → e ≤ length (p ∷ ps)
-      → isCandidate e (p ∷ ps) (rightAt q s) ≡ true → subset (take e (leftAt q k)) (rightAt q s) ≡ true
-  unfolding isCandidate
-  candidate-holds e k s begins short holds =
+  -- where the candidates hold the path's first e ranks they hold those of each left set
+  pub rooted-holds : (e : ℕ) (list : List ℕ) → e ≤ d
+      → Listing (length (q .rights)) (λ s. isCandidate e path (rightAt q s)) list → all (holdFirst q e list) lefts ≡ true
+  rooted-holds e list short listing =
+      all-weaken (λ k. prefix path (leftAt q k)) (holdFirst q e list) lefts
+      (λ k begins.
+      all-weaken (λ s. isCandidate e path (rightAt q s)) (λ s. subset (take e (leftAt q k)) (rightAt q s)) list
+      (λ s is.
       subst (λ (l : List ℕ). subset l (rightAt q s) ≡ true)
-      (ap (take e) (prefix-take (p ∷ ps) (leftAt q k) begins) ∙ take-take e (length (p ∷ ps)) (leftAt q k) short)
-      (and-right (seen p (rightAt q s)) (subset (take e (p ∷ ps)) (rightAt q s)) holds)
+      (ap (take e) (prefix-take path (leftAt q k) begins)
+      ∙ take-take e (length path) (leftAt q k) (omega (arith, rooted .depth, short)))
+      (candidate-holds e path (rightAt q s) some is))
+      (listing-all (length (q .rights)) (λ s. isCandidate e path (rightAt q s)) list listing))
+      (rooted .begin)
 
-  -- the left sets can be checked after e ranks of the path
-  pub runs-there : {lay : Layout} {w : List ℕ} {e lo hi from to : ℕ} → Index lay q w → to ≤ length w → hi ≤ length (q .lefts)
-      → Listing (length (q .rights)) (λ s. isCandidate e (p ∷ ps) (rightAt q s)) (slice from to w)
-      → Begin q (p ∷ ps) (run lay w lo hi) → e ≤ length (p ∷ ps) → RunsThere lay q w e lo hi from to
-  runs-there {lay} {w} {e} {lo} {hi} {from} {to} index inside few listing begins short =
-      record {
-        places = record {
-          index = index;
-          within = inside;
-          below = listing-below (length (q .rights)) (λ s. isCandidate e (p ∷ ps) (rightAt q s)) (slice from to w) listing;
-        };
-        within = few;
-        holding = all-weaken (λ k. prefix (p ∷ ps) (leftAt q k)) (holdFirst q e (slice from to w)) (run lay w lo hi)
-            (λ k begin.
-            all-weaken (λ s. isCandidate e (p ∷ ps) (rightAt q s)) (λ s. subset (take e (leftAt q k)) (rightAt q s))
-            (slice from to w)
-            (λ s holds. candidate-holds e k s begin short holds)
-            (listing-all (length (q .rights)) (λ s. isCandidate e (p ∷ ps) (rightAt q s)) (slice from to w) listing))
-            begins;
-      }
-
-  module _ (is : Outcome → Bool) (met : MetOnly is) where
+  module _ (list : List ℕ) (is : Outcome → Bool) (met : MetOnly is) where
     -- rows where the walk does not go on
-    pub rows-stop : (lefts list : List ℕ) → Begin q (p ∷ ps) lefts → goes q (p ∷ ps) ≡ false
-        → Listing (length (q .rights)) (λ s. isCandidate (length (p ∷ ps) - 1) (p ∷ ps) (rightAt q s)) list
-        → sum (row is q (length (p ∷ ps))) lefts ≡ runCount q is list lefts
-    rows-stop lefts list begins stop listing =
-        sum-same-where (λ k. prefix (p ∷ ps) (leftAt q k)) (row is q (length (p ∷ ps))) (rowCount q is list) lefts begins
-        (λ k begin.
-        row-stops q (length (p ∷ ps)) k is met list (left-goes k false begin stop)
-        (listing-left (length (p ∷ ps) - 1) k list begin (omega arith) listing))
+    pub rows-stop : goes q path ≡ false → Listing (length (q .rights)) (λ s. isCandidate (d - 1) path (rightAt q s)) list
+        → sum (row is q d) lefts ≡ runCount q is list lefts
+    rows-stop stop listing =
+        sum-same-where (λ k. prefix path (leftAt q k)) (row is q d) (rowCount q is list) lefts (rooted .begin)
+        (λ k begins.
+        row-stops q d k is met list (left-goes k false begins stop)
+        (listing-left (d - 1) k list begins (omega arith) listing))
 
     -- rows of longer left sets at the limit
-    pub rows-limit : (lefts list : List ℕ) → Begin q (p ∷ ps) lefts → goes q (p ∷ ps) ≡ true
-        → all (λ k. ltb (length (p ∷ ps)) (length (leftAt q k))) lefts ≡ true → q .limit ≡ length (p ∷ ps)
-        → Listing (length (q .rights)) (λ s. isCandidate (length (p ∷ ps)) (p ∷ ps) (rightAt q s)) list
-        → sum (row is q (length (p ∷ ps))) lefts ≡ runCount q is list lefts
-    rows-limit lefts list begins on longer last listing =
-        sum-same-where (λ k. prefix (p ∷ ps) (leftAt q k) && ltb (length (p ∷ ps)) (length (leftAt q k)))
-        (row is q (length (p ∷ ps))) (rowCount q is list) lefts (all-and _ _ lefts begins longer)
+    pub rows-limit : goes q path ≡ true → all (λ k. ltb d (length (leftAt q k))) lefts ≡ true → q .limit ≡ d
+        → Listing (length (q .rights)) (λ s. isCandidate d path (rightAt q s)) list
+        → sum (row is q d) lefts ≡ runCount q is list lefts
+    rows-limit on longer last listing =
+        sum-same-where (λ k. prefix path (leftAt q k) && ltb d (length (leftAt q k))) (row is q d) (rowCount q is list) lefts
+        (all-and _ _ lefts (rooted .begin) longer)
         (λ k both.
-        let begin = and-left (prefix (p ∷ ps) (leftAt q k)) (ltb (length (p ∷ ps)) (length (leftAt q k))) both in
-        let more = and-right (prefix (p ∷ ps) (leftAt q k)) (ltb (length (p ∷ ps)) (length (leftAt q k))) both in
-        row-limit q (length (p ∷ ps)) k is met list (left-goes k true begin on)
-        (ltb-true (length (p ∷ ps)) (length (leftAt q k)) more) last
-        (listing-left (length (p ∷ ps)) k list begin (omega arith) listing))
+        let begins = and-left (prefix path (leftAt q k)) (ltb d (length (leftAt q k))) both in
+        let more = and-right (prefix path (leftAt q k)) (ltb d (length (leftAt q k))) both in
+        row-limit q d k is met list (left-goes k true begins on) (ltb-true d (length (leftAt q k)) more) last
+        (listing-left d k list begins (omega arith) listing))
 
     -- rows of left sets that end where the walk goes on
-    pub rows-merge : (lefts list : List ℕ) → Begin q (p ∷ ps) lefts → goes q (p ∷ ps) ≡ true
-        → all (λ k. eqb (keyAt q (length (p ∷ ps)) k) 0) lefts ≡ true
-        → Listing (length (q .rights)) (λ s. isCandidate (length (p ∷ ps)) (p ∷ ps) (rightAt q s)) list
-        → sum (row is q (length (p ∷ ps))) lefts ≡ pathPairs (length lefts) (length list) is
-    rows-merge lefts list begins on ended listing =
-        sum-same-where (λ k. prefix (p ∷ ps) (leftAt q k) && eqb (keyAt q (length (p ∷ ps)) k) 0)
-        (row is q (length (p ∷ ps))) (λ k. pathPairs 1 (length list) is) lefts (all-and _ _ lefts begins ended)
+    pub rows-merge : goes q path ≡ true → all (λ k. eqb (keyAt q d k) 0) lefts ≡ true
+        → Listing (length (q .rights)) (λ s. isCandidate d path (rightAt q s)) list
+        → sum (row is q d) lefts ≡ pathPairs (length lefts) (length list) is
+    rows-merge on ended listing =
+        sum-same-where (λ k. prefix path (leftAt q k) && eqb (keyAt q d k) 0) (row is q d) (λ k. pathPairs 1 (length list) is)
+        lefts (all-and _ _ lefts (rooted .begin) ended)
         (λ k both.
-        let begin = and-left (prefix (p ∷ ps) (leftAt q k)) (eqb (keyAt q (length (p ∷ ps)) k) 0) both in
-        let none = and-right (prefix (p ∷ ps) (leftAt q k)) (eqb (keyAt q (length (p ∷ ps)) k) 0) both in
-        row-merges q (length (p ∷ ps)) k is met list (left-goes k true begin on)
-        (key-ended q (length (p ∷ ps)) k none (prefix-length (p ∷ ps) (leftAt q k) begin))
-        (listing-left (length (p ∷ ps)) k list begin (omega arith) listing))
+        let begins = and-left (prefix path (leftAt q k)) (eqb (keyAt q d k) 0) both in
+        let none = and-right (prefix path (leftAt q k)) (eqb (keyAt q d k) 0) both in
+        row-merges q d k is met list (left-goes k true begins on)
+        (key-ended q d k none (omega (arith, prefix-length path (leftAt q k) begins, rooted .depth)))
+        (listing-left d k list begins (omega arith) listing))
         ∙ paths-many is (length list) lefts
+
+-- the left sets can be checked after e ranks of the path
+pub runs-there : {lay : Layout} {q : Query} {path w : List ℕ} {d e lo hi from to : ℕ} → Rooted q path d (run lay w lo hi)
+    → Index lay q w → to ≤ length w → hi ≤ length (q .lefts)
+    → Listing (length (q .rights)) (λ s. isCandidate e path (rightAt q s)) (slice from to w) → e ≤ d
+    → RunsThere lay q w e lo hi from to
+runs-there {lay} {q} {path} {w} {d} {e} {lo} {hi} {from} {to} rooted index inside few listing short =
+    record {
+      places = record {
+        index = index;
+        within = inside;
+        below = listing-below (length (q .rights)) (λ s. isCandidate e path (rightAt q s)) (slice from to w) listing;
+      };
+      within = few;
+      holding = rooted-holds rooted e (slice from to w) short listing;
+    }

@@ -125,17 +125,8 @@ module _ {lay : Layout} {q : Query} {path w : List ℕ} {d lo hi : ℕ} (cands :
           holds =
               met .is
               ∙ ap₂ (λ (a b : List ℕ). keep (λ s. memb s a) b) (inverted-holds .is) (cands .sorted deeper)
-              ∙ listed path (cands .depth) deeper;
+              ∙ narrow-further q path (cands .depth) (cands .deep);
         }
-      where
-        listed : (p : List ℕ) → length p ≡ d → 1 < d
-            → keep (λ s. memb s (invertedList q (lastOf p))) (candidateList q p (d - 1)) ≡ candidateList q p d
-        listed [] e h = absurd (omega arith)
-        listed (r ∷ rest) e h =
-            let p = r ∷ rest in
-            subst
-            (λ (n : ℕ). keep (λ s. memb s (invertedList q (lastOf p))) (candidateList q p (n - 1)) ≡ candidateList q p n) e
-            (narrow-further q r rest)
 
   -- the inverted list, its two bounds read
   pub inverted-read : {rank first last : ℕ} → rank ≡ lastOf path → Word w (lay .offsets + rank) first

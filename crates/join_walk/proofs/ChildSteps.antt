@@ -185,15 +185,9 @@ module _ {lay : Layout} {st : Settings} {q : Query} {path w : List ℕ} {d i hi 
   same-candidates : (s : ℕ) → isCandidate (suc d - 1) longer (rightAt q s) ≡ isCandidate d path (rightAt q s)
   same-candidates s =
       let less : suc d - 1 ≡ d = omega arith in
-      ap (λ (m : ℕ). isCandidate m longer (rightAt q s)) less ∙ go path refl
-    where
-      go : (l : List ℕ) → path ≡ l → isCandidate d longer (rightAt q s) ≡ isCandidate d path (rightAt q s)
-      go [] e = absurd (omega (arith, kids .depth, after .deep, ap length e))
-      go (p ∷ ps) e =
-          candidate-path d p ps longer (rightAt q s)
-          (subst (λ (l : List ℕ). prefix l longer ≡ true) e (prefix-longer path rank))
-          (omega (arith, kids .depth, ap length e))
-          ∙ ap (λ (l : List ℕ). isCandidate d l (rightAt q s)) (sym e)
+      ap (λ (m : ℕ). isCandidate m longer (rightAt q s)) less
+      ∙ candidate-path d path longer (rightAt q s) (omega (arith, kids .depth, after .deep)) (prefix-longer path rank)
+      (omega (arith, kids .depth))
 
   child-sorted : slice from to w ≡ candidateList q longer (suc d - 1)
   child-sorted =

@@ -18,7 +18,7 @@ use Rattle.join_index.specs.declared.Layout.{Layout}
 use Rattle.word_lists.specs.Words.{Word}
 use Rattle.join_check.specs.Asking.{LeftThere, RunThere}
 use Rattle.join_check.specs.Runs.{run, lead, leftIn, RunEnd}
-use Rattle.join_check.proofs.Orders.{order-within, run-next, run-key, run-fail}
+use Rattle.join_check.proofs.Orders.{run-first, run-key, run-fail}
 use Rattle.join_walk.specs.Visiting.{beginners}
 use Rattle.join_walk.specs.Blocks.{MergedEnd}
 use Rattle.join_walk.proofs.Groups.{FirstGroup, groups-first, groups-above, keep-groups}
@@ -40,7 +40,7 @@ module _ {lay : Layout} {q : Query} {w : List ℕ} {i hi : ℕ} (d x n : ℕ) (r
   pub group-first : FirstGroup (keyAt q d) x n rest (leftIn lay w i)
   group-first =
       groups-first (keyAt q d) x n rest (leftIn lay w i) (run lay w (i + 1) hi)
-      (sym grouped ∙ run-next lay w i hi (there .some) (omega (arith, order-within lay q w (there .index), there .within)))
+      (sym grouped ∙ run-first there)
 
   pub group-cut : {j : ℕ} → RunEnd lay w d i hi j
       → Cut lay w i j hi (keep (λ k. eqb (keyAt q d k) key) rest) (groupsFrom (keyAt q d) (suc key) (x + n - suc key) rest)
@@ -88,9 +88,8 @@ module _ {lay : Layout} {w : List ℕ} {d lo hi k r : ℕ} (word : Word w (lay .
         low = omega arith;
         high = omega (arith, some);
         maximal = λ q there.
-            sym (run-fail lay w hi (λ k. eqb (keyAt q d k) 0)
-            (omega (arith, order-within lay q w (there .index), there .within)) lo (there .some)
-            (ne-eqb (keyAt q d (leftIn lay w lo)) 0 (λ zero. other (run-key there d lo k r (there .some) word read ∙ zero))));
+            sym (run-fail there (λ k. eqb (keyAt q d k) 0) lo (there .some)
+            (ne-eqb (keyAt q d (leftIn lay w lo)) 0 (λ zero. other (run-key there d lo (there .some) word read ∙ zero))));
       }
 
   pub some-ended : {j : ℕ} → r ≡ 0 → RunEnd lay w d lo hi j → MergedEnd lay w d lo hi j
@@ -101,5 +100,5 @@ module _ {lay : Layout} {w : List ℕ} {d lo hi k r : ℕ} (word : Word w (lay .
         maximal = λ q there.
             end .maximal q there
             ∙ ap (λ (x : ℕ). lo + lead (λ k. eqb (keyAt q d k) x) (run lay w lo hi))
-            (sym (run-key there d lo k r (there .some) word read) ∙ zero);
+            (sym (run-key there d lo (there .some) word read) ∙ zero);
       }

@@ -25,11 +25,11 @@ use Rattle.join_index.specs.declared.Layout.{Layout}
 use Rattle.join_check.specs.Asking.{RunThere, LeftThere}
 use Rattle.join_check.specs.Runs.{run, leftIn}
 use Rattle.word_lists.specs.Words.{Word}
-use Rattle.join_check.specs.Checks.{RunsThere, runCount}
+use Rattle.join_check.specs.Checks.{RunsThere}
 use Rattle.join_check.specs.Counters.{checksIn}
 use Rattle.join_check.specs.declared.Tally.{Tally}
-use Rattle.join_check.proofs.Orders.{order-within, run-next, run-none, run-key}
-use Rattle.join_walk.specs.Rows.{row, pathPairs}
+use Rattle.join_check.proofs.Orders.{run-first, run-none, run-key}
+use Rattle.join_walk.specs.Rows.{pathPairs}
 use Rattle.join_walk.specs.Narrowing.{candidateList}
 use Rattle.join_walk.specs.Visiting.{Added, Merged, Visited}
 use Rattle.join_walk.specs.Blocks.{Small, Blocked, AtLimit}
@@ -41,7 +41,7 @@ use Rattle.join_walk.proofs.VisitLaws.{underway-next}
 use Rattle.join_walk.proofs.FrameLaws.{framed-none}
 use Rattle.join_walk.proofs.PartLoop.{PartDone}
 use Rattle.join_walk.proofs.PathLaws.{paths-all, merged-checks}
-use Rattle.join_walk.proofs.BlockLaws.{runs-there, rows-limit, rows-merge, key-longer}
+use Rattle.join_walk.proofs.BlockLaws.{Rooted, runs-there, rows-limit, rows-merge, key-longer}
 use Rattle.join_walk.proofs.BlockVisits.{block-visited, merged-added}
 
 -- the candidates after a path are at most the right sets
@@ -140,7 +140,7 @@ all-one p x l e h = subst (λ (m : List ℕ). all p m ≡ true) (sym e) (and-bot
 module _ {lay : Layout} {st : Settings} {q : Query} {w : List ℕ} {d i from to : ℕ} {t : Tally} where
   one-left : {path : List ℕ} → AtLimit lay st q path w d i (i + 1) from to t → run lay w i (i + 1) ≡ leftIn lay w i ∷ []
   one-left at =
-      run-next lay w i (i + 1) (omega arith) (omega (arith, order-within lay q w (at .index), at .few))
+      run-first (limit-run at (omega arith))
       ∙ ap (λ (l : List ℕ). leftIn lay w i ∷ l) (run-none lay w (i + 1) (i + 1) (omega arith))
 
   pub one-room : {path : List ℕ} → AtLimit lay st q path w d i (i + 1) from to t
@@ -151,22 +151,20 @@ module _ {lay : Layout} {st : Settings} {q : Query} {w : List ℕ} {d i from to 
       ap (λ (n : ℕ). n * length (q .rights)) (omega arith) ∙ one-mul (length (q .rights)) in
       omega (arith, at .underway .bounded, part-few at, one, paths-all 1 (to - from), one-mul (to - from))
 
-  pub one-merged : (path : List ℕ) → AtLimit lay st q path w d i (i + 1) from to t → keyAt q d (leftIn lay w i) ≡ 0 → {r : Tally}
+  rooted : {path : List ℕ} → AtLimit lay st q path w d i (i + 1) from to t → Rooted q path d (run lay w i (i + 1))
+  rooted at = record { depth = at .depth; deep = at .deep; begin = at .begins }
+
+  pub one-merged : {path : List ℕ} → AtLimit lay st q path w d i (i + 1) from to t → keyAt q d (leftIn lay w i) ≡ 0 → {r : Tally}
       → Merged 1 (to - from) t r
       → Visited q (st .budget) d (run lay w i (i + 1)) t (record { tally = r; spent = false })
-  one-merged [] at ends merged = absurd (omega (arith, at .depth, at .deep))
-  one-merged (p ∷ ps) at ends {r} merged =
+  one-merged at ends {r} merged =
       let lefts = run lay w i (i + 1) in
       let add : Added q d lefts t r =
       merged-added lefts
       (λ is met.
-      subst (λ (n : ℕ). sum (row is q n) lefts ≡ pathPairs (length lefts) (length (slice from to w)) is) (at .depth)
-      (rows-merge q p ps is met lefts (slice from to w) (at .begins) (at .on)
-      (all-one (λ k. eqb (keyAt q (length (p ∷ ps)) k) 0) (leftIn lay w i) lefts (one-left at)
-      (subst (λ (n : ℕ). eqb (keyAt q n (leftIn lay w i)) 0 ≡ true) (sym (at .depth))
-      (eq-eqb (keyAt q d (leftIn lay w i)) 0 ends)))
-      (subst (λ (n : ℕ). Listing (length (q .rights)) (λ s. isCandidate n (p ∷ ps) (rightAt q s)) (slice from to w))
-      (sym (at .depth)) (limit-listing at)))
+      rows-merge (rooted at) (slice from to w) is met (at .on)
+      (all-one (λ k. eqb (keyAt q d k) 0) (leftIn lay w i) lefts (one-left at) (eq-eqb (keyAt q d (leftIn lay w i)) 0 ends))
+      (limit-listing at)
       ∙ ap₂ (λ (m c : ℕ). pathPairs m c is) (ap length (one-left at)) (part-length at))
       merged in
       record {
@@ -178,12 +176,10 @@ module _ {lay : Layout} {st : Settings} {q : Query} {w : List ℕ} {d i from to 
   -- its key as it was read
   pub one-key : {path : List ℕ} {k r : ℕ} → AtLimit lay st q path w d i (i + 1) from to t → Word w (lay .order + i) k
       → ((q : Query) → LeftThere lay q w k → r ≡ keyAt q d k) → r ≡ keyAt q d (leftIn lay w i)
-  one-key {k = k} {r = r} at word read = run-key (limit-run at (omega arith)) d i k r (omega arith) word read
+  one-key at word read = run-key (limit-run at (omega arith)) d i (omega arith) word read
 
-  pub one-there : (path : List ℕ) → AtLimit lay st q path w d i (i + 1) from to t → RunsThere lay q w d i (i + 1) from to
-  one-there [] at = absurd (omega (arith, at .depth, at .deep))
-  one-there (p ∷ ps) at =
-      runs-there q p ps (at .index) (at .within) (at .few) (limit-listing at) (at .begins) (omega (arith, at .depth))
+  pub one-there : {path : List ℕ} → AtLimit lay st q path w d i (i + 1) from to t → RunsThere lay q w d i (i + 1) from to
+  one-there at = runs-there (rooted at) (at .index) (at .within) (at .few) (limit-listing at) (omega arith)
 
   pub one-small : {path : List ℕ} → AtLimit lay st q path w d i (i + 1) from to t → Small (st .budget) i (i + 1) from to t
   one-small at =
@@ -195,20 +191,15 @@ module _ {lay : Layout} {st : Settings} {q : Query} {w : List ℕ} {d i from to 
         covered = at .underway .budget;
       }
 
-  pub one-checked : (path : List ℕ) → (at : AtLimit lay st q path w d i (i + 1) from to t)
+  pub one-checked : {path : List ℕ} → AtLimit lay st q path w d i (i + 1) from to t
       → (keyAt q d (leftIn lay w i) ≡ 0 → ⊥) → {r : Walked}
       → Blocked lay w (st .budget) d i (i + 1) from to t r → Visited q (st .budget) d (run lay w i (i + 1)) t r
-  one-checked [] at longer block = absurd (omega (arith, at .depth, at .deep))
-  one-checked (p ∷ ps) at longer block =
-      let lefts = run lay w i (i + 1) in
-      block-visited (one-there (p ∷ ps) at) (ap length (one-left at) ∙ omega arith) (part-length at)
+  one-checked at longer block =
+      let own = leftIn lay w i in
+      block-visited (one-there at) (ap length (one-left at) ∙ omega arith) (part-length at)
       (λ is met.
-      subst (λ (n : ℕ). sum (row is q n) lefts ≡ runCount q is (slice from to w) lefts) (at .depth)
-      (rows-limit q p ps is met lefts (slice from to w) (at .begins) (at .on)
-      (all-one (λ k. ltb (length (p ∷ ps)) (length (leftAt q k))) (leftIn lay w i) lefts (one-left at)
-      (lt-ltb (length (p ∷ ps)) (length (leftAt q (leftIn lay w i)))
-      (omega (arith, key-longer q d (leftIn lay w i) (ne-eqb (keyAt q d (leftIn lay w i)) 0 longer), at .depth))))
-      (at .limit ∙ sym (at .depth))
-      (subst (λ (n : ℕ). Listing (length (q .rights)) (λ s. isCandidate n (p ∷ ps) (rightAt q s)) (slice from to w))
-      (sym (at .depth)) (limit-listing at))))
+      rows-limit (rooted at) (slice from to w) is met (at .on)
+      (all-one (λ k. ltb d (length (leftAt q k))) own (run lay w i (i + 1)) (one-left at)
+      (lt-ltb d (length (leftAt q own)) (key-longer q d own (ne-eqb (keyAt q d own) 0 longer))))
+      (at .limit) (limit-listing at))
       block

@@ -1,8 +1,8 @@
 -- What a node's record gives the code: its first left set begins with its path, so the path's ranks can be read off that set;
 -- and its three numbers are the lengths of its run and of its candidates, and a count over an inverted list.
 use Prim.Native.Nat.{ℕ, suc, _+_, _-_, _≤_, _<_}
-use mathlib.Core.Path.{_≡_, refl, sym, ap, subst, _∙_}
-use mathlib.Core.List.{List, [], _∷_, map}
+use mathlib.Core.Path.{_≡_, sym, ap, subst, _∙_}
+use mathlib.Core.List.{List, map}
 use mathlib.Core.Bool.{Bool, true, false, _&&_}
 use native.Mathlib.Omega.{arith}
 use borrow.Author.Tests.{lt-leb}
@@ -36,7 +36,7 @@ use Rattle.join_walk.proofs.Narrowing.{listing-length}
 -- what is on a path
 module _ {lay : Layout} {q : Query} {path w : List ℕ} {lo i : ℕ} (on : OnPath lay q path w lo i) where
   pub on-left : LeftThere lay q w (leftIn lay w lo)
-  on-left = order-left lay q w (on .index) lo (on .few)
+  on-left = order-left (on .index) lo (on .few)
 
   on-deep : i < length (leftAt q (leftIn lay w lo))
   on-deep = omega (arith, on .deep, prefix-length path (leftAt q (leftIn lay w lo)) (on .begins))
@@ -95,19 +95,11 @@ module _ {lay : Layout} {q : Query} {path w : List ℕ} {d lo hi from to : ℕ} 
 
   -- c
   pub node-candidates : candidates (map (inOrder q) (q .rights)) path ≡ to - from
-  node-candidates = counted path refl
-    where
-      counted : (l : List ℕ) → path ≡ l → candidates (map (inOrder q) (q .rights)) path ≡ to - from
-      counted [] e = absurd (omega (arith, node .candidates .depth, node .candidates .deep, ap length e))
-      counted (r ∷ rest) e =
-          ap (candidates (map (inOrder q) (q .rights))) e ∙ candidates-is q r rest
-          ∙ subst
-          (λ (l : List ℕ). count (λ s. isCandidate (length l - 1) l (rightAt q s)) (upto (length (q .rights))) ≡ to - from) e
-          (ap (λ (n : ℕ). count (λ s. isCandidate (n - 1) path (rightAt q s)) (upto (length (q .rights))))
-          (node .candidates .depth)
-          ∙ sym (listing-length (length (q .rights)) (λ s. isCandidate (d - 1) path (rightAt q s)) (slice from to w)
-          (node .candidates .listing))
-          ∙ part-length)
+  node-candidates =
+      candidates-is q path (node .candidates .depth) (node .candidates .deep)
+      ∙ sym (listing-length (length (q .rights)) (λ s. isCandidate (d - 1) path (rightAt q s)) (slice from to w)
+      (node .candidates .listing))
+      ∙ part-length
 
   -- the candidates are no more than the right sets
   pub candidates-few : to - from ≤ length (q .rights)

@@ -1,8 +1,8 @@
 -- The three numbers of a node, as the walk finds them: m is the length of its run of left sets, c that of its list of
 -- candidates, and t a count over the inverted list of its last rank. And the candidates after a node: those before it that hold
 -- its last rank.
-use Prim.Native.Nat.{ℕ, zero, suc, _+_, _-_}
-use mathlib.Core.Path.{_≡_, refl, sym, ap, _∙_}
+use Prim.Native.Nat.{ℕ, zero, suc, _+_, _-_, _<_}
+use mathlib.Core.Path.{_≡_, refl, sym, ap, subst, _∙_}
 use mathlib.Core.List.{List, [], _∷_, map}
 use mathlib.Core.Bool.{Bool, _&&_, and-comm}
 use native.Mathlib.Omega.{arith}
@@ -53,12 +53,16 @@ beginning-is q path n d =
     ∙ sym (length-keep (λ k. prefix path (leftAt q k)) (orderFrom q n d))
 
 -- c
-pub candidates-is : (q : Query) (r : ℕ) (rest : List ℕ)
-    → candidates (map (inOrder q) (q .rights)) (r ∷ rest)
-    ≡ count (λ s. isCandidate (length (r ∷ rest) - 1) (r ∷ rest) (rightAt q s)) (upto (length (q .rights)))
+pub candidates-is : (q : Query) (path : List ℕ) {d : ℕ} → length path ≡ d → 0 < d
+    → candidates (map (inOrder q) (q .rights)) path
+    ≡ count (λ s. isCandidate (d - 1) path (rightAt q s)) (upto (length (q .rights)))
 unfolding isCandidate
-candidates-is q r rest =
-    rights-by-place q (λ right. seen (firstOf (r ∷ rest)) right && subset (frontOf (r ∷ rest)) right)
+candidates-is q [] depth deep = absurd (omega arith)
+candidates-is q (r ∷ rest) depth deep =
+    subst
+    (λ (e : ℕ). candidates (map (inOrder q) (q .rights)) (r ∷ rest)
+    ≡ count (λ s. isCandidate (e - 1) (r ∷ rest) (rightAt q s)) (upto (length (q .rights)))) depth
+    (rights-by-place q (λ right. seen (firstOf (r ∷ rest)) right && subset (frontOf (r ∷ rest)) right))
 
 -- t
 pub holders-is : (q : Query) (path : List ℕ)

@@ -2,7 +2,7 @@
 -- there come first and pair by path, and the others are its children.
 use Prim.Native.Nat.{ℕ, suc, _+_, _-_, _*_, _≤_, _<_}
 use mathlib.Core.Path.{_≡_, refl, sym, ap, ap₂, subst, _∙_}
-use mathlib.Core.List.{List, [], _∷_, _++_}
+use mathlib.Core.List.{List, _++_}
 use mathlib.Core.Bool.{Bool, true, false, _&&_, not}
 use native.Mathlib.Omega.{arith}
 use native.Mathlib.Nat.{mul-le-mul}
@@ -18,7 +18,7 @@ use Rattle.lists.proofs.Slices.{length-slice}
 use Rattle.sets.specs.Limits.{maxPairs}
 use Rattle.join_spec.specs.Query.{Query}
 use Rattle.join_spec.specs.Node.{lastOf}
-use Rattle.join_spec.specs.Walk.{Outcome, notMet, isCandidate}
+use Rattle.join_spec.specs.Walk.{Outcome, isCandidate}
 use Rattle.join_spec.specs.Counting.{isByPath}
 use Rattle.join_index.specs.Grouping.{leftAt, rightAt, keyAt, orderFrom}
 use Rattle.join_index.specs.Ground.{Listing}
@@ -42,13 +42,13 @@ use Rattle.join_walk.proofs.Narrowing.{listing-kept}
 use Rattle.join_walk.proofs.NodeFacts.{last-read}
 use Rattle.join_walk.proofs.Prefixes.{prefix-take}
 use Rattle.join_walk.proofs.RowLaws.{row-deeper}
-use Rattle.join_walk.proofs.BlockLaws.{Begin, rows-merge, key-longer, all-and}
+use Rattle.join_walk.proofs.BlockLaws.{Begin, Rooted, rows-merge, key-longer, all-and}
 use Rattle.join_walk.proofs.PathLaws.{paths-all, merged-checks}
 use Rattle.join_walk.proofs.BlockVisits.{merged-added}
 use Rattle.join_walk.proofs.LimitLaws.{candidates-most}
 use Rattle.join_walk.proofs.VisitLaws.{visited-then, visited-rows, underway-next}
 use Rattle.join_walk.proofs.FrameLaws.{index-framed, slot-framed, run-framed, framed-then}
-use Rattle.join_walk.proofs.NodeStops.{goes-on, node-begins}
+use Rattle.join_walk.proofs.NodeStops.{goes-on, node-rooted}
 
 -- a node where the walk goes on, its candidates narrowed to a part of the work list, which became w′
 pub record Onward (lay : Layout) (st : Settings) (q : Query) (path w w′ : List ℕ) (d lo hi from to : ℕ) (t : Tally)
@@ -110,7 +110,7 @@ module _ {lay : Layout} {st : Settings} {q : Query} {path w w′ : List ℕ} {d 
         upto = omega (arith, so .node .at .some);
         few = so .node .at .few;
         begins =
-            subst (λ (l : List ℕ). Begin q path l) (sym (run-framed index framed low lo hi (so .node .at .few))) (node-begins (so .node));
+            subst (λ (l : List ℕ). Begin q path l) (sym (run-framed index framed low lo hi (so .node .at .few))) (node-rooted (so .node) .begin);
         rise = so .narrowed .rise;
         within = part-inside;
         holds = so .narrowed .holds;
@@ -157,12 +157,17 @@ module _ {lay : Layout} {st : Settings} {q : Query} {path w w′ : List ℕ} {d 
           mul-le-mul {n₁ = mid - lo} {n₂ = hi - lo} (omega (arith, end .high)) after-few in
           omega (arith, so .node .underway .bounded, product, paths-all (mid - lo) (part .to - part .«from»))
 
-      ended-begin : Begin q path (run lay w lo mid)
+      ended-rooted : Rooted q path d (run lay w lo mid)
       unfolding rest
-      ended-begin =
-          subst (λ (l : List ℕ). Begin q path l) (sym ended-lefts)
-          (all-keep (λ k. prefix path (leftAt q k)) (λ k. eqb (keyAt q d k) 0) rest
-          (all-kept (λ k. prefix path (leftAt q k)) (orderFrom q (q .limit - suc d) (suc d))))
+      ended-rooted =
+          record {
+            depth = cands .depth;
+            deep = cands .deep;
+            begin =
+                subst (λ (l : List ℕ). Begin q path l) (sym ended-lefts)
+                (all-keep (λ k. prefix path (leftAt q k)) (λ k. eqb (keyAt q d k) 0) rest
+                (all-kept (λ k. prefix path (leftAt q k)) (orderFrom q (q .limit - suc d) (suc d))));
+          }
 
       front-keys : all (λ k. eqb (keyAt q d k) 0) (run lay w lo mid) ≡ true
       front-keys = subst (λ (l : List ℕ). all (λ k. eqb (keyAt q d k) 0) l ≡ true) (sym ended-lefts) (ended-keys q d rest)
@@ -174,26 +179,12 @@ module _ {lay : Layout} {st : Settings} {q : Query} {path w w′ : List ℕ} {d 
 
       module _ {m : Tally} (merged : Merged (mid - lo) (part .to - part .«from») t m) where
         pub merged-lefts : Added q d (run lay w lo mid) t m
-        merged-lefts = merged-added (run lay w lo mid) (λ is met. go path refl is met) merged
-          where
-            list : List ℕ
-            list = slice (part .«from») (part .to) w′
-
-            go : (l : List ℕ) → path ≡ l → (is : Outcome → Bool) → is notMet ≡ false
-                → sum (row is q d) (run lay w lo mid) ≡ pathPairs (mid - lo) (part .to - part .«from») is
-            go [] e is met = absurd (omega (arith, cands .depth, cands .deep, ap length e))
-            go (p ∷ ps) e is met =
-                let depth : length (p ∷ ps) ≡ d = sym (ap length e) ∙ cands .depth in
-                subst
-                (λ (n : ℕ). sum (row is q n) (run lay w lo mid) ≡ pathPairs (mid - lo) (part .to - part .«from») is)
-                depth
-                (rows-merge q p ps is met (run lay w lo mid) list
-                (subst (λ (l : List ℕ). Begin q l (run lay w lo mid)) e ended-begin) (ap (goes q) (sym e) ∙ sym (so .on))
-                (subst (λ (n : ℕ). all (λ k. eqb (keyAt q n k) 0) (run lay w lo mid) ≡ true) (sym depth) front-keys)
-                (subst (λ (n : ℕ). Listing (length (q .rights)) (λ s. isCandidate n (p ∷ ps) (rightAt q s)) list) (sym depth)
-                (subst (λ (l : List ℕ). Listing (length (q .rights)) (λ s. isCandidate d l (rightAt q s)) list)
-                e after-listing))
-                ∙ ap₂ (λ (a b : ℕ). pathPairs a b is) front-length after-length)
+        merged-lefts =
+            merged-added (run lay w lo mid)
+            (λ is met.
+            rows-merge ended-rooted (slice (part .«from») (part .to) w′) is met (sym (so .on)) front-keys after-listing
+            ∙ ap₂ (λ (m c : ℕ). pathPairs m c is) front-length after-length)
+            merged
 
         merged-budget : checksIn m ≤ st .budget
         merged-budget = omega (arith, merged-checks merged, so .node .underway .budget)
@@ -243,7 +234,7 @@ module _ {lay : Layout} {st : Settings} {q : Query} {path w w′ : List ℕ} {d 
         child-begin =
             all-back (λ k. prefix path (leftAt q k)) (run lay w lo mid) (run lay w mid hi)
             (subst (λ (l : List ℕ). Begin q path l) (run-split lay q w lo mid hi index (end .low) (end .high) (so .node .at .few))
-            (node-begins (so .node)))
+            (node-rooted (so .node) .begin))
 
         child-keys : all (λ k. not (eqb (keyAt q d k) 0)) (run lay w mid hi) ≡ true
         child-keys =

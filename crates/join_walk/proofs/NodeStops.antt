@@ -1,27 +1,25 @@
 -- The decision at a node as it was answered; and a node where the walk does not go on: its left sets are a block of checks
 -- against its candidates.
 use Prim.Native.Nat.{ℕ, _-_, _≤_}
-use mathlib.Core.Path.{_≡_, refl, sym, ap, subst, _∙_}
-use mathlib.Core.List.{List, [], _∷_}
+use mathlib.Core.Path.{_≡_, sym, subst, _∙_}
+use mathlib.Core.List.{List}
 use mathlib.Core.Bool.{Bool, true, false, not}
 use native.Mathlib.Omega.{arith}
 use borrow.Author.Tests.{not-true, not-false}
 use lib.ListN.{length}
-use Rattle.lists.specs.Lists.{prefix, sum, slice}
+use Rattle.lists.specs.Lists.{prefix, slice}
 use Rattle.lists.proofs.Filtering.{all-kept}
 use Rattle.lists.proofs.Slices.{length-slice}
 use Rattle.sets.specs.Limits.{maxSets}
 use Rattle.join_spec.specs.Query.{Query}
 use Rattle.join_spec.specs.Node.{lastOf}
-use Rattle.join_spec.specs.Walk.{Outcome, notMet, isCandidate}
-use Rattle.join_index.specs.Grouping.{leftAt, rightAt, orderFrom}
-use Rattle.join_index.specs.Ground.{Listing}
+use Rattle.join_index.specs.Grouping.{leftAt, orderFrom}
 use Rattle.join_index.specs.declared.Layout.{Layout}
 use Rattle.join_check.specs.Asking.{Index}
 use Rattle.join_check.specs.Runs.{run}
-use Rattle.join_check.specs.Checks.{RunsThere, runCount}
+use Rattle.join_check.specs.Checks.{RunsThere}
 use Rattle.join_check.specs.declared.Tally.{Tally}
-use Rattle.join_walk.specs.Rows.{goes, row}
+use Rattle.join_walk.specs.Rows.{goes}
 use Rattle.join_walk.specs.Narrowing.{Candidates, slotOf}
 use Rattle.join_walk.specs.Visiting.{Node, NodeAt, NodeVisited}
 use Rattle.join_walk.specs.Blocks.{Small, Blocked}
@@ -29,7 +27,7 @@ use Rattle.join_walk.specs.declared.visit.Settings.{Settings}
 use Rattle.join_walk.specs.declared.visit.Walked.{Walked}
 use Rattle.join_walk.proofs.RunLaws.{run-length}
 use Rattle.join_walk.proofs.NodeFacts.{candidates-few}
-use Rattle.join_walk.proofs.BlockLaws.{Begin, runs-there, rows-stop}
+use Rattle.join_walk.proofs.BlockLaws.{Begin, Rooted, runs-there, rows-stop}
 use Rattle.join_walk.proofs.BlockVisits.{block-visited}
 use Rattle.join_walk.proofs.FrameLaws.{framed-none}
 
@@ -41,10 +39,15 @@ module _ {lay : Layout} {st : Settings} {q : Query} {path w : List ℕ} {d lo hi
   index : Index lay q w
   index = cands .index
 
-  pub node-begins : Begin q path (run lay w lo hi)
-  node-begins =
-      subst (λ (l : List ℕ). Begin q path l) (sym (node .at .lefts))
-      (all-kept (λ k. prefix path (leftAt q k)) (orderFrom q (q .limit - d) d))
+  pub node-rooted : Rooted q path d (run lay w lo hi)
+  node-rooted =
+      record {
+        depth = cands .depth;
+        deep = cands .deep;
+        begin =
+            subst (λ (l : List ℕ). Begin q path l) (sym (node .at .lefts))
+            (all-kept (λ k. prefix path (leftAt q k)) (orderFrom q (q .limit - d) d));
+      }
 
   part-within : to ≤ length w
   part-within =
@@ -72,15 +75,7 @@ module _ {lay : Layout} {st : Settings} {q : Query} {path w : List ℕ} {d lo hi
 
   -- not going on
   pub stop-there : RunsThere lay q w (d - 1) lo hi from to
-  stop-there = go path refl
-    where
-      go : (l : List ℕ) → path ≡ l → RunsThere lay q w (d - 1) lo hi from to
-      go [] e = absurd (omega (arith, cands .depth, cands .deep, ap length e))
-      go (p ∷ ps) e =
-          runs-there q p ps index part-within (node .at .few)
-          (subst (λ (l : List ℕ). Listing (length (q .rights)) (λ s. isCandidate (d - 1) l (rightAt q s)) (slice from to w)) e
-          (cands .listing))
-          (subst (λ (l : List ℕ). Begin q l (run lay w lo hi)) e node-begins) (omega (arith, cands .depth, ap length e))
+  stop-there = runs-there node-rooted index part-within (node .at .few) (cands .listing) (omega arith)
 
   pub stop-small : Small (st .budget) lo hi from to t
   stop-small =
@@ -98,18 +93,5 @@ module _ {lay : Layout} {st : Settings} {q : Query} {path w : List ℕ} {d lo hi
       record {
         framed = framed-none (slotOf lay w (lastOf path)) w;
         visited = block-visited stop-there (run-length lay q w lo hi index (node .at .few)) (length-slice from to w part-within)
-            (λ is met. go path refl is met) block;
+            (λ is met. rows-stop node-rooted (slice from to w) is met (sym stop) (cands .listing)) block;
       }
-    where
-      go : (l : List ℕ) → path ≡ l → (is : Outcome → Bool) → is notMet ≡ false
-          → sum (row is q d) (run lay w lo hi) ≡ runCount q is (slice from to w) (run lay w lo hi)
-      go [] e is met = absurd (omega (arith, cands .depth, cands .deep, ap length e))
-      go (p ∷ ps) e is met =
-          let depth : length (p ∷ ps) ≡ d = sym (ap length e) ∙ cands .depth in
-          subst (λ (n : ℕ). sum (row is q n) (run lay w lo hi) ≡ runCount q is (slice from to w) (run lay w lo hi)) depth
-          (rows-stop q p ps is met (run lay w lo hi) (slice from to w)
-          (subst (λ (l : List ℕ). Begin q l (run lay w lo hi)) e node-begins) (ap (goes q) (sym e) ∙ sym stop)
-          (subst (λ (n : ℕ). Listing (length (q .rights)) (λ s. isCandidate (n - 1) (p ∷ ps) (rightAt q s)) (slice from to w))
-          (sym depth)
-          (subst (λ (l : List ℕ). Listing (length (q .rights)) (λ s. isCandidate (d - 1) l (rightAt q s)) (slice from to w)) e
-          (cands .listing))))

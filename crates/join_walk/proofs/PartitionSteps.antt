@@ -41,8 +41,8 @@ module _ {lay : Layout} {st : Settings} {q : Query} {w : List ℕ} {lo hi : ℕ}
   -- the key of its first left set is one more than the rank
   pub partition-key : {k key : ℕ} → Word w (lay .order + lo) k → ((q : Query) → LeftThere lay q w k → key ≡ keyAt q 0 k)
       → key ≡ suc r
-  partition-key {k} {key} word read =
-      run-key partition-run 0 lo k key (part .some) word read
+  partition-key word read =
+      run-key partition-run 0 lo (part .some) word read
       ∙ on-key {path = r ∷ []} (record {
         index = part .index;
         few = omega (arith, part .some, part .few);

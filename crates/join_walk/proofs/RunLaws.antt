@@ -17,7 +17,7 @@ use Rattle.join_index.specs.Grouping.{leftAt, orderFrom}
 use Rattle.join_index.specs.declared.Layout.{Layout}
 use Rattle.join_check.specs.Asking.{Index, RunThere}
 use Rattle.join_check.specs.Runs.{run, lead, leftIn}
-use Rattle.join_check.proofs.Orders.{order-within, run-split as run-split-within, run-next, lead-pass, lead-fail, lead-nil}
+use Rattle.join_check.proofs.Orders.{order-within, run-split as run-split-within, run-first, lead-pass, lead-fail, lead-nil}
 use Rattle.join_walk.specs.Visiting.{beginners}
 use Rattle.join_walk.proofs.Groups.{first-of}
 
@@ -25,14 +25,14 @@ use Rattle.join_walk.proofs.Groups.{first-of}
 pub run-length : (lay : Layout) (q : Query) (w : List ℕ) (lo hi : ℕ) → Index lay q w → hi ≤ length (q .lefts)
     → length (run lay w lo hi) ≡ hi - lo
 run-length lay q w lo hi index few =
-    length-slice (lay .order + lo) (lay .order + hi) w (omega (arith, order-within lay q w index)) ∙ omega arith
+    length-slice (lay .order + lo) (lay .order + hi) w (omega (arith, order-within index)) ∙ omega arith
 
 -- a run in two parts
 pub run-split : (lay : Layout) (q : Query) (w : List ℕ) (lo mid hi : ℕ) → Index lay q w → lo ≤ mid → mid ≤ hi
     → hi ≤ length (q .lefts)
     → run lay w lo hi ≡ run lay w lo mid ++ run lay w mid hi
 run-split lay q w lo mid hi index low high few =
-    run-split-within lay w lo mid hi low high (omega (arith, order-within lay q w index))
+    run-split-within lay w lo mid hi low high (omega (arith, order-within index))
 
 -- the first of the left sets that begin with a path begins with it
 pub begins-first : {lay : Layout} {q : Query} {w : List ℕ} {lo hi : ℕ} (path : List ℕ) (d : ℕ) → RunThere lay q w lo hi
@@ -40,7 +40,7 @@ pub begins-first : {lay : Layout} {q : Query} {w : List ℕ} {lo hi : ℕ} (path
 begins-first {lay} {q} {w} {lo} {hi} path d there lefts =
     first-of (λ k. prefix path (leftAt q k)) (leftIn lay w lo) (run lay w (lo + 1) hi)
     (subst (λ (l : List ℕ). all (λ k. prefix path (leftAt q k)) l ≡ true)
-    (sym lefts ∙ run-next lay w lo hi (there .some) (omega (arith, order-within lay q w (there .index), there .within)))
+    (sym lefts ∙ run-first there)
     (all-kept (λ k. prefix path (leftAt q k)) (orderFrom q (q .limit - d) d)))
 
 -- the leading elements of a list whose first part passes and whose rest does not

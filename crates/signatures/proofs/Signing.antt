@@ -13,6 +13,7 @@ use lib.ListN.{length, getD, set, length-set}
 use lib.Pow.{shl-exact}
 use lib.Seq.{getD-set-same, getD-set-other, take-set-le}
 use Rattle.lists.proofs.Bools.{by-test}
+use Rattle.sets.specs.Limits.{fullWords}
 use Rattle.sets.specs.Collections.{between}
 use Rattle.sets.specs.Signatures.{position, signatureFrom}
 use Rattle.sets.proofs.Between.{between-cons, between-nil}
@@ -89,10 +90,10 @@ sign-end end i mark items past = rw (between-nil i end items past)
 
 -- a number in two words
 pub stored-words : (w : List ℕ) (at number : ℕ) → at + 2 ≤ length w
-    → DoubleStored at number w (set (set w at (number % 2 ^ 32)) (at + 1) (number / 2 ^ 32))
+    → DoubleStored at number w (set (set w at (number % fullWords)) (at + 1) (number / fullWords))
 stored-words w at number room =
-    let low = number % 2 ^ 32 in
-    let high = number / 2 ^ 32 in
+    let low = number % fullWords in
+    let high = number / fullWords in
     let first : getD (set (set w at low) (at + 1) high) at 0 ≡ low =
     getD-set-other (set w at low) (at + 1) at high 0 (λ e. omega arith) ∙ getD-set-same w at low 0 (omega arith)
     in

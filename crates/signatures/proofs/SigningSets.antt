@@ -1,5 +1,5 @@
 -- The signatures of a collection, set by set: the step and the end of the loop, and both sides one above the other.
-use Prim.Native.Nat.{ℕ, suc, _+_, _*_, _^_, _<_, _≤_}
+use Prim.Native.Nat.{ℕ, suc, _+_, _*_, _<_, _≤_}
 use mathlib.Core.Path.{_≡_, refl, sym, ap, ap₂, subst, _∙_}
 use mathlib.Core.List.{List, [], _∷_}
 use mathlib.Core.Logic.{_≢_}
@@ -12,6 +12,7 @@ use lib.ListN.{length, getD, take, drop}
 use lib.Seq.{drop-cons, drop-drop, getD-drop}
 use Rattle.lists.proofs.Bools.{by-test}
 use Rattle.lists.proofs.Slices.{frame-less, frame-at}
+use Rattle.sets.specs.Limits.{fullWords}
 use Rattle.sets.specs.Collections.{between, setsFrom, setsOf, firstBadFrom}
 use Rattle.sets.specs.Signatures.{signature}
 use Rattle.sets.specs.declared.Verdict.the-variants.{Good}
@@ -22,7 +23,7 @@ use Rattle.signatures.specs.Signing.{double, ItemsRoom, DoubleStored, Si
 -- two words below a place up to which nothing changed
 pub double-stays : (n i : ℕ) (was is : List ℕ) → take n is ≡ take n was → i + 2 ≤ n → double is i ≡ double was i
 double-stays n i was is frame below =
-    ap₂ (λ (a b : ℕ). a + 2 ^ 32 * b) (frame-at 0 i n was is (omega arith) frame)
+    ap₂ (λ (a b : ℕ). a + fullWords * b) (frame-at 0 i n was is (omega arith) frame)
     (frame-at 0 (i + 1) n was is (omega arith) frame)
 
 -- the signatures of the first k sets are written; the others begin at start

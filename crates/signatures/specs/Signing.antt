@@ -1,10 +1,10 @@
 -- Inner: what the loops that make the signatures need and leave. A table of the items' bits, and for each set two words, low then
 -- high.
-use Prim.Native.Nat.{ℕ, _+_, _*_, _^_, _≤_, _<_}
+use Prim.Native.Nat.{ℕ, _+_, _*_, _≤_, _<_}
 use mathlib.Core.Path.{_≡_}
 use mathlib.Core.List.{List, []}
 use lib.ListN.{length, take, getD}
-use Rattle.sets.specs.Limits.{maxItems}
+use Rattle.sets.specs.Limits.{maxItems, fullWords}
 use Rattle.sets.specs.Collections.{firstBad}
 use Rattle.sets.specs.Signatures.{position, signature}
 use Rattle.sets.specs.declared.Verdict.the-variants.{Good}
@@ -21,7 +21,7 @@ pub record ItemsRoom (start end : ℕ) (items table : List ℕ) : Type 0 where
 
 -- two words, low then high, as one number
 abbrev pub double : List ℕ → ℕ → ℕ
-double w i = getD w i 0 + 2 ^ 32 * getD w (i + 1) 0
+double w i = getD w i 0 + fullWords * getD w (i + 1) 0
 
 -- w became w′: from at on the number stands in two words, and nothing below changed
 pub record DoubleStored (at number : ℕ) (w w′ : List ℕ) : Type 0 where

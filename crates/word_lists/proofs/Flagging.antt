@@ -16,6 +16,7 @@ use Rattle.lists.proofs.Bools.{by-test}
 use Rattle.lists.proofs.Zeros.{getD-zeros}
 use Rattle.lists.proofs.Membership.{memb-append}
 use Rattle.lists.proofs.Slices.{slice-none, slice-snoc, all-slice}
+use Rattle.word_lists.specs.Words.{Word}
 use Rattle.word_lists.specs.Flags.{Below, Flagged, isFlagged}
 
 -- a word of a part
@@ -91,22 +92,22 @@ module _ {w : List ℕ} {a b : ℕ} {was : List ℕ} (places : Below (length was
         flagged = flagged-same none (λ s. sym (ap (memb s) (slice-none a w)));
       }
 
-  pub flagging-low : {flags : List ℕ} {i : ℕ} → Flagging w a b was flags i → i < b → getD w i 0 < length flags
-  flagging-low {flags} {i} f more = omega (arith, f .size, word-below places i (f .low) more)
+  pub flagging-low : {flags : List ℕ} {i s : ℕ} → Flagging w a b was flags i → i < b → Word w i s → s < length flags
+  flagging-low {flags} {i} f more word = omega (arith, f .size, word-below places i (f .low) more, word .is)
 
-  pub flagging-step : {flags : List ℕ} {i : ℕ} → Flagging w a b was flags i → i < b
-      → Flagging w a b was (set flags (getD w i 0) 1) (i + 1)
-  flagging-step {flags} {i} f more =
-      let x = getD w i 0 in
+  pub flagging-step : {flags : List ℕ} {i x : ℕ} → Flagging w a b was flags i → i < b → Word w i x
+      → Flagging w a b was (set flags x 1) (i + 1)
+  flagging-step {flags} {i} {x} f more word =
       let longer : slice a (i + 1) w ≡ slice a i w ++ (x ∷ []) =
       ap (λ (n : ℕ). slice a n w) (add-one i) ∙ slice-snoc 0 a i w (f .low) (omega (arith, places .within))
+      ∙ ap (λ (y : ℕ). slice a i w ++ (y ∷ [])) (sym (word .is))
       in
       record {
         size = length-set flags x 1 ∙ f .size;
         low = omega (arith, f .low);
         high = omega arith;
         flagged =
-            flagged-same (flagged-more x (slice a i w) flags (flagging-low f more) (f .flagged))
+            flagged-same (flagged-more x (slice a i w) flags (flagging-low f more word) (f .flagged))
             (λ s. sym (ap (memb s) longer));
       }
 

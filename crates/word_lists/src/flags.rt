@@ -1,4 +1,5 @@
 // Tables of flags, one for each number below their length, and the words of a part of a list that are kept by one.
+use crate::words::word_at;
 ghost use mathlib.Core.Bool.{false};
 ghost use lib.ListN.{length};
 ghost use Rattle.lists.specs.Lists.{memb, slice};
@@ -12,7 +13,7 @@ pub fn flag_words(work: &[u32], a: usize, b: usize, flags: &mut [u8])
 {
     let mut i = a;
     while i < b {
-        let s = work[i] as usize;
+        let s = word_at(work, i);
         flags[s] = 1;
         i += 1;
     }

@@ -42,7 +42,8 @@ sort-by-key-requires-2 c κs =
     let turned = c .before .before .before in
     let sorted = before-turn turned in
     let filled = before-sort sorted in
-    second-sortable (start filled .pre) (filled .fill-entries .ensures) (sorted .sort-by-key .ensures) (turned .fill-turned .ensures)
+    second-sortable (start filled .pre) (filled .fill-entries .ensures) (sorted .sort-by-key .ensures)
+    (turned .fill-turned .ensures)
 
 same-length : tie.Need-same-length
 same-length c = search needs

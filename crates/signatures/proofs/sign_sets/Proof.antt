@@ -58,7 +58,8 @@ loop-again c =
     let stored = c .before .before in
     let signed = stored .before .before in
     let at-loop = signed .before .before .before in
-    (refl, signing-step (start at-loop .pre) (at-loop .loop .inv .1) (omega arith) (signed .sign-set .ensures) (stored .store-double .ensures))
+    let rest = signing-step (start at-loop .pre) (at-loop .loop .inv .1) (omega arith) in
+    (refl, rest (signed .sign-set .ensures) (stored .store-double .ensures))
 
 same-length : tie.Need-same-length Inv-loop μ-loop
 same-length c = c .before .loop .inv .1 .signed .size

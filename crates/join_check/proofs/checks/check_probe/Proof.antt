@@ -24,11 +24,8 @@ double-at-requires c κs = search needs
 returns : tie.Need-returns
 returns c =
     let at-double-at = c .before in
-    let a = at-double-at .before .before .args in
-    λ q there.
-    sym
-    (outcome-dropped (a .lay) q (a .work .now) (a .p) (a .s) (at-double-at .double-at .result)
-    (at-double-at .double-at .ensures) there (c .if1 .taken))
+    let p = at-double-at .before .before .args .p in
+    λ q there. sym (outcome-dropped p (at-double-at .double-at .ensures) there (c .if1 .taken))
 
 add-word-at : tie.Need-add-word-at
 add-word-at c = search needs
@@ -38,10 +35,7 @@ word-at-requires c κs = search needs
 
 add-from : tie.Need-add-from
 add-from c =
-    let start = c .before .before .before .before in
-    let a = start .args in
-    let s = right-stored (a .lay) (start .pre .0 .query) (a .work .now) (a .s) (start .pre .0 .holds) in
-    omega arith
+    let s = right-stored (c .before .before .before .before .pre .0 .holds) in omega arith
 
 add-word-at-2 : tie.Need-add-word-at-2
 add-word-at-2 c = search needs
@@ -54,37 +48,25 @@ word-at-requires-2 c κs = search needs
 
 add-to : tie.Need-add-to
 add-to c =
-    let start = c .before .before .before .before .before in
-    let a = start .args in
-    let s = right-stored (a .lay) (start .pre .0 .query) (a .work .now) (a .s) (start .pre .0 .holds) in
-    omega arith
+    let s = right-stored (c .before .before .before .before .before .pre .0 .holds) in omega arith
 
 subset-words-requires : tie.Need-subset-words-requires
 subset-words-requires c κs =
     let start = c .before .before .before .before .before in
-    let a = start .args in (
-      start .pre .1,
-      right-part-rising (a .lay) (start .pre .0 .query) (a .work .now) (a .s) (c .before .word-at .result) (c .word-at2 .result)
-          (c .before .word-at .ensures) (c .word-at2 .ensures) (start .pre .0 .holds),
-    )
+    (start .pre .1, right-part-rising (c .before .word-at .ensures) (c .word-at2 .ensures) (start .pre .0 .holds))
 
 -- after the signatures, the ranks decide
 decided : (c : tie.After-subset-words) (q : Query)
-    → RightThere (c .before .before .before .before .before .before .args .lay) q
-    (c .before .before .before .before .before .before .args .work .now)
-    (c .before .before .before .before .before .before .args .s)
-    → cond (c .subset-words .result) confirmed falseDrop
-    ≡ probeOutcome q (c .before .before .before .before .before .before .args .work .now)
-    (c .before .before .before .before .before .before .args .p) (c .before .before .before .before .before .before .args .s)
+    → let a = c .before .before .before .before .before .before .args in
+    RightThere (a .lay) q (a .work .now) (a .s)
+    → cond (c .subset-words .result) confirmed falseDrop ≡ probeOutcome q (a .work .now) (a .p) (a .s)
 decided c q there =
     let second = c .before in
     let first = second .before in
     let at-if1 = first .before in
     let sign = at-if1 .before in
-    let a = sign .before .before .args in
-    outcome-checked (a .lay) q (a .work .now) (a .p) (a .s) (sign .double-at .result) (sign .double-at .ensures) there
-    (first .word-at .result) (second .word-at2 .result) (first .word-at .ensures) (second .word-at2 .ensures) (at-if1 .if1 .left)
-    (c .subset-words .result) (c .subset-words .ensures)
+    outcome-checked (sign .before .before .args .p) (sign .double-at .ensures) there (first .word-at .ensures)
+    (second .word-at2 .ensures) (at-if1 .if1 .left) (c .subset-words .ensures)
 
 returns-2 : tie.Need-returns-2
 returns-2 c =

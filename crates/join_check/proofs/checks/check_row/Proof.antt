@@ -1,5 +1,5 @@
--- `join_check::checks::check_row` meets its contract. The invariant: the counters, with the checks of the places that are
--- left, are what they were with all. The measure is how many places are left.
+-- `join_check::checks::check_row` meets its contract. The invariant: the counters, with the checks of the places still to
+-- come, are what they were with all. The measure is how many places are to come.
 use mathlib.Core.Path.{_≡_, refl, sym, ap, _∙_}
 use mathlib.Core.List.{List}
 use Prim.Native.Nat.{ℕ, _+_, _-_, _≤_, _<_}
@@ -26,10 +26,10 @@ record RowChecking (lay : Layout) (w : List ℕ) (k e from to : ℕ) (t r : Tall
       (q : Query) → RowThere lay q w k e from to
       → Leaving (λ is. rowCount q is (slice i to w) k) (λ is. rowCount q is (slice from to w) k) t r
 
-row-step : (lay : Layout) (w : List ℕ) (k e from to : ℕ) (t r : Tally) (i : ℕ) (p : Probe) (s : ℕ) (u : Tally)
+row-step : {lay : Layout} {w : List ℕ} {k e from to : ℕ} {t r : Tally} {i : ℕ} {p : Probe} {s : ℕ} {u : Tally}
     → RowChecking lay w k e from to t r i → i < to → Probed lay w k e p → Word w i s → OneChecked lay w p s r u
     → RowChecking lay w k e from to t u (i + 1)
-row-step lay w k e from to t r i p s u so more probed word one-more =
+row-step {w = w} {k = k} {to = to} {i = i} {s = s} so more probed word one-more =
     record {
       low = omega (arith, so .low);
       grown = omega (arith, so .grown, one-more .grown);
@@ -99,14 +99,9 @@ loop-less c =
 
 loop-again : tie.Need-loop-again Inv-loop μ-loop
 loop-again c =
-    let at-loop-test = c .before .before in
-    let at-loop = at-loop-test .before in
-    let at-probe-left = at-loop .before in
-    let start = at-probe-left .before .before in
-    let a = start .args in
-    row-step (a .lay) (a .work .now) (a .k) (a .e) (a .from) (a .to) (a .tally) (at-loop .loop .r) (at-loop .loop .i)
-    (at-probe-left .probe-left .result) (c .before .word-at .result) (c .check-one .result)
-    (at-loop .loop .inv) (at-loop-test .loop-test .taken) (at-probe-left .probe-left .ensures) (c .before .word-at .ensures)
+    let test = c .before .before in
+    let at-loop = test .before in
+    row-step (at-loop .loop .inv) (test .loop-test .taken) (at-loop .before .probe-left .ensures) (c .before .word-at .ensures)
     (c .check-one .ensures)
 
 returns : tie.Need-returns Inv-loop μ-loop

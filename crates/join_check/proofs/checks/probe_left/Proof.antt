@@ -23,10 +23,7 @@ word-at-requires c κs = search needs
 
 add-from : tie.Need-add-from
 add-from c =
-    let start = c .before .before .before in
-    let a = start .args in
-    let s = left-stored (a .lay) (start .pre .query) (a .work .now) (a .k) (start .pre .holds) in
-    omega arith
+    let s = left-stored (c .before .before .before .pre .holds) in omega arith
 
 add-word-at-2 : tie.Need-add-word-at-2
 add-word-at-2 c = search needs
@@ -39,60 +36,45 @@ word-at-requires-2 c κs = search needs
 
 add-to : tie.Need-add-to
 add-to c =
-    let start = c .before .before .before .before in
-    let a = start .args in
-    let s = left-stored (a .lay) (start .pre .query) (a .work .now) (a .k) (start .pre .holds) in
-    omega arith
+    let s = left-stored (c .before .before .before .before .pre .holds) in omega arith
 
 sub-if1 : tie.Need-sub-if1
 sub-if1 c =
-    let start = c .before .before .before .before in
-    let a = start .args in
-    let s = left-stored (a .lay) (start .pre .query) (a .work .now) (a .k) (start .pre .holds) in
-    omega arith
+    let s = left-stored (c .before .before .before .before .pre .holds) in omega arith
 
 returns : tie.Need-returns
 returns c =
     let at-word-at = c .before .before in
     let at-double-at = at-word-at .before in
     let start = at-double-at .before .before in
-    let a = start .args in
     record {
       within = omega (
         arith,
-        left-low (a .lay) (start .pre .query) (a .work .now) (a .k) (start .pre .holds),
+        left-low (start .pre .holds),
         c .before .word-at2 .ensures .is,
       );
       is = λ q there.
-          probe-none (a .lay) q (a .work .now) (a .k) (a .e) (at-word-at .word-at .result) (c .before .word-at2 .result)
-          (at-double-at .double-at .result)
-          (at-word-at .word-at .ensures) (c .before .word-at2 .ensures) (at-double-at .double-at .ensures) there
+          probe-none (start .args .e) (at-word-at .word-at .ensures) (c .before .word-at2 .ensures) (at-double-at .double-at .ensures) there
           (c .if1 .taken);
     }
 
 add-t13 : tie.Need-add-t13
 add-t13 c =
-    let start = c .before .before .before .before .before in
-    let a = start .args in
-    let s = left-stored (a .lay) (start .pre .query) (a .work .now) (a .k) (start .pre .holds) in
-    omega arith
+    let s = left-stored (c .before .before .before .before .before .pre .holds) in omega arith
 
 returns-2 : tie.Need-returns-2
 returns-2 c =
     let at-word-at = c .before .before in
     let at-double-at = at-word-at .before in
     let start = at-double-at .before .before in
-    let a = start .args in
     record {
       within = omega (
         arith,
-        left-low (a .lay) (start .pre .query) (a .work .now) (a .k) (start .pre .holds),
+        left-low (start .pre .holds),
         c .before .word-at2 .ensures .is,
       );
       is = λ q there.
-          probe-some (a .lay) q (a .work .now) (a .k) (a .e) (at-word-at .word-at .result) (c .before .word-at2 .result)
-          (at-double-at .double-at .result)
-          (at-word-at .word-at .ensures) (c .before .word-at2 .ensures) (at-double-at .double-at .ensures) there;
+          probe-some (start .args .e) (at-word-at .word-at .ensures) (c .before .word-at2 .ensures) (at-double-at .double-at .ensures) there;
     }
 
 pub probe-left-spec : {M : Type 1} → statement M

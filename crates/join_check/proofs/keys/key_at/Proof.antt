@@ -25,38 +25,24 @@ word-at-requires-2 c κs = search needs
 
 sub-if1 : tie.Need-sub-if1
 sub-if1 c =
-    let start = c .before .before .before in
-    let a = start .args in
-    let s = left-stored (a .lay) (start .pre .query) (a .work .now) (a .k) (start .pre .holds) in
-    omega arith
+    let s = left-stored (c .before .before .before .pre .holds) in omega arith
 
 returns : tie.Need-returns
 returns c =
     let start = c .before .before .before .before in
-    λ q there.
-    let a = start .args in
-    key-none (a .lay) q (a .work .now) (a .k) (a .d) there (omega arith)
+    λ q there. key-none (start .args .d) there (omega arith)
 
 add-word-at-4 : tie.Need-add-word-at-4
 add-word-at-4 c =
-    let start = c .before .before .before .before in
-    let a = start .args in
-    let s = left-stored (a .lay) (start .pre .query) (a .work .now) (a .k) (start .pre .holds) in
-    omega arith
+    let s = left-stored (c .before .before .before .before .pre .holds) in omega arith
 
 add-word-at-5 : tie.Need-add-word-at-5
 add-word-at-5 c =
-    let start = c .before .before .before .before in
-    let a = start .args in
-    let s = left-stored (a .lay) (start .pre .query) (a .work .now) (a .k) (start .pre .holds) in
-    omega arith
+    let s = left-stored (c .before .before .before .before .pre .holds) in omega arith
 
 word-at-requires-3 : tie.Need-word-at-requires-3
 word-at-requires-3 c κs =
-    let start = c .before .before .before .before in
-    let a = start .args in
-    let s = left-stored (a .lay) (start .pre .query) (a .work .now) (a .k) (start .pre .holds) in
-    omega arith
+    let s = left-stored (c .before .before .before .before .pre .holds) in omega arith
 
 add-result : tie.Need-add-result
 add-result c = search needs
@@ -70,7 +56,7 @@ returns-2 c =
     let w1 = at-word-at .word-at in
     let rank = c .word-at3 .ensures .is ∙ ap (λ (n : ℕ). getD (a .work .now) (a .lay .«left_ranks» + n + a .d) 0)
     (w1 .ensures .is) in
-    ap (λ (n : ℕ). n + 1) rank ∙ key-rank (a .lay) q (a .work .now) (a .k) (a .d) there (omega arith)
+    ap (λ (n : ℕ). n + 1) rank ∙ key-rank (a .d) there (omega arith)
 
 pub key-at-spec : {M : Type 1} → statement M
 key-at-spec =

@@ -1,5 +1,5 @@
--- `join_check::seen::count_seen` meets its contract. The invariant: the count so far and that of the places left are the count
--- of all. The measure is how many places are left.
+-- `join_check::seen::count_seen` meets its contract. The invariant: the count so far and that of the places still to come are the count
+-- of all. The measure is how many places are still to come.
 use mathlib.Core.Path.{_≡_, ap, _∙_}
 use mathlib.Core.List.{List}
 use mathlib.Core.Bool.{Bool}
@@ -20,7 +20,7 @@ use Rattle.join_check.proofs.seen.count_seen.Tie as tie
 abbrev isSeen : Query → ℕ → ℕ → Bool
 isSeen q r s = seen r (rightAt q s)
 
-record Counting (lay : Layout) (w : List ℕ) (from to r n i : ℕ) : Type 0 where
+record SeenCounting (lay : Layout) (w : List ℕ) (from to r n i : ℕ) : Type 0 where
   low : from ≤ i
   few : n ≤ i - from
   same :
@@ -29,7 +29,7 @@ record Counting (lay : Layout) (w : List ℕ) (from to r n i : ℕ) : Type 0 whe
 
 abbrev Inv-loop : tie.InvT-loop
 Inv-loop work lay from to r n₀ i₀ n i =
-    Counting lay work from to r n i
+    SeenCounting lay work from to r n i
 
 abbrev μ-loop : tie.MeasureT-loop
 μ-loop work lay from to r n₀ i₀ n i =

@@ -28,23 +28,15 @@ word-at-requires-2 c κs = search needs
 returns : tie.Need-returns
 returns c =
     let start = c .before .before .before .before in
-    λ q there.
-    let a = start .args in
-    right-none (a .lay) q (a .work .now) (a .s) (a .r) there (omega arith)
+    λ q there. right-none (start .args .r) there (omega arith)
 
 add-word-at-4 : tie.Need-add-word-at-4
 add-word-at-4 c =
-    let start = c .before .before .before .before in
-    let a = start .args in
-    let t = right-stored (a .lay) (start .pre .query) (a .work .now) (a .s) (start .pre .holds) in
-    omega arith
+    let t = right-stored (c .before .before .before .before .pre .holds) in omega arith
 
 word-at-requires-3 : tie.Need-word-at-requires-3
 word-at-requires-3 c κs =
-    let start = c .before .before .before .before in
-    let a = start .args in
-    let t = right-stored (a .lay) (start .pre .query) (a .work .now) (a .s) (start .pre .holds) in
-    omega arith
+    let t = right-stored (c .before .before .before .before .pre .holds) in omega arith
 
 returns-2 : tie.Need-returns-2
 returns-2 c =
@@ -56,7 +48,7 @@ returns-2 c =
     c .word-at3 .ensures .is ∙ ap (λ (n : ℕ). getD (a .work .now) (a .lay .«right_ranks» + n) 0)
     (at-word-at .word-at .ensures .is)
     in
-    ap (λ (n : ℕ). leb n (a .r)) least ∙ right-first (a .lay) q (a .work .now) (a .s) (a .r) there (omega arith)
+    ap (λ (n : ℕ). leb n (a .r)) least ∙ right-first (a .r) there (omega arith)
 
 pub is-seen-spec : {M : Type 1} → statement M
 is-seen-spec =

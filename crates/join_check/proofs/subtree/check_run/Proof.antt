@@ -1,5 +1,5 @@
 -- `join_check::subtree::check_run` meets its contract. The invariant is `RunsChecking`: the counters, with the checks of the left
--- sets that are left, are what they were with all. The measure is how many are left.
+-- sets still to come, are what they were with all. The measure is how many are to come.
 use Prim.Native.Nat.{ℕ, _+_, _-_, _*_}
 use mathlib.Core.Path.{_≡_, ap, _∙_}
 use native.Mathlib.Omega.{arith}
@@ -18,37 +18,26 @@ abbrev μ-loop : tie.MeasureT-loop
     hi - i
 
 loop-holds : tie.Need-loop-holds Inv-loop μ-loop
-loop-holds c =
-    let a = c .before .args in
-    runs-start (a .lay) (a .work .now) (a .e) (a .lo) (a .hi) (a .from) (a .to) (a .tally)
+loop-holds c = runs-start
 
 add-word-at : tie.Need-add-word-at Inv-loop μ-loop
-add-word-at c =
-    omega (arith, runs-within (c .before .before .before .pre .0 .holds))
+add-word-at c = omega (arith, runs-within (c .before .before .before .pre .0 .holds))
 
 word-at-requires : tie.Need-word-at-requires Inv-loop μ-loop
-word-at-requires c κs =
-    omega (arith, runs-within (c .before .before .before .pre .0 .holds))
+word-at-requires c κs = omega (arith, runs-within (c .before .before .before .pre .0 .holds))
 
 check-row-requires : tie.Need-check-row-requires Inv-loop μ-loop
 check-row-requires c κs =
     let at-loop = c .before .before in
     let start = at-loop .before .before in
-    let a = start .args in
     let i = at-loop .loop .i in
+    let rights = start .args .to - start .args .from in
     let single : i + 1 - i ≡ 1 = omega arith in
-    let times : (i + 1 - i) * (a .to - a .from) ≡ a .to - a .from =
-    ap (λ (n : ℕ). n * (a .to - a .from)) single ∙ one-mul (a .to - a .from)
-    in
-    let room =
-    runs-room (a .lay) (a .work .now) (a .e) (a .lo) (a .hi) (a .from) (a .to) (a .tally) (at-loop .loop .r) i
-    (at-loop .loop .inv) (i + 1) (omega arith) (omega arith)
-    (start .pre .1)
-    in (
+    let times : (i + 1 - i) * rights ≡ rights = ap (λ (n : ℕ). n * rights) single ∙ one-mul rights in
+    let room = runs-room (at-loop .loop .inv) (i + 1) (omega arith) (omega arith) (start .pre .1) in (
       record {
         query = start .pre .0 .query;
-        holds = runs-row (start .pre .0 .holds) i (c .word-at .result) (at-loop .loop .inv .low) (c .before .loop-test .taken)
-            (c .word-at .ensures);
+        holds = runs-row (start .pre .0 .holds) i (at-loop .loop .inv .low) (c .before .loop-test .taken) (c .word-at .ensures);
       },
       omega (arith, room),
     )
@@ -63,22 +52,11 @@ loop-less c =
 
 loop-again : tie.Need-loop-again Inv-loop μ-loop
 loop-again c =
-    let at-loop = c .before .before .before in
-    let start = at-loop .before .before in
-    let a = start .args in
-    let i = at-loop .loop .i in
-    runs-step (a .lay) (a .work .now) (a .e) (a .lo) (a .hi) (a .from) (a .to) (a .tally) (at-loop .loop .r) i
-    (at-loop .loop .inv) (i + 1) (c .check-row .result)
-    (omega arith) (omega arith)
-    (row-runs (a .lay) (a .work .now) (c .before .word-at .result) (a .e) i (a .from) (a .to) (at-loop .loop .r)
-    (c .check-row .result) (c .before .word-at .ensures) (c .check-row .ensures))
+    runs-step (c .before .before .before .loop .inv) (omega arith) (omega arith)
+    (row-runs (c .before .word-at .ensures) (c .check-row .ensures))
 
 returns : tie.Need-returns Inv-loop μ-loop
-returns c =
-    let start = c .before .before .before in
-    let a = start .args in
-    runs-end (a .lay) (a .work .now) (a .e) (a .lo) (a .hi) (a .from) (a .to) (a .tally) (c .before .loop .r) (c .before .loop .i)
-    (c .before .loop .inv) (c .loop-test .left)
+returns c = runs-end (c .before .loop .inv) (c .loop-test .left)
 
 pub check-run-spec : {M : Type 1} → statement M
 check-run-spec =

@@ -19,7 +19,7 @@ key-at-requires c κs =
     let there = limit-run (start .pre .holds) (omega arith) in
     record {
       query = start .pre .query;
-      holds = run-left there (start .args .i) (c .word-at .result) (omega arith) (c .word-at .ensures);
+      holds = run-left there (start .args .i) (omega arith) (c .word-at .ensures);
     }
 
 sub-add-paths : tie.Need-sub-add-paths
@@ -36,7 +36,7 @@ returns c =
     let keyed = zero .before in
     let read = keyed .before in
     λ q path at.
-    one-merged path at (sym (one-key at (read .word-at .ensures) (keyed .key-at .ensures)) ∙ zero .if1 .taken)
+    one-merged at (sym (one-key at (read .word-at .ensures) (keyed .key-at .ensures)) ∙ zero .if1 .taken)
     (c .add-paths .ensures)
 
 add-check-block : tie.Need-add-check-block
@@ -45,7 +45,7 @@ add-check-block c = search needs
 check-block-requires : tie.Need-check-block-requires
 check-block-requires c κs =
     let some = c .before .before .before .before .pre in
-    (record { query = some .query; holds = one-there (some .path) (some .holds) }, one-small (some .holds))
+    (record { query = some .query; holds = one-there (some .holds) }, one-small (some .holds))
 
 returns-2 : tie.Need-returns-2
 returns-2 c =
@@ -53,7 +53,7 @@ returns-2 c =
     let keyed = other .before in
     let read = keyed .before in
     λ q path at.
-    one-checked path at (λ zero. other .if1 .left (one-key at (read .word-at .ensures) (keyed .key-at .ensures) ∙ zero))
+    one-checked at (λ zero. other .if1 .left (one-key at (read .word-at .ensures) (keyed .key-at .ensures) ∙ zero))
     (c .check-block .ensures)
 
 pub finish-one-spec : {M : Type 1} → statement M

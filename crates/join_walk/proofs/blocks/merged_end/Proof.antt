@@ -18,7 +18,7 @@ key-at-requires c κs =
     let there = start .pre .holds in
     record {
       query = start .pre .query;
-      holds = run-left there (start .args .lo) (c .word-at .result) (there .some) (c .word-at .ensures);
+      holds = run-left there (start .args .lo) (there .some) (c .word-at .ensures);
     }
 
 returns : tie.Need-returns

@@ -26,7 +26,7 @@ key-at-requires c κs =
     let part = start .pre .holds in
     record {
       query = start .pre .query;
-      holds = run-left (partition-run part) (start .args .lo) (read .word-at .result) (part .some) (read .word-at .ensures);
+      holds = run-left (partition-run part) (start .args .lo) (part .some) (read .word-at .ensures);
     }
 
 -- the key that was read, one more than the partition's rank, and the right sets seen at it
