@@ -15,6 +15,19 @@ use sets::Refusal;
 ghost use Prim.Native.Nat.{_≤_};
 ghost use lib.ListN.{length};
 
+// The most lines of a table; the numbers of a case before its lists; the most ends and the most items and ranks of a case.
+const LINES: usize = 64;
+
+const NUMBERS: usize = 15;
+
+const ENDS: usize = 16;
+
+const HALVES: usize = 320;
+// The most words of a work list, and the most places of a pair list.
+const WORDS: usize = 4240;
+
+const PLACES: usize = 10;
+
 fn show_number(n: u64) {
     io::write_all(STDOUT_FILENO, b" ");
     io::print_decimal(STDOUT_FILENO, n);
@@ -102,7 +115,7 @@ struct Setting {
     places: u32,
 }
 
-fn read_setting(h: &[u32; 15]) -> Setting {
+fn read_setting(h: &[u32; NUMBERS]) -> Setting {
     Setting {
         t: h[0],
         limit: h[1],
@@ -164,10 +177,10 @@ fn run_case(
     right_items: &[u16],
     ranks: &[u16],
 ) {
-    let words = at_most(set.words, 4240);
-    let places = at_most(set.places, 10);
-    let mut work = [9u32; 4240];
-    let mut pairs = [9u16; 10];
+    let words = at_most(set.words, WORDS);
+    let places = at_most(set.places, PLACES);
+    let mut work = [9u32; WORDS];
+    let mut pairs = [9u16; PLACES];
     run_into(
         set,
         left_ends,
@@ -181,7 +194,7 @@ fn run_case(
 }
 
 // A case by its fifteen numbers, the parts of the two lists being those that its bounds say.
-fn run_parts(h: &[u32; 15], ends: &[u32], halves: &[u16]) {
+fn run_parts(h: &[u32; NUMBERS], ends: &[u32], halves: &[u16]) {
     let set = read_setting(h);
     let right_end = at_most(h[11], ends.len());
     let left_end = at_most(h[10], right_end);
@@ -277,19 +290,19 @@ fn show_name(text: &[u8], at: usize) -> usize {
 // The case of the line that begins at a place; the place of the next.
 fn run_line(text: &[u8], at: usize) -> usize {
     let start = show_name(text, at);
-    let mut h = [0u32; 15];
-    let lists = read_words(text, start, 15, &mut h);
-    let mut ends = [0u32; 16];
-    let items = read_words(text, lists, at_most(h[11], 16), &mut ends);
-    let mut halves = [0u16; 320];
-    let next = read_halves(text, items, at_most(h[14], 320), &mut halves);
+    let mut h = [0u32; NUMBERS];
+    let lists = read_words(text, start, NUMBERS, &mut h);
+    let mut ends = [0u32; ENDS];
+    let items = read_words(text, lists, at_most(h[11], ENDS), &mut ends);
+    let mut halves = [0u16; HALVES];
+    let next = read_halves(text, items, at_most(h[14], HALVES), &mut halves);
     run_parts(&h, &ends, &halves);
     next
 }
 
 fn run_lines(text: &[u8]) {
     let first = read_number(text, 0);
-    let lines = at_most(first.value, 64);
+    let lines = at_most(first.value, LINES);
     let mut at = first.next;
     let mut i: usize = 0;
     while i < lines {
