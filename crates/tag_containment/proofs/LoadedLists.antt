@@ -18,7 +18,7 @@ use Rattle.tag_file.specs.declared.LoadAnswer.the-variants as load
 use Rattle.tag_file.specs.Reading.{readAt}
 use Rattle.tag_file.specs.Records.{records, totalLength, ofSide, allTags, tagTable, setsOfSide}
 use Rattle.tag_file.specs.Loading.{Lists, refusalOf, fileFault, numbersOf, endsFrom, join, filled, totalsOf, loadAnswer, LoadCall}
-use Rattle.tag_file.proofs.AnswerLaws.{Accepted, accepted, call-lists}
+use Rattle.tag_file.proofs.AnswerLaws.{accepted, call-lists}
 use Rattle.tag_file.proofs.Tables.{rising-collapse}
 use Rattle.tag_round_trip.specs.Trips.{partsOf, loadedFrom}
 use Rattle.tag_round_trip.proofs.Accepted.{parts-filled}
@@ -72,12 +72,9 @@ sets-begin sets items n begins =
     ∙ sets-from [] 0 sets (drop n items) refl
 
 module _ (file : List ℕ) {lent got : Lists} {loaded : Loaded} (loads : LoadCall file lent got (load.Loaded loaded)) where
-  so : Accepted file lent loaded
-  so = accepted file lent loaded (sym (loads .answered))
-
   -- its counts are the records'
   pub load-counts : loaded ≡ totalsOf (records file)
-  load-counts = sym (so .counted)
+  load-counts = sym (accepted file lent loaded (sym (loads .answered)) .counted)
 
   -- what it filled is what the records give
   pub load-filled : partsOf loaded got ≡ filled (records file)
@@ -122,7 +119,8 @@ module _ (file : List ℕ) {lent got : Lists} {loaded : Loaded} (loads : LoadCal
   pub load-numbers-distinct : (side : Side) → distinct (numbersOf side (records file)) ≡ true
   unfolding fileFault
   load-numbers-distinct side =
-      free-from [] (records file) (refusalOf (readAt file (totalLength (records file)))) free-nil (so .clear) .0 .numbers side
+      let clear = accepted file lent loaded (sym (loads .answered)) .clear in
+      free-from [] (records file) (refusalOf (readAt file (totalLength (records file)))) free-nil clear .0 .numbers side
 
   -- the tag of a lesser item is below that of a greater one, as unsigned bytes
   pub load-tags-rise : ((i : ℕ) → getD file i 0 < 256) → (i j : ℕ) → i < j → j < loaded .tags
