@@ -60,8 +60,8 @@ unfolding sum
 sum-one f x = omega arith
 
 -- one row is a run of one
-pub row-runs : {lay : Layout} {w : List ℕ} {k e i from to : ℕ} {t r : Tally} → Word w (lay .order + i) k
-    → RowChecked lay w k e from to t r → RunsChecked lay w e i (i + 1) from to t r
+pub row-runs : {lay : Layout} {w : List ℕ} {k e i from to : ℕ} {tally r : Tally} → Word w (lay .order + i) k
+    → RowChecked lay w k e from to tally r → RunsChecked lay w e i (i + 1) from to tally r
 row-runs {lay} {w} {k} {e} {i} {from} {to} word row =
     record {
       grown =
@@ -81,37 +81,37 @@ row-runs {lay} {w} {k} {e} {i} {from} {to} word row =
           (row .tallied q (runs-row there i (omega arith) (omega arith) word));
     }
 
-pub record RunsChecking (lay : Layout) (w : List ℕ) (e lo hi from to : ℕ) (t r : Tally) (i : ℕ) : Type 0 where
+pub record RunsChecking (lay : Layout) (w : List ℕ) (e lo hi from to : ℕ) (tally r : Tally) (i : ℕ) : Type 0 where
   pub low : lo ≤ i
-  pub grown : checksIn r + (hi - i) * (to - from) ≡ checksIn t + (hi - lo) * (to - from)
+  pub grown : checksIn r + (hi - i) * (to - from) ≡ checksIn tally + (hi - lo) * (to - from)
   pub tallied :
       (q : Query) → RunsThere lay q w e lo hi from to
       → Leaving (λ is. runCount q is (slice from to w) (run lay w i hi))
-      (λ is. runCount q is (slice from to w) (run lay w lo hi)) t r
+      (λ is. runCount q is (slice from to w) (run lay w lo hi)) tally r
 
-module _ {lay : Layout} {w : List ℕ} {e lo hi from to : ℕ} {t : Tally} where
-  pub runs-start : RunsChecking lay w e lo hi from to t t lo
+module _ {lay : Layout} {w : List ℕ} {e lo hi from to : ℕ} {tally : Tally} where
+  pub runs-start : RunsChecking lay w e lo hi from to tally tally lo
   runs-start =
       record {
         low = omega arith;
         grown = refl;
-        tallied = λ q there. leaving-start (λ is. runCount q is (slice from to w) (run lay w lo hi)) t;
+        tallied = λ q there. leaving-start (λ is. runCount q is (slice from to w) (run lay w lo hi)) tally;
       }
 
-  module _ {r : Tally} {i : ℕ} (so : RunsChecking lay w e lo hi from to t r i) where
+  module _ {r : Tally} {i : ℕ} (so : RunsChecking lay w e lo hi from to tally r i) where
     cut : (j : ℕ) → i ≤ j → j ≤ hi → (hi - i) * (to - from) ≡ (j - i) * (to - from) + (hi - j) * (to - from)
     cut j some high =
         let parts : hi - i ≡ j - i + (hi - j) = omega arith in
         ap (λ (n : ℕ). n * (to - from)) parts ∙ add-mul (j - i) (hi - j) (to - from)
 
     -- the checks of the next run fit
-    pub runs-room : (j : ℕ) → i ≤ j → j ≤ hi → checksIn t + (hi - lo) * (to - from) < fullWords
+    pub runs-room : (j : ℕ) → i ≤ j → j ≤ hi → checksIn tally + (hi - lo) * (to - from) < fullWords
         → checksIn r + (j - i) * (to - from) < fullWords
     runs-room j some high fits = omega (arith, cut j some high, so .grown)
 
     -- the next run as it is asked of its checks: it can be checked, and its checks fit
     pub runs-next : {d j : ℕ} → Some (λ q. RunsThere lay q w e lo hi from to) → RunEnd lay w d i hi j
-        → checksIn t + (hi - lo) * (to - from) < fullWords
+        → checksIn tally + (hi - lo) * (to - from) < fullWords
         → Some (λ q. RunsThere lay q w e i j from to) × (checksIn r + (j - i) * (to - from) < fullWords)
     runs-next {j = j} some end fits = (
       record {
@@ -122,7 +122,7 @@ module _ {lay : Layout} {w : List ℕ} {e lo hi from to : ℕ} {t : Tally} where
     )
 
     pub runs-step : {j : ℕ} {u : Tally} → i ≤ j → j ≤ hi → RunsChecked lay w e i j from to r u
-        → RunsChecking lay w e lo hi from to t u j
+        → RunsChecking lay w e lo hi from to tally u j
     runs-step {j} some high more =
         record {
           low = omega (arith, so .low);
@@ -136,7 +136,7 @@ module _ {lay : Layout} {w : List ℕ} {e lo hi from to : ℕ} {t : Tally} where
               ∙ sum-append (rowCount q is (slice from to w)) (run lay w i j) (run lay w j hi));
         }
 
-    pub runs-end : hi ≤ i → RunsChecked lay w e lo hi from to t r
+    pub runs-end : hi ≤ i → RunsChecked lay w e lo hi from to tally r
     unfolding sum
     runs-end past =
         record {

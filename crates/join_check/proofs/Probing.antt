@@ -63,16 +63,16 @@ module _ {lay : Layout} {q : Query} {w : List ℕ} {s start next : ℕ}
   where
     pub right-part : slice (lay .«right_ranks» + start) (lay .«right_ranks» + next) w ≡ rightAt q s
     right-part =
-        let t = right-stored there in
+        let set = right-stored there in
         let first-at = getD w (lay .«right_starts» + s) 0 in
         let next-at = getD w (lay .«right_starts» + s + 1) 0 in
         let from : lay .«right_ranks» + start ≡ lay .«right_ranks» + first-at + 0 = omega (arith, first .is) in
         let to : lay .«right_ranks» + next ≡ lay .«right_ranks» + next-at = omega (arith, second .is) in
-        ap₂ (λ (a b : ℕ). slice a b w) from to ∙ t .rest 0
+        ap₂ (λ (a b : ℕ). slice a b w) from to ∙ set .rest 0
 
     pub right-part-rising : Rising (lay .«right_ranks» + start) (lay .«right_ranks» + next) w
     right-part-rising =
-        let t = right-stored there in
+        let set = right-stored there in
         record { within = omega (arith, second .is); rise = ap rising right-part ∙ right-rising q s }
 
 -- the outcome of a check
@@ -99,18 +99,33 @@ module _ {lay : Layout} {q : Query} {w : List ℕ} {s sign : ℕ} (p : Probe)
         (ap (λ (x : Bool). cond x confirmed falseDrop) test)
 
 -- a check raises one counter
-module _ (t : Tally) (o : Outcome) where
+module _ (tally : Tally) (o : Outcome) where
   pub raise-dropped : o ≡ dropped
-      → Tallied (λ is. one (is o)) t
-      (record { «by_path» = t .«by_path»; confirmed = t .confirmed; dropped = t .dropped + 1; «false_drops» = t .«false_drops» })
+      → Tallied (λ is. one (is o)) tally
+      (record {
+        «by_path» = tally .«by_path»;
+        confirmed = tally .confirmed;
+        dropped = tally .dropped + 1;
+        «false_drops» = tally .«false_drops»;
+      })
   raise-dropped e = rw e (tallied-each (omega arith) (omega arith) refl (omega arith))
 
   pub raise-confirmed : o ≡ confirmed
-      → Tallied (λ is. one (is o)) t
-      (record { «by_path» = t .«by_path»; confirmed = t .confirmed + 1; dropped = t .dropped; «false_drops» = t .«false_drops» })
+      → Tallied (λ is. one (is o)) tally
+      (record {
+        «by_path» = tally .«by_path»;
+        confirmed = tally .confirmed + 1;
+        dropped = tally .dropped;
+        «false_drops» = tally .«false_drops»;
+      })
   raise-confirmed e = rw e (tallied-each (omega arith) refl (omega arith) (omega arith))
 
   pub raise-false : o ≡ falseDrop
-      → Tallied (λ is. one (is o)) t
-      (record { «by_path» = t .«by_path»; confirmed = t .confirmed; dropped = t .dropped; «false_drops» = t .«false_drops» + 1 })
+      → Tallied (λ is. one (is o)) tally
+      (record {
+        «by_path» = tally .«by_path»;
+        confirmed = tally .confirmed;
+        dropped = tally .dropped;
+        «false_drops» = tally .«false_drops» + 1;
+      })
   raise-false e = rw e (tallied-each (omega arith) (omega arith) (omega arith) refl)

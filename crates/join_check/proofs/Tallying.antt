@@ -31,42 +31,42 @@ use Rattle.join_check.specs.Probes.{ProbeOf, Probed, probeOutcome}
 use Rattle.join_check.proofs.Places.{place-right}
 
 -- counters that grew by the same amounts, said in another way
-pub tallied-same : {a b : (Outcome → Bool) → ℕ} {t r : Tally} → ((kind : Kind) → a (isOf kind) ≡ b (isOf kind)) → Tallied a t r
-    → Tallied b t r
+pub tallied-same : {a b : (Outcome → Bool) → ℕ} {tally r : Tally} → ((kind : Kind) → a (isOf kind) ≡ b (isOf kind))
+    → Tallied a tally r → Tallied b tally r
 tallied-same same tallied = record { grows = λ kind. omega (arith, same kind, tallied .grows kind) }
 
 -- counter by counter
-pub tallied-each : {amount : (Outcome → Bool) → ℕ} {t r : Tally} → r .«by_path» ≡ t .«by_path» + amount isByPath
-    → r .confirmed ≡ t .confirmed + amount isConfirmed → r .dropped ≡ t .dropped + amount isDropped
-    → r .«false_drops» ≡ t .«false_drops» + amount isFalse → Tallied amount t r
-tallied-each {amount} {t} {r} path check drop false = record { grows = each }
+pub tallied-each : {amount : (Outcome → Bool) → ℕ} {tally r : Tally} → r .«by_path» ≡ tally .«by_path» + amount isByPath
+    → r .confirmed ≡ tally .confirmed + amount isConfirmed → r .dropped ≡ tally .dropped + amount isDropped
+    → r .«false_drops» ≡ tally .«false_drops» + amount isFalse → Tallied amount tally r
+tallied-each {amount} {tally} {r} path check drop false = record { grows = each }
   where
-    each : (kind : Kind) → counter kind r ≡ counter kind t + amount (isOf kind)
+    each : (kind : Kind) → counter kind r ≡ counter kind tally + amount (isOf kind)
     each pathPair = path
     each confirmedCheck = check
     each droppedCheck = drop
     each falseCheck = false
 
 -- some kinds together
-pub tallied-sum : {amount : (Outcome → Bool) → ℕ} {t r : Tally} (ks : List Kind) → Tallied amount t r
-    → sum (λ kind. counter kind r) ks ≡ sum (λ kind. counter kind t) ks + sum (λ kind. amount (isOf kind)) ks
-tallied-sum {amount} {t} {r} ks tallied =
-    sum-same (λ kind. counter kind r) (λ kind. counter kind t + amount (isOf kind)) ks (tallied .grows)
-    ∙ sum-add (λ kind. counter kind t) (λ kind. amount (isOf kind)) ks
+pub tallied-sum : {amount : (Outcome → Bool) → ℕ} {tally r : Tally} (ks : List Kind) → Tallied amount tally r
+    → sum (λ kind. counter kind r) ks ≡ sum (λ kind. counter kind tally) ks + sum (λ kind. amount (isOf kind)) ks
+tallied-sum {amount} {tally} {r} ks tallied =
+    sum-same (λ kind. counter kind r) (λ kind. counter kind tally + amount (isOf kind)) ks (tallied .grows)
+    ∙ sum-add (λ kind. counter kind tally) (λ kind. amount (isOf kind)) ks
 
 -- what the counters have, with the amounts of the rest, is what they had with all
-pub record Leaving (rest all : (Outcome → Bool) → ℕ) (t r : Tally) : Type 0 where
-  pub same : (kind : Kind) → counter kind r + rest (isOf kind) ≡ counter kind t + all (isOf kind)
+pub record Leaving (rest all : (Outcome → Bool) → ℕ) (tally r : Tally) : Type 0 where
+  pub same : (kind : Kind) → counter kind r + rest (isOf kind) ≡ counter kind tally + all (isOf kind)
 
-pub leaving-start : (all : (Outcome → Bool) → ℕ) (t : Tally) → Leaving all all t t
-leaving-start all t = record { same = λ kind. refl }
+pub leaving-start : (all : (Outcome → Bool) → ℕ) (tally : Tally) → Leaving all all tally tally
+leaving-start all tally = record { same = λ kind. refl }
 
-module _ {rest all : (Outcome → Bool) → ℕ} {t r : Tally} (so : Leaving rest all t r) where
+module _ {rest all : (Outcome → Bool) → ℕ} {tally r : Tally} (so : Leaving rest all tally r) where
   pub leaving-step : {step later : (Outcome → Bool) → ℕ} {u : Tally} → Tallied step r u
-      → ((is : Outcome → Bool) → rest is ≡ step is + later is) → Leaving later all t u
+      → ((is : Outcome → Bool) → rest is ≡ step is + later is) → Leaving later all tally u
   leaving-step more split = record { same = λ kind. omega (arith, split (isOf kind), more .grows kind, so .same kind) }
 
-  pub leaving-end : ((is : Outcome → Bool) → rest is ≡ 0) → Tallied all t r
+  pub leaving-end : ((is : Outcome → Bool) → rest is ≡ 0) → Tallied all tally r
   leaving-end none = record { grows = λ kind. omega (arith, none (isOf kind), so .same kind) }
 
 -- what remains of a left set rises

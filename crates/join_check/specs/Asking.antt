@@ -1,5 +1,5 @@
--- Inner: what the functions that read the index ask, that the work list holds the index of some query. What they answer is said of
--- every query whose index it holds.
+-- Inner: what the functions that read the index ask, that the work list holds the index of some query. What they answer is said
+-- of every query whose index it holds.
 use Prim.Native.Nat.{ℕ, _≤_, _<_}
 use mathlib.Core.Path.{_≡_}
 use mathlib.Core.List.{List}

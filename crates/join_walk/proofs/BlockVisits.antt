@@ -45,11 +45,12 @@ module _ (q : Query) (list lefts : List ℕ) where
       ∙ sum-const (length list) lefts
 
 -- a block of checks answers for its left sets where their rows are its checks
-pub block-visited : {lay : Layout} {q : Query} {w : List ℕ} {budget d e lo hi from to : ℕ} {t : Tally} {r : Walked}
+pub block-visited : {lay : Layout} {q : Query} {w : List ℕ} {budget d e lo hi from to : ℕ} {tally : Tally} {r : Walked}
     → RunsThere lay q w e lo hi from to → length (run lay w lo hi) ≡ hi - lo → length (slice from to w) ≡ to - from
-    → ((is : Outcome → Bool) → MetOnly is → sum (row is q d) (run lay w lo hi) ≡ runCount q is (slice from to w) (run lay w lo hi))
-    → Blocked lay w budget e lo hi from to t r → Visited q budget d (run lay w lo hi) t r
-block-visited {lay} {q} {w} {budget} {d} {e} {lo} {hi} {from} {to} {t} {r} there lefts rights rows block =
+    → ((is : Outcome → Bool) → MetOnly is
+    → sum (row is q d) (run lay w lo hi) ≡ runCount q is (slice from to w) (run lay w lo hi))
+    → Blocked lay w budget e lo hi from to tally r → Visited q budget d (run lay w lo hi) tally r
+block-visited {lay} {q} {w} {budget} {d} {e} {lo} {hi} {from} {to} {tally} {r} there lefts rights rows block =
     record {
       added = λ calm.
           record { tallied = tallied-same (λ kind. sym (rows (isOf kind) (kind-met kind))) (block .tallied calm q there) };
@@ -65,7 +66,8 @@ block-visited {lay} {q} {w} {budget} {d} {e} {lo} {hi} {from} {to} {t} {r} there
     }
 
 -- left sets that pair by path with every candidate after the node
-pub merged-added : {q : Query} {d m c : ℕ} (lefts : List ℕ) {t r : Tally}
-    → ((is : Outcome → Bool) → MetOnly is → sum (row is q d) lefts ≡ pathPairs m c is) → Merged m c t r → Added q d lefts t r
+pub merged-added : {q : Query} {d m c : ℕ} (lefts : List ℕ) {tally r : Tally}
+    → ((is : Outcome → Bool) → MetOnly is → sum (row is q d) lefts ≡ pathPairs m c is) → Merged m c tally r
+    → Added q d lefts tally r
 merged-added lefts rows merged =
     record { tallied = tallied-same (λ kind. sym (rows (isOf kind) (kind-met kind))) (merged .tallied) }

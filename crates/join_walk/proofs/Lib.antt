@@ -18,7 +18,9 @@ pub mod LimitLaws
 pub mod GroupSteps
 pub mod NodeStops
 pub mod NodeSteps
+pub mod NodeChildren
 pub mod ChildSteps
+pub mod ChildNodes
 pub mod PartitionSteps
 pub mod Totals
 pub mod WalkSteps

@@ -54,8 +54,8 @@ candidates-most q path e =
       length-range 0 (length (q .rights)),
     )
 
-module _ {lay : Layout} {st : Settings} {q : Query} {path w : List ℕ} {d lo hi from to : ℕ} {t : Tally}
-    (at : AtLimit lay st q path w d lo hi from to t) where
+module _ {lay : Layout} {st : Settings} {q : Query} {path w : List ℕ} {d lo hi from to : ℕ} {tally : Tally}
+    (at : AtLimit lay st q path w d lo hi from to tally) where
   part-length : length (slice from to w) ≡ to - from
   part-length = length-slice from to w (at .within)
 
@@ -71,7 +71,7 @@ module _ {lay : Layout} {st : Settings} {q : Query} {path w : List ℕ} {d lo hi
       (listing-kept (length (q .rights)) (λ s. isCandidate d path (rightAt q s)))
 
   -- the first of them alone, and the others
-  pub limit-first : lo < hi → AtLimit lay st q path w d lo (lo + 1) from to t
+  pub limit-first : lo < hi → AtLimit lay st q path w d lo (lo + 1) from to tally
   limit-first some =
       let parts = run-split lay q w lo (lo + 1) hi (at .index) (omega arith) (omega arith) (at .few) in
       record {
@@ -99,7 +99,7 @@ module _ {lay : Layout} {st : Settings} {q : Query} {path w : List ℕ} {d lo hi
       one-row : (lo + 1 - lo) * length (q .rights) ≤ (hi - lo) * length (q .rights)
       one-row = mul-le-mul-right (length (q .rights)) (omega arith)
 
-  limit-next : {r : Tally} → lo < hi → Added q d (run lay w lo (lo + 1)) t r → checksIn r ≤ st .budget
+  limit-next : {r : Tally} → lo < hi → Added q d (run lay w lo (lo + 1)) tally r → checksIn r ≤ st .budget
       → AtLimit lay st q path w d (lo + 1) hi from to r
   limit-next some add low =
       let parts = run-split lay q w lo (lo + 1) hi (at .index) (omega arith) (omega arith) (at .few) in
@@ -121,9 +121,9 @@ module _ {lay : Layout} {st : Settings} {q : Query} {path w : List ℕ} {d lo hi
       }
 
   -- the first, visited, as a part of them
-  pub limit-done : lo < hi → {one : Walked} → Visited q (st .budget) d (run lay w lo (lo + 1)) t one
-      → PartDone lay (st .budget) d hi (λ path w. lay .slots) (λ q path w i r. AtLimit lay st q path w d i hi from to r) q path w lo t
-      w (lo + 1) one
+  pub limit-done : lo < hi → {one : Walked} → Visited q (st .budget) d (run lay w lo (lo + 1)) tally one
+      → PartDone lay (st .budget) d hi (λ path w. lay .slots) (λ q path w i r. AtLimit lay st q path w d i hi from to r) q path w
+      lo tally w (lo + 1) one
   limit-done some visit =
       record {
         facts = record { index = at .index; few = at .few; slots = omega arith };
@@ -137,29 +137,29 @@ all-one : (p : ℕ → Bool) (x : ℕ) (l : List ℕ) → l ≡ x ∷ [] → p x
 unfolding all
 all-one p x l e h = subst (λ (m : List ℕ). all p m ≡ true) (sym e) (and-both h refl)
 
-module _ {lay : Layout} {st : Settings} {q : Query} {w : List ℕ} {d i from to : ℕ} {t : Tally} where
-  one-left : {path : List ℕ} → AtLimit lay st q path w d i (i + 1) from to t → run lay w i (i + 1) ≡ leftIn lay w i ∷ []
+module _ {lay : Layout} {st : Settings} {q : Query} {w : List ℕ} {d i from to : ℕ} {tally : Tally} where
+  one-left : {path : List ℕ} → AtLimit lay st q path w d i (i + 1) from to tally → run lay w i (i + 1) ≡ leftIn lay w i ∷ []
   one-left at =
       run-first (limit-run at (omega arith))
       ∙ ap (λ (l : List ℕ). leftIn lay w i ∷ l) (run-none lay w (i + 1) (i + 1) (omega arith))
 
-  pub one-room : {path : List ℕ} → AtLimit lay st q path w d i (i + 1) from to t
-      → t .«by_path» + pathPairs 1 (to - from) isByPath ≤ maxPairs
+  pub one-room : {path : List ℕ} → AtLimit lay st q path w d i (i + 1) from to tally
+      → tally .«by_path» + pathPairs 1 (to - from) isByPath ≤ maxPairs
   unfolding sum
   one-room at =
       let one : (i + 1 - i) * length (q .rights) ≡ length (q .rights) =
       ap (λ (n : ℕ). n * length (q .rights)) (omega arith) ∙ one-mul (length (q .rights)) in
       omega (arith, at .underway .bounded, part-few at, one, paths-all 1 (to - from), one-mul (to - from))
 
-  rooted : {path : List ℕ} → AtLimit lay st q path w d i (i + 1) from to t → Rooted q path d (run lay w i (i + 1))
+  rooted : {path : List ℕ} → AtLimit lay st q path w d i (i + 1) from to tally → Rooted q path d (run lay w i (i + 1))
   rooted at = record { depth = at .depth; deep = at .deep; begin = at .begins }
 
-  pub one-merged : {path : List ℕ} → AtLimit lay st q path w d i (i + 1) from to t → keyAt q d (leftIn lay w i) ≡ 0 → {r : Tally}
-      → Merged 1 (to - from) t r
-      → Visited q (st .budget) d (run lay w i (i + 1)) t (record { tally = r; spent = false })
+  pub one-merged : {path : List ℕ} → AtLimit lay st q path w d i (i + 1) from to tally → keyAt q d (leftIn lay w i) ≡ 0
+      → {r : Tally} → Merged 1 (to - from) tally r
+      → Visited q (st .budget) d (run lay w i (i + 1)) tally (record { tally = r; spent = false })
   one-merged at ends {r} merged =
       let lefts = run lay w i (i + 1) in
-      let add : Added q d lefts t r =
+      let add : Added q d lefts tally r =
       merged-added lefts
       (λ is met.
       rows-merge (rooted at) (slice from to w) is met (at .on)
@@ -174,14 +174,14 @@ module _ {lay : Layout} {st : Settings} {q : Query} {w : List ℕ} {d i from to 
       }
 
   -- its key as it was read
-  pub one-key : {path : List ℕ} {k r : ℕ} → AtLimit lay st q path w d i (i + 1) from to t → Word w (lay .order + i) k
+  pub one-key : {path : List ℕ} {k r : ℕ} → AtLimit lay st q path w d i (i + 1) from to tally → Word w (lay .order + i) k
       → ((q : Query) → LeftThere lay q w k → r ≡ keyAt q d k) → r ≡ keyAt q d (leftIn lay w i)
   one-key at word read = run-key (limit-run at (omega arith)) d i (omega arith) word read
 
-  pub one-there : {path : List ℕ} → AtLimit lay st q path w d i (i + 1) from to t → RunsThere lay q w d i (i + 1) from to
+  pub one-there : {path : List ℕ} → AtLimit lay st q path w d i (i + 1) from to tally → RunsThere lay q w d i (i + 1) from to
   one-there at = runs-there (rooted at) (at .index) (at .within) (at .few) (limit-listing at) (omega arith)
 
-  pub one-small : {path : List ℕ} → AtLimit lay st q path w d i (i + 1) from to t → Small (st .budget) i (i + 1) from to t
+  pub one-small : {path : List ℕ} → AtLimit lay st q path w d i (i + 1) from to tally → Small (st .budget) i (i + 1) from to tally
   one-small at =
       record {
         lefts = omega arith;
@@ -191,9 +191,9 @@ module _ {lay : Layout} {st : Settings} {q : Query} {w : List ℕ} {d i from to 
         covered = at .underway .budget;
       }
 
-  pub one-checked : {path : List ℕ} → AtLimit lay st q path w d i (i + 1) from to t
+  pub one-checked : {path : List ℕ} → AtLimit lay st q path w d i (i + 1) from to tally
       → (keyAt q d (leftIn lay w i) ≡ 0 → ⊥) → {r : Walked}
-      → Blocked lay w (st .budget) d i (i + 1) from to t r → Visited q (st .budget) d (run lay w i (i + 1)) t r
+      → Blocked lay w (st .budget) d i (i + 1) from to tally r → Visited q (st .budget) d (run lay w i (i + 1)) tally r
   one-checked at longer block =
       let own = leftIn lay w i in
       block-visited (one-there at) (ap length (one-left at) ∙ omega arith) (part-length at)

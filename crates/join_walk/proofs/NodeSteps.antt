@@ -1,69 +1,46 @@
--- A node where the walk goes on: the candidates are narrowed; at the limit its left sets are finished; below it those that end
--- there come first and pair by path, and the others are its children.
-use Prim.Native.Nat.{ℕ, suc, _+_, _-_, _*_, _≤_, _<_}
-use mathlib.Core.Path.{_≡_, refl, sym, ap, ap₂, subst, _∙_}
-use mathlib.Core.List.{List, _++_}
-use mathlib.Core.Bool.{Bool, true, false, _&&_, not}
+-- A node where the walk goes on: the candidates are narrowed, and at the limit its left sets are finished.
+use Prim.Native.Nat.{ℕ, _-_, _≤_}
+use mathlib.Core.Path.{_≡_, sym, ap, subst}
+use mathlib.Core.List.{List}
+use mathlib.Core.Bool.{Bool, true, false, not}
 use native.Mathlib.Omega.{arith}
-use native.Mathlib.Nat.{mul-le-mul}
-use borrow.Author.Tests.{not-true}
-use lib.Dec.{eqb}
-use lib.ListN.{length, take, getD}
-use Rattle.lists.specs.Lists.{all, prefix, sum, slice}
-use Rattle.lists.proofs.Bools.{and-left, and-right, true-false}
-use Rattle.lists.proofs.Throughout.{all-back}
-use Rattle.lists.proofs.Filtering.{all-kept, all-keep}
-use Rattle.lists.proofs.Summing.{sum-same-where}
+use lib.ListN.{length, getD}
+use Rattle.lists.specs.Lists.{slice}
 use Rattle.lists.proofs.Slices.{length-slice}
-use Rattle.sets.specs.Limits.{maxPairs}
 use Rattle.join_spec.specs.Query.{Query}
 use Rattle.join_spec.specs.Node.{lastOf}
-use Rattle.join_spec.specs.Walk.{Outcome, isCandidate}
-use Rattle.join_spec.specs.Counting.{isByPath}
-use Rattle.join_index.specs.Grouping.{leftAt, rightAt, keyAt, orderFrom}
-use Rattle.join_index.specs.Ground.{Listing}
 use Rattle.join_index.specs.declared.Layout.{Layout}
-use Rattle.join_index.proofs.GroundLaws.{offsets-rise}
 use Rattle.join_check.specs.Asking.{Index, RunThere}
 use Rattle.join_check.specs.Runs.{run}
-use Rattle.join_check.specs.Counters.{checksIn}
 use Rattle.join_check.specs.declared.Tally.{Tally}
-use Rattle.join_walk.specs.Rows.{goes, row, pathPairs}
+use Rattle.join_walk.specs.Rows.{goes}
 use Rattle.join_walk.specs.Narrowing.{Candidates, Narrowed, slotOf}
-use Rattle.join_walk.specs.Visiting.{OnPath, NodeAt, Node, ChildrenAt, NodeVisited, ChildrenVisited, Visited, Added, Merged}
-use Rattle.join_walk.specs.Visiting.{Framed, beginners}
-use Rattle.join_walk.specs.Blocks.{AtLimit, MergedEnd}
+use Rattle.join_walk.specs.Visiting.{OnPath, NodeAt, Node, NodeVisited, Visited}
+use Rattle.join_walk.specs.Visiting.{Framed}
+use Rattle.join_walk.specs.Blocks.{AtLimit}
 use Rattle.join_walk.specs.declared.narrow.Part.{Part}
 use Rattle.join_walk.specs.declared.visit.Settings.{Settings}
 use Rattle.join_walk.specs.declared.visit.Walked.{Walked}
-use Rattle.join_walk.proofs.RunLaws.{Cut, run-length, run-split}
-use Rattle.join_walk.proofs.GroupSteps.{endedAt, goingOn, ended-keys, going-keys, beginners-grouped, ended-cut}
-use Rattle.join_walk.proofs.Narrowing.{listing-kept}
 use Rattle.join_walk.proofs.NodeFacts.{last-read}
-use Rattle.join_walk.proofs.Prefixes.{prefix-take}
-use Rattle.join_walk.proofs.RowLaws.{row-deeper}
-use Rattle.join_walk.proofs.BlockLaws.{Begin, Rooted, rows-merge, key-longer, all-and}
-use Rattle.join_walk.proofs.PathLaws.{paths-all, merged-checks}
-use Rattle.join_walk.proofs.BlockVisits.{merged-added}
+use Rattle.join_walk.proofs.BlockLaws.{Begin}
 use Rattle.join_walk.proofs.LimitLaws.{candidates-most}
-use Rattle.join_walk.proofs.VisitLaws.{visited-then, visited-rows, underway-next}
-use Rattle.join_walk.proofs.FrameLaws.{index-framed, slot-framed, run-framed, framed-then}
+use Rattle.join_walk.proofs.FrameLaws.{index-framed, run-framed}
 use Rattle.join_walk.proofs.NodeStops.{goes-on, node-rooted}
 
 -- a node where the walk goes on, its candidates narrowed to a part of the work list, which became w′
-pub record Onward (lay : Layout) (st : Settings) (q : Query) (path w w′ : List ℕ) (d lo hi from to : ℕ) (t : Tally)
+pub record Onward (lay : Layout) (st : Settings) (q : Query) (path w w′ : List ℕ) (d lo hi from to : ℕ) (tally : Tally)
     (part : Part) : Type 0 where
-  pub node : Node lay st q path w d lo hi from to t
+  pub node : Node lay st q path w d lo hi from to tally
   pub narrowed : Narrowed lay q path d w w′ part
   pub on : true ≡ goes q path
 
 -- as the decision was answered, the path's last rank read, and the candidates narrowed by it
-pub onward-read : {lay : Layout} {st : Settings} {q : Query} {path w w′ : List ℕ} {d lo hi from to : ℕ} {t : Tally} {part : Part}
-    {b : Bool} {rank : ℕ} → Node lay st q path w d lo hi from to t
+pub onward-read : {lay : Layout} {st : Settings} {q : Query} {path w w′ : List ℕ} {d lo hi from to : ℕ} {tally : Tally}
+    {part : Part} {b : Bool} {rank : ℕ} → Node lay st q path w d lo hi from to tally
     → ((q : Query) (path : List ℕ) → NodeAt lay q path w d lo hi from to → q .rule ≡ st .rule → b ≡ goes q path) → not b ≡ false
     → ((q : Query) (path : List ℕ) → OnPath lay q path w lo (d - 1) → rank ≡ getD path (d - 1) 0)
     → ((q : Query) (path : List ℕ) → Candidates lay q path w d from to → rank ≡ lastOf path → Narrowed lay q path d w w′ part)
-    → Onward lay st q path w w′ d lo hi from to t part
+    → Onward lay st q path w w′ d lo hi from to tally part
 onward-read {q = q} {path = path} node decided test read narrowed =
     record {
       node = node;
@@ -71,34 +48,34 @@ onward-read {q = q} {path = path} node decided test read narrowed =
       on = goes-on node decided test;
     }
 
-module _ {lay : Layout} {st : Settings} {q : Query} {path w w′ : List ℕ} {d lo hi from to : ℕ} {t : Tally} {part : Part}
-    (so : Onward lay st q path w w′ d lo hi from to t part) where
+module _ {lay : Layout} {st : Settings} {q : Query} {path w w′ : List ℕ} {d lo hi from to : ℕ} {tally : Tally} {part : Part}
+    (so : Onward lay st q path w w′ d lo hi from to tally part) where
   cands : Candidates lay q path w d from to
   cands = so .node .at .candidates
 
   index : Index lay q w
   index = cands .index
 
-  framed : Framed (slotOf lay w (lastOf path)) w w′
-  framed = record { size = so .narrowed .size; frame = so .narrowed .frame }
+  pub onward-framed : Framed (slotOf lay w (lastOf path)) w w′
+  onward-framed = record { size = so .narrowed .size; frame = so .narrowed .frame }
 
   low : lay .slots ≤ slotOf lay w (lastOf path)
   low = omega arith
 
   pub index-after : Index lay q w′
-  index-after = index-framed index framed low
+  index-after = index-framed index onward-framed low
 
   part-inside : part .to ≤ length w′
   part-inside = omega (arith, so .narrowed .below, index .ground .room (lastOf path) (cands .last), so .narrowed .size)
 
-  after-length : length (slice (part .«from») (part .to) w′) ≡ part .to - part .«from»
+  pub after-length : length (slice (part .«from») (part .to) w′) ≡ part .to - part .«from»
   after-length = length-slice (part .«from») (part .to) w′ part-inside
 
-  after-few : part .to - part .«from» ≤ length (q .rights)
+  pub after-few : part .to - part .«from» ≤ length (q .rights)
   after-few = omega (arith, after-length, ap length (so .narrowed .holds), candidates-most q path d)
 
   -- at the limit
-  pub node-limit : st .limit ≤ d → AtLimit lay st q path w′ d lo hi (part .«from») (part .to) t
+  pub node-limit : st .limit ≤ d → AtLimit lay st q path w′ d lo hi (part .«from») (part .to) tally
   node-limit deepest =
       record {
         index = index-after;
@@ -110,165 +87,22 @@ module _ {lay : Layout} {st : Settings} {q : Query} {path w w′ : List ℕ} {d 
         upto = omega (arith, so .node .at .some);
         few = so .node .at .few;
         begins =
-            subst (λ (l : List ℕ). Begin q path l) (sym (run-framed index framed low lo hi (so .node .at .few))) (node-rooted (so .node) .begin);
+            subst (λ (l : List ℕ). Begin q path l) (sym (run-framed index onward-framed low lo hi (so .node .at .few)))
+            (node-rooted (so .node) .begin);
         rise = so .narrowed .rise;
         within = part-inside;
         holds = so .narrowed .holds;
       }
 
-  pub limit-visited : {r : Walked} → Visited q (st .budget) d (run lay w′ lo hi) t r
-      → NodeVisited lay st q path w w′ d lo hi t r
+  pub limit-visited : {r : Walked} → Visited q (st .budget) d (run lay w′ lo hi) tally r
+      → NodeVisited lay st q path w w′ d lo hi tally r
   limit-visited {r} done =
       record {
-        framed = framed;
+        framed = onward-framed;
         visited =
-            subst (λ (l : List ℕ). Visited q (st .budget) d l t r) (run-framed index framed low lo hi (so .node .at .few)) done;
+            subst (λ (l : List ℕ). Visited q (st .budget) d l tally r) (run-framed index onward-framed low lo hi (so .node .at .few))
+            done;
       }
 
   pub node-run : RunThere lay q w′ lo hi
   node-run = record { index = index-after; some = so .node .at .some; within = so .node .at .few }
-
-  -- below the limit the left sets that end at the node come first
-  module _ (deeper : d < st .limit) where
-    rest : List ℕ
-    rest = beginners q path (suc d)
-
-    grouped-lefts : run lay w lo hi ≡ endedAt q d rest ++ goingOn q d rest
-    unfolding rest
-    grouped-lefts = so .node .at .lefts ∙ beginners-grouped q path d (omega (arith, so .node .underway .limit))
-
-    module _ {mid : ℕ} (end : MergedEnd lay w′ d lo hi mid) where
-      parted : Cut lay w′ lo mid hi (endedAt q d rest) (goingOn q d rest)
-      parted = ended-cut rest node-run (run-framed index framed low lo hi (so .node .at .few) ∙ grouped-lefts) end
-
-      ended-lefts : run lay w lo mid ≡ endedAt q d rest
-      ended-lefts = sym (run-framed index framed low lo mid (omega (arith, end .high, so .node .at .few))) ∙ parted .front
-
-      child-lefts : run lay w mid hi ≡ goingOn q d rest
-      child-lefts = sym (run-framed index framed low mid hi (so .node .at .few)) ∙ parted .back
-
-      front-length : length (run lay w lo mid) ≡ mid - lo
-      front-length = run-length lay q w lo mid index (omega (arith, end .high, so .node .at .few))
-
-      pub merged-room : t .«by_path» + pathPairs (mid - lo) (part .to - part .«from») isByPath ≤ maxPairs
-      unfolding sum
-      merged-room =
-          let product : (mid - lo) * (part .to - part .«from») ≤ (hi - lo) * length (q .rights) =
-          mul-le-mul {n₁ = mid - lo} {n₂ = hi - lo} (omega (arith, end .high)) after-few in
-          omega (arith, so .node .underway .bounded, product, paths-all (mid - lo) (part .to - part .«from»))
-
-      ended-rooted : Rooted q path d (run lay w lo mid)
-      unfolding rest
-      ended-rooted =
-          record {
-            depth = cands .depth;
-            deep = cands .deep;
-            begin =
-                subst (λ (l : List ℕ). Begin q path l) (sym ended-lefts)
-                (all-keep (λ k. prefix path (leftAt q k)) (λ k. eqb (keyAt q d k) 0) rest
-                (all-kept (λ k. prefix path (leftAt q k)) (orderFrom q (q .limit - suc d) (suc d))));
-          }
-
-      front-keys : all (λ k. eqb (keyAt q d k) 0) (run lay w lo mid) ≡ true
-      front-keys = subst (λ (l : List ℕ). all (λ k. eqb (keyAt q d k) 0) l ≡ true) (sym ended-lefts) (ended-keys q d rest)
-
-      after-listing : Listing (length (q .rights)) (λ s. isCandidate d path (rightAt q s)) (slice (part .«from») (part .to) w′)
-      after-listing =
-          subst (λ (l : List ℕ). Listing (length (q .rights)) (λ s. isCandidate d path (rightAt q s)) l) (sym (so .narrowed .holds))
-          (listing-kept (length (q .rights)) (λ s. isCandidate d path (rightAt q s)))
-
-      module _ {m : Tally} (merged : Merged (mid - lo) (part .to - part .«from») t m) where
-        pub merged-lefts : Added q d (run lay w lo mid) t m
-        merged-lefts =
-            merged-added (run lay w lo mid)
-            (λ is met.
-            rows-merge ended-rooted (slice (part .«from») (part .to) w′) is met (sym (so .on)) front-keys after-listing
-            ∙ ap₂ (λ (m c : ℕ). pathPairs m c is) front-length after-length)
-            merged
-
-        merged-budget : checksIn m ≤ st .budget
-        merged-budget = omega (arith, merged-checks merged, so .node .underway .budget)
-
-        -- no left set goes on
-        pub all-merged : hi ≤ mid → NodeVisited lay st q path w w′ d lo hi t (record { tally = m; spent = false })
-        all-merged past =
-            let same : mid ≡ hi = omega (arith, end .high) in
-            record {
-              framed = framed;
-              visited = record {
-                added = λ calm. subst (λ (n : ℕ). Added q d (run lay w lo n) t m) same merged-lefts;
-                within = λ calm. merged-budget;
-                beyond = λ spent. true-false spent refl;
-              };
-            }
-
-        -- the others are the node's children
-        pub node-children : mid < hi → ChildrenAt lay st q path w′ d mid hi (part .«from») (part .to) m
-        unfolding rest
-        node-children some =
-            record {
-              kids = record {
-                index = index-after;
-                underway = underway-next (so .node .underway) merged-lefts (omega (arith, front-length, end .low)) merged-budget;
-                depth = cands .depth;
-                within = omega (arith, so .node .underway .limit);
-                upto = omega arith;
-                few = so .node .at .few;
-                x = 1;
-                n = q .T;
-                keys = omega arith;
-                further = omega arith;
-                lefts = run-framed index framed low mid hi (so .node .at .few) ∙ child-lefts;
-              };
-              after = record {
-                deep = cands .deep;
-                last = cands .last;
-                rise = so .narrowed .rise;
-                below = omega (arith, so .narrowed .below, slot-framed index framed low (suc (lastOf path)) (cands .last));
-                holds = so .narrowed .holds;
-              };
-            }
-
-        child-begin : Begin q path (run lay w mid hi)
-        unfolding rest
-        child-begin =
-            all-back (λ k. prefix path (leftAt q k)) (run lay w lo mid) (run lay w mid hi)
-            (subst (λ (l : List ℕ). Begin q path l) (run-split lay q w lo mid hi index (end .low) (end .high) (so .node .at .few))
-            (node-rooted (so .node) .begin))
-
-        child-keys : all (λ k. not (eqb (keyAt q d k) 0)) (run lay w mid hi) ≡ true
-        child-keys =
-            subst (λ (l : List ℕ). all (λ k. not (eqb (keyAt q d k) 0)) l ≡ true) (sym child-lefts) (going-keys q d rest)
-
-        rows-deeper : (is : Outcome → Bool) → sum (row is q (suc d)) (run lay w mid hi) ≡ sum (row is q d) (run lay w mid hi)
-        rows-deeper is =
-            sum-same-where (λ k. prefix path (leftAt q k) && not (eqb (keyAt q d k) 0)) (row is q (suc d)) (row is q d)
-            (run lay w mid hi)
-            (all-and (λ k. prefix path (leftAt q k)) (λ k. not (eqb (keyAt q d k) 0)) (run lay w mid hi) child-begin child-keys)
-            (λ k both.
-            let begin = and-left (prefix path (leftAt q k)) (not (eqb (keyAt q d k) 0)) both in
-            let more = not-true (eqb (keyAt q d k) 0) (and-right (prefix path (leftAt q k)) (not (eqb (keyAt q d k) 0)) both) in
-            sym (row-deeper q d k is
-            (subst (λ (n : ℕ). goes q (take n (leftAt q k)) ≡ true) (cands .depth)
-            (sym (ap (goes q) (prefix-take path (leftAt q k) begin)) ∙ sym (so .on)))
-            (key-longer q d k more) (omega (arith, so .node .underway .limit))))
-
-        -- and their visit makes the node's
-        pub children-visited : {w″ : List ℕ} {r : Walked} → ChildrenVisited lay st q path w′ w″ d mid hi m r
-            → NodeVisited lay st q path w w″ d lo hi t r
-        children-visited {w″} {r} done =
-            record {
-              framed = framed-then (omega (
-                arith,
-                slot-framed index framed low (suc (lastOf path)) (cands .last),
-                offsets-rise lay q w (index .ground) (lastOf path) (suc (lastOf path)) (omega arith) (cands .last),
-              )) framed (done .framed);
-              visited =
-                  subst (λ (l : List ℕ). Visited q (st .budget) d l t r)
-                  (sym (run-split lay q w lo mid hi index (end .low) (end .high) (so .node .at .few)))
-                  (visited-then merged-lefts
-                  (visited-rows (run lay w mid hi) rows-deeper
-                  (subst (λ (l : List ℕ). Visited q (st .budget) (suc d) l m r)
-                  (run-framed index framed low mid hi (so .node .at .few))
-                  (done .visited))));
-            }

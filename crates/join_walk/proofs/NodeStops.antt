@@ -31,8 +31,8 @@ use Rattle.join_walk.proofs.BlockLaws.{Begin, Rooted, runs-there, rows-
 use Rattle.join_walk.proofs.BlockVisits.{block-visited}
 use Rattle.join_walk.proofs.FrameLaws.{framed-none}
 
-module _ {lay : Layout} {st : Settings} {q : Query} {path w : List ℕ} {d lo hi from to : ℕ} {t : Tally}
-    (node : Node lay st q path w d lo hi from to t) where
+module _ {lay : Layout} {st : Settings} {q : Query} {path w : List ℕ} {d lo hi from to : ℕ} {tally : Tally}
+    (node : Node lay st q path w d lo hi from to tally) where
   cands : Candidates lay q path w d from to
   cands = node .at .candidates
 
@@ -77,7 +77,7 @@ module _ {lay : Layout} {st : Settings} {q : Query} {path w : List ℕ} {d lo hi
   pub stop-there : RunsThere lay q w (d - 1) lo hi from to
   stop-there = runs-there node-rooted index part-within (node .at .few) (cands .listing) (omega arith)
 
-  pub stop-small : Small (st .budget) lo hi from to t
+  pub stop-small : Small (st .budget) lo hi from to tally
   stop-small =
       record {
         lefts = lefts-few;
@@ -87,8 +87,8 @@ module _ {lay : Layout} {st : Settings} {q : Query} {path w : List ℕ} {d lo hi
         covered = node .underway .budget;
       }
 
-  pub stop-visited : {r : Walked} → false ≡ goes q path → Blocked lay w (st .budget) (d - 1) lo hi from to t r
-      → NodeVisited lay st q path w w d lo hi t r
+  pub stop-visited : {r : Walked} → false ≡ goes q path → Blocked lay w (st .budget) (d - 1) lo hi from to tally r
+      → NodeVisited lay st q path w w d lo hi tally r
   stop-visited {r} stop block =
       record {
         framed = framed-none (slotOf lay w (lastOf path)) w;

@@ -1,6 +1,6 @@
 -- Part after part, until the budget is spent: the one law of the walk's three loops, over partitions, children and the left sets
--- at the limit. A part adds the rows of its left sets to the counters, or its checks would pass the budget. The invariant: what is
--- left from place i on is known, and whatever visits it has visited all.
+-- at the limit. A part adds the rows of its left sets to the counters, or its checks would pass the budget. The invariant: the
+-- rest from place i on is known, and whatever visits it has visited all.
 use Prim.Native.Nat.{ℕ, _≤_}
 use mathlib.Core.Path.{_≡_, refl, sym, subst, _∙_}
 use mathlib.Core.List.{List}
@@ -22,7 +22,7 @@ use Rattle.join_walk.proofs.RunLaws.{run-split}
 use Rattle.join_walk.proofs.VisitLaws.{added-none, visited-then, visited-early}
 use Rattle.join_walk.proofs.FrameLaws.{run-framed, framed-none, framed-then}
 
--- what is left to be visited, at depth d and up to place hi: with the words w, from place i on, the counters being r. Only words
+-- what remains to be visited, at depth d and up to place hi: with the words w, from place i on, the counters being r. Only words
 -- from a path's slot on change
 module _ (lay : Layout) (budget d hi : ℕ) (slot : List ℕ → List ℕ → ℕ)
     (Rest : Query → List ℕ → List ℕ → ℕ → Tally → Type 0) where
@@ -39,25 +39,26 @@ module _ (lay : Layout) (budget d hi : ℕ) (slot : List ℕ → List ℕ → �
     pub steady : slot path w′ ≡ slot path w
     pub next : one .spent ≡ false → Rest q path w′ j (one .tally)
 
-  pub record Continuing (w₀ : List ℕ) (lo : ℕ) (t : Tally) (w : List ℕ) (i : ℕ) (r : Tally) : Type 0 where
+  pub record Continuing (w₀ : List ℕ) (lo : ℕ) (tally : Tally) (w : List ℕ) (i : ℕ) (r : Tally) : Type 0 where
     pub some : SomePath (λ q path. Rest q path w i r)
     pub size : length w ≡ length w₀
-    pub rest : (q : Query) (path : List ℕ) → Rest q path w₀ lo t → Rest q path w i r
-    pub whole : (q : Query) (path : List ℕ) → Rest q path w₀ lo t → (w′ : List ℕ) (one : Walked)
-        → RunVisited lay q budget (slot path w) d w w′ i hi r one → RunVisited lay q budget (slot path w₀) d w₀ w′ lo hi t one
+    pub rest : (q : Query) (path : List ℕ) → Rest q path w₀ lo tally → Rest q path w i r
+    pub whole : (q : Query) (path : List ℕ) → Rest q path w₀ lo tally → (w′ : List ℕ) (one : Walked)
+        → RunVisited lay q budget (slot path w) d w w′ i hi r one → RunVisited lay q budget (slot path w₀) d w₀ w′ lo hi tally one
 
-  pub continuing-start : {w : List ℕ} {lo : ℕ} {t : Tally} → SomePath (λ q path. Rest q path w lo t) → Continuing w lo t w lo t
+  pub continuing-start : {w : List ℕ} {lo : ℕ} {tally : Tally} → SomePath (λ q path. Rest q path w lo tally)
+      → Continuing w lo tally w lo tally
   continuing-start some =
       record { some = some; size = refl; rest = λ q path left. left; whole = λ q path left w′ one done. done }
 
 module _ {lay : Layout} {budget d hi : ℕ} {slot : List ℕ → List ℕ → ℕ} {Rest : Query → List ℕ → List ℕ → ℕ → Tally → Type 0}
-    {w₀ : List ℕ} {lo : ℕ} {t : Tally} {w : List ℕ} {i : ℕ} {r : Tally}
-    (so : Continuing lay budget d hi slot Rest w₀ lo t w i r) where
+    {w₀ : List ℕ} {lo : ℕ} {tally : Tally} {w : List ℕ} {i : ℕ} {r : Tally}
+    (so : Continuing lay budget d hi slot Rest w₀ lo tally w i r) where
   -- a part, up to place j
   module _ {w′ : List ℕ} {j : ℕ} {one : Walked} (low : i ≤ j) (high : j ≤ hi)
       (each : (q : Query) (path : List ℕ) → Rest q path w i r → PartDone lay budget d hi slot Rest q path w i r w′ j one) where
     pub continuing-step : length w′ ≡ length w → one .spent ≡ false
-        → Continuing lay budget d hi slot Rest w₀ lo t w′ j (one .tally)
+        → Continuing lay budget d hi slot Rest w₀ lo tally w′ j (one .tally)
     continuing-step same calm =
         record {
           some = record {
@@ -82,8 +83,8 @@ module _ {lay : Layout} {budget d hi : ℕ} {slot : List ℕ → List ℕ → �
               });
         }
 
-    pub continuing-spent : one .spent ≡ true → (q : Query) (path : List ℕ) → Rest q path w₀ lo t
-        → RunVisited lay q budget (slot path w₀) d w₀ w′ lo hi t one
+    pub continuing-spent : one .spent ≡ true → (q : Query) (path : List ℕ) → Rest q path w₀ lo tally
+        → RunVisited lay q budget (slot path w₀) d w₀ w′ lo hi tally one
     continuing-spent spent q path first =
         let part = each q path (so .rest q path first) in
         let known = part .facts in
@@ -96,9 +97,9 @@ module _ {lay : Layout} {budget d hi : ℕ} {slot : List ℕ → List ℕ → �
               (visited-early (run lay w j hi) spent (part .visit .visited));
         })
 
-  -- no part is left
-  pub continuing-end : hi ≤ i → checksIn r ≤ budget → (q : Query) (path : List ℕ) → Rest q path w₀ lo t
-      → RunVisited lay q budget (slot path w₀) d w₀ w lo hi t (record { tally = r; spent = false })
+  -- no part remains
+  pub continuing-end : hi ≤ i → checksIn r ≤ budget → (q : Query) (path : List ℕ) → Rest q path w₀ lo tally
+      → RunVisited lay q budget (slot path w₀) d w₀ w lo hi tally (record { tally = r; spent = false })
   continuing-end past covered q path first =
       so .whole q path first w (record { tally = r; spent = false })
       (record {

@@ -41,7 +41,8 @@ paths-one is list = go (is byPath)
     go true = count-true list ∙ sym (one-mul (length list))
     go false = count-none (λ s. false) list (λ s. refl)
 
-pub paths-many : (is : Outcome → Bool) (c : ℕ) (lefts : List ℕ) → sum (λ k. pathPairs 1 c is) lefts ≡ pathPairs (length lefts) c is
+pub paths-many : (is : Outcome → Bool) (c : ℕ) (lefts : List ℕ)
+    → sum (λ k. pathPairs 1 c is) lefts ≡ pathPairs (length lefts) c is
 unfolding pathPairs
 paths-many is c lefts = go (is byPath)
   where
@@ -50,14 +51,14 @@ paths-many is c lefts = go (is byPath)
     go false = sum-const 0 lefts ∙ mul-zero (length lefts)
 
 -- the counters after them
-module _ {m c : ℕ} {t r : Tally} (merged : Merged m c t r) where
-  pub merged-checks : checksIn r ≡ checksIn t
+module _ {m c : ℕ} {tally r : Tally} (merged : Merged m c tally r) where
+  pub merged-checks : checksIn r ≡ checksIn tally
   merged-checks = omega (arith, tallied-sum checkKinds (merged .tallied), none)
     where
       none : sum (λ kind. pathPairs m c (isOf kind)) checkKinds ≡ 0
       none = unfold pathPairs sum in refl
 
-  pub merged-pairs : pairsIn r ≡ pairsIn t + m * c
+  pub merged-pairs : pairsIn r ≡ pairsIn tally + m * c
   merged-pairs = omega (arith, tallied-sum kinds (merged .tallied), together)
     where
       together : sum (λ kind. pathPairs m c (isOf kind)) kinds ≡ m * c

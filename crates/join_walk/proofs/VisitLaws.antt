@@ -38,17 +38,17 @@ module _ (q : Query) (d : ℕ) where
       (λ k. omega (arith, count-within (outcomeFrom q d k) (upto (length (q .rights))), length-range 0 (length (q .rights))))
 
 -- no left sets, nothing added
-pub added-none : (q : Query) (d : ℕ) {l : List ℕ} {t : Tally} → l ≡ [] → Added q d l t t
+pub added-none : (q : Query) (d : ℕ) {l : List ℕ} {tally : Tally} → l ≡ [] → Added q d l tally tally
 unfolding sum
 added-none q d none =
     record { tallied = record { grows = λ kind. omega (arith, ap (sum (row (isOf kind) q d)) none) } }
 
 module _ {q : Query} {d : ℕ} where
   -- the checks of the counters grow by the checks of the rows
-  pub checks-added : {l : List ℕ} {t r : Tally} → Added q d l t r → checksIn r ≡ checksIn t + sum (row isCheck q d) l
+  pub checks-added : {l : List ℕ} {tally r : Tally} → Added q d l tally r → checksIn r ≡ checksIn tally + sum (row isCheck q d) l
   checks-added {l} add = omega (arith, sum-checks q d l, tallied-sum checkKinds (add .tallied))
 
-  added-append : {a b : List ℕ} {t r u : Tally} → Added q d a t r → Added q d b r u → Added q d (a ++ b) t u
+  added-append : {a b : List ℕ} {tally r u : Tally} → Added q d a tally r → Added q d b r u → Added q d (a ++ b) tally u
   added-append {a} {b} first second =
       record {
         tallied = record {
@@ -58,9 +58,9 @@ module _ {q : Query} {d : ℕ} where
       }
 
   -- one visit after another that was within the budget
-  pub visited-then : {budget : ℕ} {a b : List ℕ} {t r : Tally} {u : Walked}
-      → Added q d a t r → Visited q budget d b r u → Visited q budget d (a ++ b) t u
-  visited-then {budget} {a} {b} {t} {r} {u} first second =
+  pub visited-then : {budget : ℕ} {a b : List ℕ} {tally r : Tally} {u : Walked}
+      → Added q d a tally r → Visited q budget d b r u → Visited q budget d (a ++ b) tally u
+  visited-then {budget} {a} {b} {tally} {r} {u} first second =
       record {
         added = λ calm. added-append first (second .added calm);
         within = second .within;
@@ -68,9 +68,9 @@ module _ {q : Query} {d : ℕ} where
       }
 
   -- a visit that passed the budget, with more left sets behind it
-  pub visited-early : {budget : ℕ} {a : List ℕ} (b : List ℕ) {t : Tally} {u : Walked} → u .spent ≡ true
-      → Visited q budget d a t u → Visited q budget d (a ++ b) t u
-  visited-early {budget} {a} b {t} {u} spent first =
+  pub visited-early : {budget : ℕ} {a : List ℕ} (b : List ℕ) {tally : Tally} {u : Walked} → u .spent ≡ true
+      → Visited q budget d a tally u → Visited q budget d (a ++ b) tally u
+  visited-early {budget} {a} b {tally} {u} spent first =
       record {
         added = λ calm. true-false spent calm;
         within = λ calm. true-false spent calm;
@@ -78,8 +78,9 @@ module _ {q : Query} {d : ℕ} where
       }
 
   -- rows that agree make the same answer
-  pub visited-rows : {e budget : ℕ} (l : List ℕ) {t : Tally} {u : Walked}
-      → ((is : Outcome → Bool) → sum (row is q e) l ≡ sum (row is q d) l) → Visited q budget e l t u → Visited q budget d l t u
+  pub visited-rows : {e budget : ℕ} (l : List ℕ) {tally : Tally} {u : Walked}
+      → ((is : Outcome → Bool) → sum (row is q e) l ≡ sum (row is q d) l) → Visited q budget e l tally u
+      → Visited q budget d l tally u
   visited-rows l same done =
       record {
         added = λ calm. record { tallied = tallied-same (λ kind. same (isOf kind)) (done .added calm .tallied) };
@@ -87,10 +88,10 @@ module _ {q : Query} {d : ℕ} where
         beyond = λ spent. omega (arith, done .beyond spent, same isCheck);
       }
 
-  -- what is left to count after some rows were added
-  pub underway-next : {st : Settings} {t r : Tally} {l : List ℕ} {n m : ℕ} → Underway st q t n → Added q d l t r
+  -- what remains to be counted after some rows were added
+  pub underway-next : {st : Settings} {tally r : Tally} {l : List ℕ} {n m : ℕ} → Underway st q tally n → Added q d l tally r
       → n ≡ length l + m → checksIn r ≤ st .budget → Underway st q r m
-  underway-next {st} {t} {r} {l} {n} {m} before add split low =
+  underway-next {st} {tally} {r} {l} {n} {m} before add split low =
       record {
         limit = before .limit;
         shallow = before .shallow;

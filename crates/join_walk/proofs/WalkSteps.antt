@@ -142,8 +142,8 @@ module _ {lay : Layout} {st : Settings} {q : Query} {w : List ℕ} {lefts rights
             within = ready .some;
             upto = end .high;
             few = few;
-            x = 1;
-            n = q .T;
+            least = 1;
+            span = q .T;
             keys = omega arith;
             further = omega arith;
             lefts = parted .back;

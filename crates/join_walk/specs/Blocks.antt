@@ -46,7 +46,8 @@ pub record MergedEnd (lay : Layout) (w : List ℕ) (d lo hi r : ℕ) : Type 0 wh
 
 -- left sets at the limit, at the places lo up to hi: they begin with the path, where the walk goes on, and the candidates are
 -- those after it
-pub record AtLimit (lay : Layout) (st : Settings) (q : Query) (path w : List ℕ) (d lo hi from to : ℕ) (tally : Tally) : Type 0 where
+pub record AtLimit (lay : Layout) (st : Settings) (q : Query) (path w : List ℕ) (d lo hi from to : ℕ)
+    (tally : Tally) : Type 0 where
   pub index : Index lay q w
   pub underway : Underway st q tally (hi - lo)
   pub depth : length path ≡ d

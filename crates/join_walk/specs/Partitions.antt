@@ -1,5 +1,5 @@
--- Inner: the whole walk, left sets by first rank, each partition with the right sets seen at it. What is known before it, and what
--- it answers.
+-- Inner: the whole walk, left sets by first rank, each partition with the right sets seen at it. What is known before it, and
+-- what it answers.
 use Prim.Native.Nat.{ℕ, _≤_, _<_}
 use mathlib.Core.Path.{_≡_}
 use mathlib.Core.List.{List, [], _∷_}

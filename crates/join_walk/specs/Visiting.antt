@@ -65,7 +65,7 @@ pub record Child (lay : Layout) (st : Settings) (q : Query) (path w : List ℕ) 
   pub few : hi ≤ length (q .lefts)
   pub lefts : run lay w lo hi ≡ beginners q path d
 
--- the left sets at the places lo up to hi go on after a path of d ranks and stand by their next rank, from key x on; the
+-- the left sets at the places lo up to hi go on after a path of d ranks and stand by their next rank, from the least key on; the
 -- partitions are the children of the path without ranks
 pub record Children (lay : Layout) (st : Settings) (q : Query) (path w : List ℕ) (d lo hi : ℕ) (tally : Tally) : Type 0 where
   pub index : Index lay q w
@@ -74,11 +74,11 @@ pub record Children (lay : Layout) (st : Settings) (q : Query) (path w : List �
   pub within : d < q .limit
   pub upto : lo ≤ hi
   pub few : hi ≤ length (q .lefts)
-  pub x : ℕ
-  pub n : ℕ
-  pub keys : x + n ≡ suc (q .T)
-  pub further : 0 < x
-  pub lefts : run lay w lo hi ≡ groupsFrom (keyAt q d) x n (beginners q path (suc d))
+  pub least : ℕ
+  pub span : ℕ
+  pub keys : least + span ≡ suc (q .T)
+  pub further : 0 < least
+  pub lefts : run lay w lo hi ≡ groupsFrom (keyAt q d) least span (beginners q path (suc d))
 
 -- the words from..to are the candidates after a path of d ranks, below the slots of all ranks beyond its last
 pub record After (lay : Layout) (q : Query) (path w : List ℕ) (d from to : ℕ) : Type 0 where
@@ -89,7 +89,8 @@ pub record After (lay : Layout) (q : Query) (path w : List ℕ) (d from to : ℕ
   pub holds : slice from to w ≡ candidateList q path d
 
 -- the children of a node that are to be visited
-pub record ChildrenAt (lay : Layout) (st : Settings) (q : Query) (path w : List ℕ) (d lo hi from to : ℕ) (tally : Tally) : Type 0 where
+pub record ChildrenAt (lay : Layout) (st : Settings) (q : Query) (path w : List ℕ) (d lo hi from to : ℕ)
+    (tally : Tally) : Type 0 where
   pub kids : Children lay st q path w d lo hi tally
   pub after : After lay q path w d from to
 

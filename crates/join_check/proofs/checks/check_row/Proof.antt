@@ -19,16 +19,16 @@ use Rattle.join_check.proofs.Tallying.{Leaving, leaving-start, leaving-
 use Rattle.join_check.proofs.checks.check_row.Statement.{statement}
 use Rattle.join_check.proofs.checks.check_row.Tie as tie
 
-record RowChecking (lay : Layout) (w : List ℕ) (k e from to : ℕ) (t r : Tally) (i : ℕ) : Type 0 where
+record RowChecking (lay : Layout) (w : List ℕ) (k e from to : ℕ) (tally r : Tally) (i : ℕ) : Type 0 where
   low : from ≤ i
-  grown : checksIn r + (to - i) ≡ checksIn t + (to - from)
+  grown : checksIn r + (to - i) ≡ checksIn tally + (to - from)
   tallied :
       (q : Query) → RowThere lay q w k e from to
-      → Leaving (λ is. rowCount q is (slice i to w) k) (λ is. rowCount q is (slice from to w) k) t r
+      → Leaving (λ is. rowCount q is (slice i to w) k) (λ is. rowCount q is (slice from to w) k) tally r
 
-row-step : {lay : Layout} {w : List ℕ} {k e from to : ℕ} {t r : Tally} {i : ℕ} {p : Probe} {s : ℕ} {u : Tally}
-    → RowChecking lay w k e from to t r i → i < to → Probed lay w k e p → Word w i s → OneChecked lay w p s r u
-    → RowChecking lay w k e from to t u (i + 1)
+row-step : {lay : Layout} {w : List ℕ} {k e from to : ℕ} {tally r : Tally} {i : ℕ} {p : Probe} {s : ℕ} {u : Tally}
+    → RowChecking lay w k e from to tally r i → i < to → Probed lay w k e p → Word w i s → OneChecked lay w p s r u
+    → RowChecking lay w k e from to tally u (i + 1)
 row-step {w = w} {k = k} {to = to} {i = i} {s = s} so more probed word one-more =
     record {
       low = omega (arith, so .low);

@@ -54,7 +54,8 @@ returns c =
         c .before .word-at2 .ensures .is,
       );
       is = λ q there.
-          probe-none (start .args .e) (at-word-at .word-at .ensures) (c .before .word-at2 .ensures) (at-double-at .double-at .ensures) there
+          probe-none (start .args .e) (at-word-at .word-at .ensures) (c .before .word-at2 .ensures)
+          (at-double-at .double-at .ensures) there
           (c .if1 .taken);
     }
 
@@ -74,7 +75,8 @@ returns-2 c =
         c .before .word-at2 .ensures .is,
       );
       is = λ q there.
-          probe-some (start .args .e) (at-word-at .word-at .ensures) (c .before .word-at2 .ensures) (at-double-at .double-at .ensures) there;
+          probe-some (start .args .e) (at-word-at .word-at .ensures) (c .before .word-at2 .ensures)
+          (at-double-at .double-at .ensures) there;
     }
 
 pub probe-left-spec : {M : Type 1} → statement M

@@ -1,5 +1,5 @@
--- `join_check::seen::count_seen` meets its contract. The invariant: the count so far and that of the places still to come are the count
--- of all. The measure is how many places are still to come.
+-- `join_check::seen::count_seen` meets its contract. The invariant: the count so far and that of the places still to come are the
+-- count of all. The measure is how many places are to come.
 use mathlib.Core.Path.{_≡_, ap, _∙_}
 use mathlib.Core.List.{List}
 use mathlib.Core.Bool.{Bool}

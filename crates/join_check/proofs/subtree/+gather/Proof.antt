@@ -1,5 +1,5 @@
--- `join_check::subtree::gather`, which calls itself on each child, meets its contract. The loop's invariant is `RunsChecking`: the
--- counters, with the checks of the left sets still to come, are what they were with all. The measures: the limit less the
+-- `join_check::subtree::gather`, which calls itself on each child, meets its contract. The loop's invariant is `RunsChecking`:
+-- the counters, with the checks of the left sets still to come, are what they were with all. The measures: the limit less the
 -- depth, and how many left sets are still to come.
 use native.Mathlib.Omega.{arith}
 use Rattle.join_check.proofs.Orders.{run-left}

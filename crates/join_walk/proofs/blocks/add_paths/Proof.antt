@@ -1,4 +1,5 @@
--- `add_paths` meets its contract: each of the m left sets pairs by path with each of the c candidates, and no other counter grows.
+-- `add_paths` meets its contract: each of the m left sets pairs by path with each of the c candidates, and no other counter
+-- grows.
 use native.Mathlib.Omega.{arith}
 use borrow.Author.Needs.{needs}
 use Rattle.join_check.proofs.Tallying.{tallied-each}

@@ -1,4 +1,4 @@
--- `finish` meets its contract, by the law of part after part: each part is one left set. The measure is how many are left.
+-- `finish` meets its contract, by the law of part after part: each part is one left set. The measure is how many are to come.
 use native.Mathlib.Omega.{arith}
 use Prim.Native.Nat.{_-_}
 use mathlib.Core.Path.{refl}
@@ -32,7 +32,8 @@ returns c =
     let more = test .loop-test .taken in
     λ q path first.
     continuing-spent (test .before .loop .inv) (omega arith) (omega (arith, more))
-    (λ q path at. limit-done at more (one .finish-one .ensures q path (limit-first at more))) (c .if1 .taken) q path first .visited
+    (λ q path at. limit-done at more (one .finish-one .ensures q path (limit-first at more)))
+    (c .if1 .taken) q path first .visited
 
 add-i : tie.Need-add-i Inv-loop μ-loop
 add-i c =

@@ -1,6 +1,6 @@
 -- Node visit and child loop meet their contracts together. The measures: twice the limit less the depth for the child loop, and
 -- one more for the node visit, so that each call of the other falls. The loop is one of part after part. What each step shows
--- stands in NodeStops, NodeSteps and ChildSteps.
+-- stands in NodeStops, NodeSteps, NodeChildren, ChildSteps and ChildNodes.
 use Prim.Native.Nat.{ℕ, suc, _-_, _*_, _+_, _<_}
 use mathlib.Core.Path.{_∙_}
 use mathlib.Core.List.{List}
@@ -16,9 +16,10 @@ use Rattle.join_walk.proofs.NodeFacts.{node-path, last-read}
 use Rattle.join_walk.proofs.Asked.{some-path, some-query}
 use Rattle.join_walk.proofs.NodeStops.{goes-not, stop-there, stop-small, stop-visited}
 use Rattle.join_walk.proofs.NodeSteps.{Onward, onward-read, node-limit, limit-visited, node-run}
-use Rattle.join_walk.proofs.NodeSteps.{merged-room, all-merged, node-children, children-visited}
+use Rattle.join_walk.proofs.NodeChildren.{merged-room, all-merged, node-children, children-visited}
 use Rattle.join_walk.proofs.PartLoop.{Continuing, continuing-start, continuing-step, continuing-spent, continuing-end}
-use Rattle.join_walk.proofs.ChildSteps.{kids-run, childPath, next-node, children-done}
+use Rattle.join_walk.proofs.ChildSteps.{kids-run, childPath}
+use Rattle.join_walk.proofs.ChildNodes.{next-node, children-done}
 use Rattle.join_check.proofs.keys.run_end.Reads as run-end
 use Rattle.join_walk.proofs.blocks.add_paths.Reads as add-paths
 use Rattle.join_walk.proofs.blocks.check_block.Reads as check-block
@@ -149,7 +150,8 @@ module _ (t : ℕ) where
       (children-done (test .loop-test .taken) (end .run-end .ensures) (visit .visit-node .ensures))
       (visit .visit-node .kept .0) (calm .if1 .left)
 
-  children-same-length-2 : children-lts.Need-same-length-2 (children-callees t) (children-at t) visit-children.Post Inv-loop μ-loop
+  children-same-length-2 : children-lts.Need-same-length-2 (children-callees t) (children-at t) visit-children.Post Inv-loop
+      μ-loop
   children-same-length-2 c = c .before .loop .inv .size
 
   children-returns-2 : children-lts.Need-returns-2 (children-callees t) (children-at t) visit-children.Post Inv-loop μ-loop

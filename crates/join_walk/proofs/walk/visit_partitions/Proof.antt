@@ -1,4 +1,4 @@
--- `visit_partitions` meets its contract, by the law of part after part. The measure is how many left sets are left.
+-- `visit_partitions` meets its contract, by the law of part after part. The measure is how many left sets are to come.
 use native.Mathlib.Omega.{arith}
 use mathlib.Core.List.{[]}
 use mathlib.Core.Path.{_∙_}

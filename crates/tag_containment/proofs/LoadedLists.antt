@@ -1,0 +1,134 @@
+-- What a load that is accepted filled, by what its contract says of a call: the counts are the records', each set is the items of
+-- the record at its place, each number that record's, no number stands twice on a side, and the tag table rises as bytes.
+use mathlib.Core.Path.{_≡_, refl, sym, ap, _∙_}
+use Prim.Native.Nat.{ℕ, _+_, _<_}
+use mathlib.Core.List.{List, [], _∷_, _++_, append-assoc}
+use mathlib.Core.Bool.{true}
+use native.Mathlib.Omega.{arith}
+use lib.ListN.{length, getD, take, drop, length-append, take-append-drop}
+use lib.Seq.{getD-take, take-take}
+use Rattle.lists.specs.Lists.{distinct}
+use Rattle.lists.proofs.Mapping.{map-at}
+use Rattle.sets.specs.Collections.{setsFrom, setsOf}
+use Rattle.sets.specs.declared.Side.{Side}
+use Rattle.sets.specs.declared.Side.the-variants.{Left, Right}
+use Rattle.inputs.specs.Input.{Input, inputOf, leftSets, rightSets}
+use Rattle.tag_file.specs.declared.Loaded.{Loaded}
+use Rattle.tag_file.specs.declared.LoadAnswer.the-variants as load
+use Rattle.tag_file.specs.Reading.{readAt}
+use Rattle.tag_file.specs.Records.{records, totalLength, ofSide, allTags, tagTable, setsOfSide}
+use Rattle.tag_file.specs.Loading.{Lists, refusalOf, fileFault, numbersOf, endsFrom, join, filled, totalsOf, loadAnswer, LoadCall}
+use Rattle.tag_file.proofs.AnswerLaws.{Accepted, accepted, call-lists}
+use Rattle.tag_file.proofs.Tables.{rising-collapse}
+use Rattle.tag_round_trip.specs.Trips.{partsOf, loadedFrom}
+use Rattle.tag_round_trip.proofs.Accepted.{parts-filled}
+use Rattle.tag_round_trip.proofs.Decoding.{between-joined}
+use Rattle.tag_round_trip.proofs.Faults.{free-from, free-nil}
+use Rattle.tag_round_trip.proofs.FileRecords.{table-fit, file-fit}
+use Rattle.tag_containment.proofs.ByteOrder.{bytesBelow, tagIn, table-order}
+use Rattle.tag_containment.proofs.ItemTags.{noRecord, recordOf}
+
+-- an input made of loaded lists with these counts: the ends are those that were filled, and the items begin with those that were
+-- filled; items past them do not count
+pub record OverLoaded (loaded : Loaded) (got : Lists) (i : Input) : Type 0 where
+  pub leftEnds : i .left .ends ≡ take (loaded .«left_sets») (got .leftEnds)
+  pub leftItems : take (loaded .«left_entries») (i .left .items) ≡ take (loaded .«left_entries») (got .leftItems)
+  pub rightEnds : i .right .ends ≡ take (loaded .«right_sets») (got .rightEnds)
+  pub rightItems : take (loaded .«right_entries») (i .right .items) ≡ take (loaded .«right_entries») (got .rightItems)
+
+-- the filled parts of the lists are such an input
+pub over-parts : (loaded : Loaded) (got : Lists) (T : ℕ) → OverLoaded loaded got
+    (inputOf T (partsOf loaded got .leftEnds) (partsOf loaded got .leftItems) (partsOf loaded got .rightEnds)
+    (partsOf loaded got .rightItems))
+over-parts loaded got T =
+    record {
+      leftEnds = refl;
+      leftItems = take-take (loaded .«left_entries») (loaded .«left_entries») (got .leftItems) (omega arith);
+      rightEnds = refl;
+      rightItems = take-take (loaded .«right_entries») (loaded .«right_entries») (got .rightItems) (omega arith);
+    }
+
+-- and so are the filled ends with the whole lists of items
+pub over-whole : (loaded : Loaded) (got : Lists) (T : ℕ)
+    → OverLoaded loaded got
+    (inputOf T (partsOf loaded got .leftEnds) (got .leftItems) (partsOf loaded got .rightEnds) (got .rightItems))
+over-whole loaded got T = record { leftEnds = refl; leftItems = refl; rightEnds = refl; rightItems = refl }
+
+-- sets that were joined, whatever stands after their items
+sets-from : (before : List ℕ) (start : ℕ) (sets : List (List ℕ)) (rest : List ℕ) → length before ≡ start
+    → setsFrom start (endsFrom start sets) (before ++ (join sets ++ rest)) ≡ sets
+unfolding setsFrom endsFrom join
+sets-from before start [] rest e = refl
+sets-from before start (set ∷ sets) rest e =
+    let next : length (before ++ set) ≡ start + length set = rw (length-append, e) in
+    let again : setsFrom (start + length set) (endsFrom (start + length set) sets) (before ++ (set ++ (join sets ++ rest))) ≡ sets =
+    rw (append-assoc before set (join sets ++ rest)) at (sets-from (before ++ set) (start + length set) sets rest next) in
+    rw (append-assoc set (join sets) rest, between-joined before set (join sets ++ rest) start e, again)
+
+sets-begin : (sets : List (List ℕ)) (items : List ℕ) (n : ℕ) → take n items ≡ join sets → setsOf (endsFrom 0 sets) items ≡ sets
+sets-begin sets items n begins =
+    ap (λ (l : List ℕ). setsOf (endsFrom 0 sets) l)
+    (sym (take-append-drop n items) ∙ ap (λ (l : List ℕ). l ++ drop n items) begins)
+    ∙ sets-from [] 0 sets (drop n items) refl
+
+module _ (file : List ℕ) {lent got : Lists} {loaded : Loaded} (loads : LoadCall file lent got (load.Loaded loaded)) where
+  so : Accepted file lent loaded
+  so = accepted file lent loaded (sym (loads .answered))
+
+  -- its counts are the records'
+  pub load-counts : loaded ≡ totalsOf (records file)
+  load-counts = sym (so .counted)
+
+  -- what it filled is what the records give
+  pub load-filled : partsOf loaded got ≡ filled (records file)
+  load-filled =
+      let e : loadAnswer file lent ≡ load.Loaded loaded = sym (loads .answered) in
+      ap (partsOf loaded) (call-lists loads) ∙ ap (loadedFrom file lent) load-counts
+      ∙ parts-filled file lent (e ∙ ap (λ (c : Loaded). load.Loaded c) load-counts)
+
+  -- the sets by place of an input made of them are the records' items
+  module _ (i : Input) (over : OverLoaded loaded got i) where
+    pub load-left-sets : leftSets i ≡ setsOfSide Left (tagTable (records file)) (records file)
+    load-left-sets =
+        ap (λ (ends : List ℕ). setsOf ends (i .left .items)) (over .leftEnds ∙ ap (λ (p : Lists). p .leftEnds) load-filled)
+        ∙ sets-begin (setsOfSide Left (tagTable (records file)) (records file)) (i .left .items) (loaded .«left_entries»)
+        (over .leftItems ∙ ap (λ (p : Lists). p .leftItems) load-filled)
+
+    pub load-right-sets : rightSets i ≡ setsOfSide Right (tagTable (records file)) (records file)
+    load-right-sets =
+        ap (λ (ends : List ℕ). setsOf ends (i .right .items)) (over .rightEnds ∙ ap (λ (p : Lists). p .rightEnds) load-filled)
+        ∙ sets-begin (setsOfSide Right (tagTable (records file)) (records file)) (i .right .items) (loaded .«right_entries»)
+        (over .rightItems ∙ ap (λ (p : Lists). p .rightItems) load-filled)
+
+  -- the number at a place is the record's
+  number-at : (side : Side) (numbers : List ℕ) (n k : ℕ) → take n numbers ≡ numbersOf side (records file)
+      → n ≡ length (ofSide side (records file)) → k < n → getD numbers k 0 ≡ recordOf side (records file) k .number
+  number-at side numbers n k same many within =
+      sym (getD-take n numbers k 0 within) ∙ ap (λ (l : List ℕ). getD l k 0) same
+      ∙ map-at (λ r. r .number) (ofSide side (records file)) k noRecord 0 (omega arith)
+
+  pub load-left-number : (l : ℕ) → l < loaded .«left_sets» → getD (got .leftNumbers) l 0 ≡ recordOf Left (records file) l .number
+  load-left-number l within =
+      number-at Left (got .leftNumbers) (loaded .«left_sets») l (ap (λ (p : Lists). p .leftNumbers) load-filled)
+      (ap (λ (c : Loaded). c .«left_sets») load-counts) within
+
+  pub load-right-number : (r : ℕ) → r < loaded .«right_sets»
+      → getD (got .rightNumbers) r 0 ≡ recordOf Right (records file) r .number
+  load-right-number r within =
+      number-at Right (got .rightNumbers) (loaded .«right_sets») r (ap (λ (p : Lists). p .rightNumbers) load-filled)
+      (ap (λ (c : Loaded). c .«right_sets») load-counts) within
+
+  -- no number stands twice on a side, so a number tells its record
+  pub load-numbers-distinct : (side : Side) → distinct (numbersOf side (records file)) ≡ true
+  unfolding fileFault
+  load-numbers-distinct side =
+      free-from [] (records file) (refusalOf (readAt file (totalLength (records file)))) free-nil (so .clear) .0 .numbers side
+
+  -- the tag of a lesser item is below that of a greater one, as unsigned bytes
+  pub load-tags-rise : ((i : ℕ) → getD file i 0 < 256) → (i j : ℕ) → i < j → j < loaded .tags
+      → bytesBelow (tagIn (partsOf loaded got .tags) i) (tagIn (partsOf loaded got .tags) j) ≡ true
+  load-tags-rise low i j less within =
+      let rs = records file in
+      let many : loaded .tags ≡ length (tagTable rs) = ap (λ (c : Loaded). c .tags) load-counts in
+      ap (λ (l : Lists). bytesBelow (tagIn (l .tags) i) (tagIn (l .tags) j)) load-filled
+      ∙ table-order (tagTable rs) (rising-collapse (allTags rs)) (table-fit rs (file-fit file low)) i j less (omega arith)
