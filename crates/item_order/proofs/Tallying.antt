@@ -21,7 +21,8 @@ pub record CountingOccurrences (xs was is : List ℕ) (i n : ℕ) : Type 0 where
 pub tally-start : (xs was : List ℕ) → CountingOccurrences xs was was 0 (length xs)
 tally-start xs was = record { same = refl; whole = refl; within = omega arith; together = λ k. refl }
 
-pub tally-index : {xs was is : List ℕ} {i n : ℕ} → CanTally xs was → CountingOccurrences xs was is i n → i < n → getD xs i 0 < length is
+pub tally-index : {xs was is : List ℕ} {i n : ℕ} → CanTally xs was → CountingOccurrences xs was is i n → i < n
+    → getD xs i 0 < length is
 tally-index {xs} {was} {is} {i} pre inv below =
     omega (arith, ltb-true (getD xs i 0) (length was) (all-at (λ x. ltb x (length was)) 0 xs (pre .below) i (omega arith)))
 

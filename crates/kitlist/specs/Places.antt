@@ -9,6 +9,13 @@ use Rattle.sets.specs.Limits.{maxItems}
 use Rattle.tag_file.specs.Format.{tagLength}
 use Rattle.tag_file.specs.declared.Loaded.{Loaded}
 
+-- the depth limit and the budget of the join
+abbrev pub depthLimit : ℕ
+depthLimit = 2
+
+abbrev pub greatestBudget : ℕ
+greatestBudget = 4294967295
+
 -- the words of the work list, and the places of the pair list
 abbrev pub workWords : ℕ
 workWords = 16384

@@ -129,7 +129,8 @@ module _ (rs : List TagRecord) where
       (all-keep (λ r. leb (length (r .tags)) maxSetLength) (λ r. sameSide side (r .side)) rs few)) in
       let numbered : length (numbersOf side rs) ≡ length (endsOf side rs) =
       length-numbersOf side rs ∙ sym (length-endsOf side rs) in
-      sym (side-even (length table) side (numbersOf side rs) (endsOf side rs) (joinedItems side rs) (ap (noBadSet side) good) numbered)
+      sym (side-even (length table) side (numbersOf side rs) (endsOf side rs) (joinedItems side rs)
+      (ap (noBadSet side) good) numbered)
 
   pub lists-records : tagsFit (tagTable rs) ≡ true → recordsOfLists (filled rs) ≡ rewritten rs
   unfolding rewritten

@@ -46,7 +46,8 @@ side-fit : (side : Side) (tags numbers : List ℕ) (sets : List (List ℕ)) → 
 unfolding all sideRecords
 side-fit side tags [] sets low = refl
 side-fit side tags (number ∷ numbers) [] low = refl
-side-fit side tags (number ∷ numbers) (set ∷ sets) low = and-both (itemTags-fit tags low set) (side-fit side tags numbers sets low)
+side-fit side tags (number ∷ numbers) (set ∷ sets) low =
+    and-both (itemTags-fit tags low set) (side-fit side tags numbers sets low)
 
 module _ (l : Lists) where
   lists-bytes : fileBytes l ≡ bytesOfRecords (recordsOfLists l)

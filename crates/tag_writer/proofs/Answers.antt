@@ -70,7 +70,8 @@ within room bytes n e h = rw (e, le-ltb room n h)
 pub short : (room : ℕ) (bytes : List ℕ) (n : ℕ) → length bytes ≡ n → room < n → Refused ShortOutput ≡ writtenWithin room bytes
 short room bytes n e h = rw (e, lt-ltb room n h)
 
-pub answer-passed : (T : ℕ) (l : Lists) (room : ℕ) → listsTest T l ≡ Passed → writtenWithin room (fileBytes l) ≡ writeAnswer T l room
+pub answer-passed : (T : ℕ) (l : Lists) (room : ℕ) → listsTest T l ≡ Passed
+    → writtenWithin room (fileBytes l) ≡ writeAnswer T l room
 unfolding writeAnswer
 answer-passed T l room passed = rw passed
 

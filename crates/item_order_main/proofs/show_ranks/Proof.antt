@@ -1,4 +1,5 @@
--- `item_order_main::show_ranks` is safe and ends: the invariant says that i is within the list. The measure is what is left of it.
+-- `item_order_main::show_ranks` is safe and ends: the invariant says that i is within the list. The measure is what is left of
+-- it.
 use mathlib.Core.Path.{_≡_}
 use Prim.Native.Nat.{_-_, _≤_}
 use native.Mathlib.Omega.{arith}

@@ -9,6 +9,7 @@ use Rattle.join_spec.specs.declared.Counts.{Counts}
 use Rattle.join_spec.specs.declared.Rule.the-variants.{Merge}
 use Rattle.join_spec.specs.declared.JoinAnswer.the-variants.{Joined}
 use Rattle.join_spec.specs.Query.{Settings, settingsOf}
+use Rattle.kitlist.specs.Places.{depthLimit, greatestBudget}
 use Rattle.kitlist.proofs.PairPlaces.{places-enough, places-within}
 use borrow.Author.Needs.{needs}
 use Rattle.kitlist.proofs.list_ordered.Statement.{statement}
@@ -24,7 +25,7 @@ input p =
     inputOf (a .t) (a .left-ends .now) (a .left-items .now) (a .right-ends .now) (a .right-items .now)
 
 abbrev asked : tie.After-run → Settings
-asked p = settingsOf 2 (start p .args .ranks .now) 4294967295 Merge
+asked p = settingsOf depthLimit (start p .args .ranks .now) greatestBudget Merge
 
 -- an accepted join's pairs lie within the pair list
 enough : (p : tie.After-run) (counts : Counts) → p .run .result ≡ Joined counts

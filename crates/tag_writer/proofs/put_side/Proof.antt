@@ -23,7 +23,8 @@ use Rattle.tag_writer.proofs.put_side.Tie as tie
 abbrev rest : Side → List ℕ → List ℕ → List ℕ → List ℕ → ℕ → ℕ → List ℕ
 rest side tags numbers ends items k start = recordsOf side tags (drop k numbers) (setsFrom start (drop k ends) items)
 
-record PuttingRecords (side : Side) (tags numbers ends items file₀ : List ℕ) (at : ℕ) (file : List ℕ) (k start to : ℕ) : Type 0 where
+record PuttingRecords (side : Side) (tags numbers ends items file₀ : List ℕ) (at : ℕ) (file : List ℕ)
+    (k start to : ℕ) : Type 0 where
   within : k ≤ length ends
   long : length file ≡ length file₀
   good : firstBadFrom (length tags / tagLength) k start (drop k ends) items ≡ Good
@@ -108,8 +109,8 @@ abbrev begin : tie.In-loop Inv-loop μ-loop → tie.Start Inv-loop μ-loop
 begin p = p .before .before .before .before .before .before .before
 
 now-turn : (p : tie.In-loop Inv-loop μ-loop)
-    → Turn (begin p .args .tags .now) (begin p .args .items .now) (p .before .loop .file) (p .before .loop .k) (p .before .loop .start)
-    (getD (begin p .args .ends .now) (p .before .loop .k) 0) (p .before .loop .to)
+    → Turn (begin p .args .tags .now) (begin p .args .items .now) (p .before .loop .file) (p .before .loop .k)
+    (p .before .loop .start) (getD (begin p .args .ends .now) (p .before .loop .k) 0) (p .before .loop .to)
 now-turn p = turn _ _ _ _ _ _ _ _ _ _ _ (begin p .pre .0) (begin p .pre .1) (p .loop-test .taken) (p .before .loop .inv)
 
 -- the turn after its record was put

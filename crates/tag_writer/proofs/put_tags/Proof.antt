@@ -28,7 +28,8 @@ record PuttingTags (tags items : List ℕ) (start end : ℕ) (file₀ : List ℕ
 
 putting-start : (tags items : List ℕ) (start end : ℕ) (file : List ℕ) (at : ℕ) → start ≤ end
     → PuttingTags tags items start end file at file start at
-putting-start tags items start end file at h = record { above = omega arith; within = h; long = refl; place = refl; together = refl }
+putting-start tags items start end file at h =
+    record { above = omega arith; within = h; long = refl; place = refl; together = refl }
 
 putting-step : (tags items : List ℕ) (start end : ℕ) (file₀ : List ℕ) (at : ℕ) (file : List ℕ) (i to : ℕ) (file′ : List ℕ)
     → ItemsFit tags items start end → at + tagLength * (end - start) ≤ length file₀ → ((k : ℕ) → getD tags k 0 < 256)

@@ -27,8 +27,8 @@ abbrev earlier : tie.After-test-numbered → tie.After-test-table
 earlier p = p .before .before .before
 
 left : (p : tie.After-test-numbered)
-    → numberedTest (start (earlier p) .args .t) Left (lists (start (earlier p)) .leftNumbers) (lists (start (earlier p)) .leftEnds)
-    (lists (start (earlier p)) .leftItems) ≡ p .test-numbered .result
+    → numberedTest (start (earlier p) .args .t) Left (lists (start (earlier p)) .leftNumbers)
+    (lists (start (earlier p)) .leftEnds) (lists (start (earlier p)) .leftItems) ≡ p .test-numbered .result
 left p = sym (p .test-numbered .ensures)
 
 test-table-requires : tie.Need-test-table-requires

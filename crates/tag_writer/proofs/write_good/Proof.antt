@@ -55,7 +55,8 @@ returns : tie.Need-returns
 returns c =
     let sizes = c .before .before .before .before .before in
     let s = start sizes in (
-      short (length (s .args .file .now)) (fileBytes (lists s)) _ (file-long sizes) (c .before .before .before .before .if1 .taken),
+      short (length (s .args .file .now)) (fileBytes (lists s)) _ (file-long sizes)
+          (c .before .before .before .before .if1 .taken),
       c .before .before .zero-u8 .ensures,
     )
 
