@@ -53,7 +53,8 @@ length-bytesOf (suc n) v = length-append (bytesOf n (v / 256)) (v % 256 ∷ []) 
 pub length-tagBytes : (tags : List ℕ) → length (tagBytes tags) ≡ tagLength * length tags
 unfolding tagBytes
 length-tagBytes [] = refl
-length-tagBytes (t ∷ ts) = length-append (bytesOf tagLength t) (tagBytes ts) ∙ omega (arith, length-bytesOf tagLength t, length-tagBytes ts)
+length-tagBytes (t ∷ ts) =
+    length-append (bytesOf tagLength t) (tagBytes ts) ∙ omega (arith, length-bytesOf tagLength t, length-tagBytes ts)
 
 length-endsFrom : (start : ℕ) (sets : List (List ℕ)) → length (endsFrom start sets) ≡ length sets
 unfolding endsFrom

@@ -1,5 +1,5 @@
-// Named vectors through the loader of tag files: each has a line with its name and the answer, then a line with the seven lists, which
-// hold EE, 77 and 99 before the call. `stdout` has what document 01 says.
+// Named vectors through the loader of tag files: each has a line with its name and the answer, then a line with the seven lists,
+// which hold EE, 77 and 99 before the call. `stdout` has what document 01 says.
 use sets::Refusal;
 use sets::head_of;
 use tag_file::LoadAnswer;

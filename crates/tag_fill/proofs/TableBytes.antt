@@ -28,7 +28,8 @@ pub record PuttingBytes (was : List ℕ) (at width number : ℕ) (is : List ℕ)
 pub putting-start : (was : List ℕ) (at width number : ℕ) → PuttingBytes was at width number was number width
 putting-start was at width number = record { written = refl; within = omega arith; same = refl }
 
-module _ {was : List ℕ} {at width number : ℕ} {is : List ℕ} {rest left : ℕ} (b : PuttingBytes was at width number is rest left) where
+module _ {was : List ℕ} {at width number : ℕ} {is : List ℕ} {rest left : ℕ}
+    (b : PuttingBytes was at width number is rest left) where
   pub putting-step : 0 < left → PuttingBytes was at width number (set is (at + (left - 1)) (rest % 256)) (rest / 256) (left - 1)
   unfolding bytesOf
   putting-step some =

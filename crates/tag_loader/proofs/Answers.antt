@@ -38,7 +38,8 @@ call-refused why is zeros e z =
       rightItems = rw (is, zeros) (z .right .items-zero);
     }
 
-refused-fault : (t : Tested) (x : Loaded) (why : Refusal) → unless load.Refused t (load.Loaded x) ≡ load.Refused why → t ≡ Failed why
+refused-fault : (t : Tested) (x : Loaded) (why : Refusal) → unless load.Refused t (load.Loaded x) ≡ load.Refused why
+    → t ≡ Failed why
 refused-fault Passed x why e = let z : _≡_ {A = ℕ} 0 1 = cc in absurd (omega arith)
 refused-fault (Failed w) x why e = ap Failed cc
 

@@ -43,7 +43,8 @@ same-key Left Left m n hm hn =
 same-key Left Right m n hm hn = ne-eqb (halfWords + n) m (λ e. omega arith)
 same-key Right Left m n hm hn = ne-eqb n (halfWords + m) (λ e. omega arith)
 same-key Right Right m n hm hn =
-    same-test (eqb (halfWords + n) (halfWords + m)) (eqb m n) (λ t. eq-eqb m n (omega (arith, eqb-true (halfWords + n) (halfWords + m) t)))
+    same-test (eqb (halfWords + n) (halfWords + m)) (eqb m n)
+    (λ t. eq-eqb m n (omega (arith, eqb-true (halfWords + n) (halfWords + m) t)))
     (λ t. eq-eqb (halfWords + n) (halfWords + m) (omega (arith, eqb-true m n t)))
 
 pub noted-step : {used is : List ℕ} {seen : List TagRecord} (r : TagRecord) → r .number < halfWords → Noted used seen

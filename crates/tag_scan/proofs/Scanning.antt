@@ -13,7 +13,7 @@ use Rattle.sets.specs.Limits.{maxSetLength, halfWords}
 use Rattle.sets.specs.Refusals.{rowOf, unless}
 use Rattle.sets.specs.declared.Side.{Side}
 use Rattle.sets.specs.declared.Refusal.{Refusal}
-use Rattle.sets.specs.declared.Refusal.the-variants.{NumberUsed, TooMany}
+use Rattle.sets.specs.declared.Refusal.the-variants.{Malformed, NumberUsed, TooMany}
 use Rattle.sets.specs.declared.Tested.{Tested}
 use Rattle.sets.specs.declared.Tested.the-variants.{Passed, Failed}
 use Rattle.tag_file.specs.declared.Loaded.{Loaded}
@@ -113,7 +113,8 @@ module _ {earlier : List TagRecord} {file used heads tails order places : List �
       told (Record side n c p next) e why same = let z : _≡_ {A = ℕ} 0 1 = cc in absurd (omega arith)
       told NoMore e why same = let z : _≡_ {A = ℕ} 0 1 = cc in absurd (omega arith)
       told (Refused w) e why same =
-          subst (λ (q : Refusal). rowOf q .first ≤ length file) (sym (read-refused file at w e) ∙ same-refusal w why same) (s .within)
+          let is : Malformed at ≡ why = sym (read-refused file at w e) ∙ same-refusal w why same in
+          subst (λ (q : Refusal). rowOf q .first ≤ length file) is (s .within)
 
   -- the record here: its number was used, it passes a limit, or it is taken in
   module _ {side : Side} {n c p next : ℕ} (e : readAt file at ≡ Record side n c p next) where

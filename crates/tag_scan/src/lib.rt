@@ -124,7 +124,8 @@ fn scan_file(
     hints: &mut [u16; HINT_SLOTS],
 ) -> LoadAnswer
     requires { ⌜ SomeTaken before (now heads) (now tails) (now order) ⌝ }
-    ensures { λ r. ⌜ ((earlier : List TagRecord) → Taken earlier before (now (heads .entry)) (now (tails .entry)) (now (order .entry))
+    ensures { λ r. ⌜ ((earlier : List TagRecord)
+        → Taken earlier before (now (heads .entry)) (now (tails .entry)) (now (order .entry))
         → ScannedAfter earlier (now (file .entry)) (now (heads .exit)) (now (tails .exit)) (now (order .exit)) r) ⌝ }
 {
     let mut used = [0u64; USED_WORDS];
@@ -186,7 +187,8 @@ pub fn scan_on(
 ) -> LoadAnswer
     requires { ⌜ SomeTaken before (now heads) (now tails) (now order) ⌝ }
     requires { ⌜ base + length (now file) ≤ 18446744073709551615 ⌝ }
-    ensures { λ r. ⌜ ((earlier : List TagRecord) → Taken earlier before (now (heads .entry)) (now (tails .entry)) (now (order .entry))
+    ensures { λ r. ⌜ ((earlier : List TagRecord)
+        → Taken earlier before (now (heads .entry)) (now (tails .entry)) (now (order .entry))
         → ScannedOn earlier base (now (file .entry)) (now (heads .exit)) (now (tails .exit)) (now (order .exit)) r) ⌝ }
 {
     let answer = scan_file(file, before, heads, tails, order, hints);

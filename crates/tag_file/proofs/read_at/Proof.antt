@@ -8,6 +8,16 @@ use borrow.Author.Needs.{needs}
 use Rattle.tag_file.proofs.read_at.Statement.{statement}
 use Rattle.tag_file.proofs.read_at.Tie as tie
 
+-- after both bytes of the mark were read
+abbrev start : tie.After-byte-at2 → tie.Start
+start q = q .before .before .before .before .before .before
+
+first-low : (q : tie.After-byte-at2) → getD (start q .args .file .now) (start q .args .at) 0 < 256
+first-low q = omega (arith, q .before .byte-at .ensures .is, q .before .byte-at .ensures .byte)
+
+second-low : (q : tie.After-byte-at2) → getD (start q .args .file .now) (start q .args .at + 1) 0 < 256
+second-low q = omega (arith, q .byte-at2 .ensures .is, q .byte-at2 .ensures .byte)
+
 returns : tie.Need-returns
 returns c =
     let a = c .before .before .args in
@@ -43,43 +53,32 @@ record-at-requires c κs = search needs
 
 returns-4 : tie.Need-returns-4
 returns-4 c =
-    let a = c .before .before .before .before .before .before .before .before .args in
-    let one = c .before .before .before .byte-at .ensures in
-    let two = c .before .before .byte-at2 .ensures in
-    let file = a .file .now in
-    let at = a .at in
-    let first : getD file at 0 < 256 = omega (arith, one .is, one .byte) in
-    let second : getD file (at + 1) 0 < 256 = omega (arith, two .is, two .byte) in
+    let q = c .before .before in
+    let a = start q .args in
     c .record-at .ensures
-    ∙ sym (read-left file at (omega arith) first second (omega (arith, one .is, two .is, c .before .if4 .taken)))
+    ∙ sym (read-left (a .file .now) (a .at) (omega arith) (first-low q) (second-low q)
+    (omega (arith, q .before .byte-at .ensures .is, q .byte-at2 .ensures .is, c .before .if4 .taken)))
 
 record-at-requires-2 : tie.Need-record-at-requires-2
 record-at-requires-2 c κs = search needs
 
 returns-5 : tie.Need-returns-5
 returns-5 c =
-    let a = c .before .before .before .before .before .before .before .before .before .args in
-    let one = c .before .before .before .before .byte-at .ensures in
-    let two = c .before .before .before .byte-at2 .ensures in
-    let file = a .file .now in
-    let at = a .at in
-    let first : getD file at 0 < 256 = omega (arith, one .is, one .byte) in
-    let second : getD file (at + 1) 0 < 256 = omega (arith, two .is, two .byte) in
+    let q = c .before .before .before in
+    let a = start q .args in
     c .record-at2 .ensures
-    ∙ sym (read-right file at (omega arith) first second (omega (arith, one .is, two .is, c .before .if5 .taken)))
+    ∙ sym (read-right (a .file .now) (a .at) (omega arith) (first-low q) (second-low q)
+    (omega (arith, q .before .byte-at .ensures .is, q .byte-at2 .ensures .is, c .before .if5 .taken)))
 
 returns-6 : tie.Need-returns-6
 returns-6 c =
-    let a = c .before .before .before .before .before .before .before .before .args in
-    let one = c .before .before .before .byte-at .ensures in
-    let two = c .before .before .byte-at2 .ensures in
-    let file = a .file .now in
-    let at = a .at in
-    let first : getD file at 0 < 256 = omega (arith, one .is, one .byte) in
-    let second : getD file (at + 1) 0 < 256 = omega (arith, two .is, two .byte) in
+    let q = c .before .before in
+    let a = start q .args in
+    let one = q .before .byte-at .ensures .is in
+    let two = q .byte-at2 .ensures .is in
     sym
-    (read-other file at (omega arith) first second (λ e. c .before .if4 .left (omega (arith, one .is, two .is)))
-    (λ e. c .if5 .left (omega (arith, one .is, two .is))))
+    (read-other (a .file .now) (a .at) (omega arith) (first-low q) (second-low q)
+    (λ e. c .before .if4 .left (omega (arith, one, two))) (λ e. c .if5 .left (omega (arith, one, two))))
 
 pub read-at-spec : {M : Type 1} → statement M
 read-at-spec =

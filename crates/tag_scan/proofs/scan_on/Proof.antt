@@ -27,7 +27,8 @@ returns c =
 returns-2 : tie.Need-returns-2
 returns-2 c =
     let scanned = c .before .before .before .before in
-    λ earlier taken. on-refused (scanned .scan-file .ensures earlier taken) _ (c .before .before .answer2 .given .1) (c .moved .ensures)
+    λ earlier taken.
+    on-refused (scanned .scan-file .ensures earlier taken) _ (c .before .before .answer2 .given .1) (c .moved .ensures)
 
 pub scan-on-spec : {M : Type 1} → statement M
 scan-on-spec =
