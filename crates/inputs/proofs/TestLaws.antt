@@ -12,6 +12,7 @@ use lib.Seq.{take-length}
 use Rattle.sets.specs.Limits.{maxItems}
 use Rattle.sets.specs.Collections.{Collection, between, goodItems, firstBad}
 use Rattle.sets.specs.Refusals.{refuseIf, noBadSet, unless, clears}
+use Rattle.sets.proofs.Testing.{both-passed, refuse-passed, failed-same}
 use Rattle.sets.proofs.Good.{good-places, good-entries}
 use Rattle.sets.specs.declared.Side.{Side}
 use Rattle.sets.specs.declared.Side.the-variants.{Left, Right}
@@ -24,15 +25,6 @@ use Rattle.sets.specs.declared.Tested.the-variants.{Passed, Failed}
 use Rattle.inputs.specs.Input.{Input}
 use Rattle.inputs.specs.Inner.{Sized}
 use Rattle.inputs.specs.Tests.{sideTest, setsTest, loneTest, workTest, wordsFor, wordsNeeded}
-
--- tests in a row pass exactly where each does
-pub both-passed : (a b : Tested) → unless Failed a b ≡ Passed → (a ≡ Passed) × (b ≡ Passed)
-both-passed Passed b e = (refl, e)
-both-passed (Failed why) b e = let z : _≡_ {A = ℕ} 0 1 = cc in absurd (omega arith)
-
-pub refuse-passed : (wrong : Bool) (why : Refusal) → refuseIf wrong why ≡ Passed → wrong ≡ false
-refuse-passed true why e = let z : _≡_ {A = ℕ} 0 1 = cc in absurd (omega arith)
-refuse-passed false why e = refl
 
 -- a test by what it finds
 module _ (T : ℕ) (side : Side) (c : Collection) where
@@ -84,9 +76,6 @@ sized i few good =
     }
 
 -- the tests of the sets and of the work list refuse with 5 and 7 alone, which leave every list as it was
-pub failed-same : (a b : Refusal) → Failed a ≡ Failed b → a ≡ b
-failed-same a b e = cc
-
 pub sets-keep : (i : Input) (why : Refusal) → setsTest i ≡ Failed why → clears why ≡ false
 unfolding setsTest
 sets-keep i why =

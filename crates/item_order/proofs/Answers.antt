@@ -16,7 +16,8 @@ use Rattle.sets.specs.declared.Tested.{Tested}
 use Rattle.sets.specs.declared.Tested.the-variants.{Passed, Failed}
 use Rattle.inputs.specs.Input.{Input, leftSets, rightSets}
 use Rattle.inputs.specs.Tests.{itemsTest, setsTest}
-use Rattle.inputs.proofs.TestLaws.{both-passed, refuse-passed, sets-good, sets-keep, failed-same}
+use Rattle.sets.proofs.Testing.{both-passed, refuse-passed, failed-same}
+use Rattle.inputs.proofs.TestLaws.{sets-good, sets-keep}
 use Rattle.item_order.specs.declared.OrderAnswer.{OrderAnswer}
 use Rattle.item_order.specs.declared.OrderAnswer.the-variants.{Ordered, Refused}
 use Rattle.item_order.specs.Order.{lengthTest, orderTest, orderAnswer, orderRanks, ranksAfter, rankTable, OrderCall}

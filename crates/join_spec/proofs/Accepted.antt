@@ -15,8 +15,8 @@ use Rattle.sets.specs.declared.Tested.{Tested}
 use Rattle.sets.specs.declared.Tested.the-variants.{Passed, Failed}
 use Rattle.inputs.specs.Input.{Input, leftSets, rightSets}
 use Rattle.inputs.specs.Tests.{setsTest, wordsNeeded, workTest}
-use Rattle.inputs.proofs.TestLaws.{BothGood, both-passed, refuse-passed, sets-good, good-sets, work-enough, enough-work}
-use Rattle.inputs.proofs.TestLaws.{sets-keep, work-keep, failed-same}
+use Rattle.sets.proofs.Testing.{both-passed, refuse-passed, failed-same}
+use Rattle.inputs.proofs.TestLaws.{BothGood, sets-good, good-sets, work-enough, enough-work, sets-keep, work-keep}
 use Rattle.join_spec.specs.declared.Counts.{Counts}
 use Rattle.join_spec.specs.declared.JoinAnswer.{JoinAnswer}
 use Rattle.join_spec.specs.declared.JoinAnswer.the-variants.{Joined, Refused}

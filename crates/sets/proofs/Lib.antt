@@ -19,3 +19,5 @@ pub mod Rises
 pub mod Signatures
 -- the words of a refusal
 pub mod Words
+-- tests one after the other
+pub mod Testing

@@ -4,8 +4,8 @@ use Prim.Native.Nat.{ℕ}
 use mathlib.Core.Path.{_≡_, refl, sym, ap, _∙_}
 use mathlib.Core.List.{List, [], _∷_, _++_}
 use mathlib.Core.Bool.{Bool, true, false}
-use native.Mathlib.Omega.{arith}
 use Rattle.sets.specs.Refusals.{clears, refuseIf, unless}
+use Rattle.sets.proofs.Testing.{both-passed, refuse-passed}
 use Rattle.sets.specs.declared.Refusal.{Refusal}
 use Rattle.sets.specs.declared.Refusal.the-variants.{NumberUsed, TooMany}
 use Rattle.sets.specs.declared.Tested.{Tested}
@@ -16,16 +16,6 @@ use Rattle.tag_file.specs.Loading.{numberUsed, tooMany, faultOf, firstFa
 use Rattle.tag_file.specs.declared.ReadAnswer.{ReadAnswer}
 use Rattle.tag_file.specs.declared.ReadAnswer.the-variants.{Record, NoMore, Refused}
 use Rattle.tag_file.proofs.ReadLaws.{read-refused}
-
--- two tests are passed where both are
-pub both-passed : (first later : Tested) → unless Failed first later ≡ Passed → (first ≡ Passed) × (later ≡ Passed)
-both-passed Passed later e = (refl, e)
-both-passed (Failed why) later e = let z : _≡_ {A = ℕ} 0 1 = cc in absurd (omega arith)
-
--- nothing was wrong where a test is passed
-right-passed : (wrong : Bool) (why : Refusal) → refuseIf wrong why ≡ Passed → wrong ≡ false
-right-passed true why e = let z : _≡_ {A = ℕ} 0 1 = cc in absurd (omega arith)
-right-passed false why e = refl
 
 module _ (seen : List TagRecord) (r : TagRecord) where
   pub fault-used : numberUsed seen r ≡ true → faultOf seen r ≡ Failed (NumberUsed (totalLength seen))
@@ -47,8 +37,8 @@ module _ (seen : List TagRecord) (r : TagRecord) where
       let used = refuseIf (numberUsed seen r) (NumberUsed (totalLength seen)) in
       let many = refuseIf (tooMany (r .side) (seen ++ (r ∷ []))) (TooMany (totalLength seen)) in
       let both = both-passed used many e in (
-        right-passed (numberUsed seen r) (NumberUsed (totalLength seen)) (both .0),
-        right-passed (tooMany (r .side) (seen ++ (r ∷ []))) (TooMany (totalLength seen)) (both .1),
+        refuse-passed (numberUsed seen r) (NumberUsed (totalLength seen)) (both .0),
+        refuse-passed (tooMany (r .side) (seen ++ (r ∷ []))) (TooMany (totalLength seen)) (both .1),
       )
 
 -- ---- a fault makes zeros

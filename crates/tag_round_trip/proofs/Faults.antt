@@ -21,7 +21,8 @@ use Rattle.sets.specs.declared.Tested.{Tested}
 use Rattle.sets.specs.declared.Tested.the-variants.{Passed}
 use Rattle.tag_file.specs.Records.{TagRecord, sameSide, ofSide, insertAll, allTags, tagTable, entriesOf}
 use Rattle.tag_file.specs.Loading.{numberUsed, tooMany, faultOf, firstFault, numbersOf}
-use Rattle.tag_file.proofs.FaultLaws.{both-passed, fault-none, fault-clear}
+use Rattle.sets.proofs.Testing.{both-passed}
+use Rattle.tag_file.proofs.FaultLaws.{fault-none, fault-clear}
 use Rattle.tag_file.proofs.Tables.{insertAll-append, rising-collapse}
 use Rattle.tag_file.proofs.RecordLaws.{same-side}
 use Rattle.tag_round_trip.specs.Rewritten.{rewritten}

@@ -19,7 +19,7 @@ use Rattle.sets.specs.declared.Refusal.the-variants.{ShortOutput, BadSet, BadSe
 use Rattle.sets.specs.declared.Tested.{Tested}
 use Rattle.sets.specs.declared.Tested.the-variants.{Passed, Failed}
 use Rattle.inputs.specs.Tests.{itemsTest, sideTest}
-use Rattle.inputs.proofs.TestLaws.{both-passed, refuse-passed, failed-same}
+use Rattle.sets.proofs.Testing.{both-passed, refuse-passed, failed-same}
 use Rattle.tag_file.specs.Format.{tagLength}
 use Rattle.tag_file.specs.Loading.{Lists}
 use Rattle.tag_writer.specs.Room.{GoodSide, GoodLists}
