@@ -41,8 +41,9 @@ enum { KITFINDER_MERGE = 0, KITFINDER_CHECK = 1, KITFINDER_WEIGHED = 2 };
 /* Lists every pair of a kit and a stack that contains it: two places a pair, kit then stack, rising by kit, then stack.
  * t items; limit 1 to 255; ranks: a permutation of 0 .. t-1 by item; budget: the allowance of checks; rule: one of the three
  * above, with the weights a, b, g and h of KITFINDER_WEIGHED. The work list needs 16n + 64 words, where n is the number of kits,
- * stacks, their items and t; its content is free where the call is accepted. The pair list needs two places a pair and stays as it
- * was beyond them. Refuses with 5 to 9.
+ * stacks, their items and t. It is the sole undecided result: its length stays, and after 5, 6 and 7 its content too; where the
+ * call is accepted, and after 8 and 9, its content is free. The pair list needs two places a pair and stays as it was beyond them.
+ * Refuses with 5 to 9.
  * answer[3] pairs, [4] by path, [5] confirmed, [6] checks, [7] dropped, [8] false. */
 void kitfinder_join(uint32_t t,
                     const uint32_t *left_ends, size_t left_ends_len,

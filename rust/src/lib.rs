@@ -130,6 +130,7 @@ fn accepted(answer: &[u64]) -> Result<(), Refusal> {
 }
 
 /// Lists every pair of a left set and a right set that contains it: two places a pair, rising by left, then right.
+/// The work list is the sole undecided result: kept after `BadSet`, `BadSettings` and `ShortWork`, else its content is free.
 pub fn join(query: &Query, work: &mut [u32], pairs: &mut [u16]) -> Result<Counts, Refusal> {
     let (rule, w) = match query.rule {
         Rule::Merge => (0, Weights { a: 0.0, b: 0.0, g: 0.0, h: 0.0 }),
