@@ -1,8 +1,8 @@
 // The static library for C and Rust: thin exported functions, each over one proved operation. Names, parameters and answer words
-// are those of include/kitfinder.h; what the words hold is defined in specs/.
+// are those of include/kitfinder.h; what the words hold is defined with each operation's answer.
 use join_spec::Weights;
 ghost use mathlib.Core.Path.{_≡_};
-ghost use mathlib.Core.Bool.{true, not};
+ghost use mathlib.Core.Bool.{not};
 ghost use lib.Dec.{eqb};
 ghost use lib.ListN.{length};
 ghost use Rattle.tag_file.specs.Reading.{readAt, readWords};

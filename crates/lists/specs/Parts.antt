@@ -1,4 +1,4 @@
--- A list of words of which only a part may change: the frame that the functions on a lent work list state.
+-- Inner: a list of words of which only a part may change: the frame that the functions on a lent work list state.
 use Prim.Native.Nat.{ℕ}
 use mathlib.Core.Path.{_≡_}
 use mathlib.Core.List.{List}

@@ -1,4 +1,4 @@
--- Numbers written into a lent list from a place on: what the functions that write ask and promise.
+-- Inner: numbers written into a lent list from a place on: what the functions that write ask and promise.
 use Prim.Native.Nat.{ℕ, _+_, _≤_}
 use mathlib.Core.Path.{_≡_}
 use mathlib.Core.List.{List}
