@@ -22,7 +22,7 @@ use Rattle.sets.proofs.Signatures.{contained-not-dropped}
 use Rattle.join_spec.specs.Query.{Query, inOrder}
 use Rattle.join_spec.specs.Node.{seen}
 use Rattle.join_spec.specs.Walk.{Ending, merged, checkedAfter, isCandidate, outcomeAfter, endingIn, outcome}
-use Rattle.join_spec.specs.Walk.{notMet, byPath, dropped, falseDrop, confirmed}
+use Rattle.join_spec.specs.Walk.{notMet, byPath, dropped, falseDrop, confirmed, check}
 use Rattle.join_spec.specs.Counting.{isByPath, isConfirmed}
 
 -- a right set that holds a rank is seen at that rank
@@ -77,7 +77,8 @@ merging false = refl
 -- whatever the ending, a pair is contained exactly when it comes by path or is confirmed
 pub met-after : (e : Ending) (leftRanks rightRanks left right : List ℕ)
     → rising rightRanks ≡ true → subset leftRanks rightRanks ≡ contained left right
-    → let o = outcomeAfter e leftRanks rightRanks left right in contained left right ≡ (isByPath o || isConfirmed o)
+    → let o = outcomeAfter e leftRanks rightRanks byPath (check left right) in
+    contained left right ≡ (isByPath o || isConfirmed o)
 met-after merged leftRanks rightRanks left right rises alike =
     rw (candidate-whole leftRanks rightRanks rises, alike) (merging (contained left right))
 met-after (checkedAfter d) leftRanks rightRanks left right rises alike =

@@ -46,12 +46,13 @@ pub data Outcome : Type 0 where
 abbrev pub check : List ℕ → List ℕ → Outcome
 check left right = cond (drops (signature left) (signature right)) dropped (cond (contained left right) confirmed falseDrop)
 
--- the outcome after an ending; the sets by rank, then by item
-abbrev pub outcomeAfter : Ending → List ℕ → List ℕ → List ℕ → List ℕ → Outcome
-outcomeAfter merged leftRanks rightRanks left right =
-    cond (isCandidate (length leftRanks) leftRanks rightRanks) byPath notMet
-outcomeAfter (checkedAfter d) leftRanks rightRanks left right =
-    cond (isCandidate d leftRanks rightRanks) (check left right) notMet
+-- the outcome after an ending, given both sets by rank, what a pair by path is and what a check would find: the walk itself sees
+-- nothing but ranks
+abbrev pub outcomeAfter : Ending → List ℕ → List ℕ → Outcome → Outcome → Outcome
+outcomeAfter merged leftRanks rightRanks paired checked =
+    cond (isCandidate (length leftRanks) leftRanks rightRanks) paired notMet
+outcomeAfter (checkedAfter d) leftRanks rightRanks paired checked =
+    cond (isCandidate d leftRanks rightRanks) checked notMet
 
 -- the ending of a left set in a query
 unfoldable pub endingIn : Query → List ℕ → Ending
@@ -60,4 +61,4 @@ endingIn q left =
 
 -- the outcome of a left and a right set in a query
 unfoldable pub outcome : Query → List ℕ → List ℕ → Outcome
-outcome q left right = outcomeAfter (endingIn q left) (inOrder q left) (inOrder q right) left right
+outcome q left right = outcomeAfter (endingIn q left) (inOrder q left) (inOrder q right) byPath (check left right)

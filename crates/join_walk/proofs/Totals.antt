@@ -14,7 +14,7 @@ use Rattle.lists.proofs.Counting.{count-same}
 use Rattle.lists.proofs.Summing.{sum-append, sum-same, sum-add}
 use Rattle.lists.proofs.Ranges.{sum-places, count-places, length-range}
 use Rattle.join_spec.specs.Query.{Query}
-use Rattle.join_spec.specs.Walk.{Outcome, byPath, Ending, ending, endingIn, outcome, outcomeAfter, isCandidate, endingFrom}
+use Rattle.join_spec.specs.Walk.{Outcome, byPath, Ending, ending, endingIn, outcome, check, outcomeAfter, isCandidate, endingFrom}
 use Rattle.join_spec.specs.Counting.{total}
 use Rattle.counting_sort.specs.Groups.{groupsFrom}
 use Rattle.join_index.specs.Grouping.{leftAt, rightAt, keyAt, orderFrom}
@@ -103,7 +103,9 @@ unfolding start row outcome outcomeFrom endingIn goes leftAt rightAt
 start-row is q k some =
     count-same (λ s. is (outcome q (getD (q .lefts) k []) (getD (q .rights) s []))) (λ s. is (outcomeFrom q 1 k s))
     (upto (length (q .rights)))
-    (λ s. ap (λ (e : Ending). is (outcomeAfter e (leftAt q k) (rightAt q s) (getD (q .lefts) k []) (getD (q .rights) s [])))
+    (λ s.
+    ap (λ (e : Ending).
+    is (outcomeAfter e (leftAt q k) (rightAt q s) byPath (check (getD (q .lefts) k []) (getD (q .rights) s []))))
     (nonempty (leftAt q k) (key-longer q 0 k some) (λ r rest e. begins (leftAt q k) r rest e)))
   where
     begins : (l : List ℕ) (r : ℕ) (rest : List ℕ) → l ≡ r ∷ rest

@@ -7,7 +7,7 @@ use lib.ListN.{length, getD}
 use Rattle.lists.specs.Lists.{count, upto}
 use Rattle.join_spec.specs.Query.{Query, inOrder}
 use Rattle.join_spec.specs.Node.{goesOnAt}
-use Rattle.join_spec.specs.Walk.{Outcome, byPath, endingFrom, outcomeAfter}
+use Rattle.join_spec.specs.Walk.{Outcome, byPath, endingFrom, check, outcomeAfter}
 use Rattle.join_index.specs.Grouping.{leftAt, rightAt}
 
 -- whether the walk of a query goes on at a path
@@ -17,8 +17,8 @@ goes q path = goesOnAt (q .rule) (map (inOrder q) (q .lefts)) (map (inOrder q) (
 -- the outcome of left place k with right place s, its walk being at depth d
 unfoldable pub outcomeFrom : Query → ℕ → ℕ → ℕ → Outcome
 outcomeFrom q d k s =
-    outcomeAfter (endingFrom (goes q) (q .limit - d) d (leftAt q k)) (leftAt q k) (rightAt q s) (getD (q .lefts) k [])
-    (getD (q .rights) s [])
+    outcomeAfter (endingFrom (goes q) (q .limit - d) d (leftAt q k)) (leftAt q k) (rightAt q s) byPath
+    (check (getD (q .lefts) k []) (getD (q .rights) s []))
 
 -- how many right sets have such an outcome with left place k, its walk being at depth d
 unfoldable pub row : (Outcome → Bool) → Query → ℕ → ℕ → ℕ
