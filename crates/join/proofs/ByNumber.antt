@@ -45,17 +45,17 @@ module _ (i : Input) (limit : ℕ) (ranks : List ℕ) (budget number : ℕ) (wei
   right = numberedAnswer i limit ranks budget number weights (roomOf work pairs)
 
   -- a greater number changes nothing
-  pub call-above : 2 < number → JoinCall right i work pairs work pairs (Refused BadSettings)
+  pub number-above : 2 < number → JoinCall right i work pairs work pairs (Refused BadSettings)
   unfolding numberedAnswer by-test
-  call-above above =
+  number-above above =
       record { answer = sym (ap by-test (lt-ltb 2 number above)); pairs = refl; work-size = refl; work-kept = λ kept. refl }
 
   -- and one up to 2 is the run under its rule
-  pub call-within : (rule : Rule) {work′ pairs′ : List ℕ} {r : JoinAnswer} → number ≤ 2 → rule ≡ ruleOf number weights
+  pub number-within : (rule : Rule) {work′ pairs′ : List ℕ} {r : JoinAnswer} → number ≤ 2 → rule ≡ ruleOf number weights
       → RunCall i (settingsOf limit ranks budget rule) work pairs work′ pairs′ r
       → JoinCall right i work pairs work′ pairs′ r
   unfolding numberedAnswer by-test
-  call-within rule within is call =
+  number-within rule within is call =
       record {
         answer =
             call .answer

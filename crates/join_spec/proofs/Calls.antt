@@ -62,8 +62,8 @@ module _ (i : Input) (s : Settings) {counts : Counts} {work before work′ after
   call-product = laws.checks-within-product i s (roomOf work before) counts joins
 
   -- an accepted call stayed within its budget
-  pub call-within : checksOf (queryOf i s) ≤ s .budget
-  call-within = accepted i s (roomOf work before) counts joins .within
+  pub call-within : counts .checks ≤ s .budget
+  call-within = laws.checks-within-budget i s (roomOf work before) counts joins
 
 -- a call that answers 8 had more checks than its budget
 pub call-spent : (i : Input) (s : Settings) {work before work′ after : List ℕ}
