@@ -15,6 +15,10 @@ pub mod Ordered
 pub mod Containment
 -- the one-pass test of a rising set
 pub mod Rises
+-- a collection tested as one list: falls, the passes, and what they say of sets
+pub mod Falls
+pub mod Passes
+pub mod WholeList
 -- marks: what is dropped is not contained
 pub mod Signatures
 -- the words of a refusal

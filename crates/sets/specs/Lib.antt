@@ -5,3 +5,4 @@ pub mod Ordered
 pub mod Signatures
 pub mod Refusals
 pub mod Lent
+pub mod WholeList
