@@ -4,7 +4,7 @@ use bench::measure::{contest, Contestant};
 use bench::peers::{BitRows, FreshJoin, Limit, NestedLoop, Peer, Pretti};
 use bench::plot::{self, Line};
 use bench::table::{rows, table, time};
-use bench::workloads::{self, growth, kinds, Workload};
+use bench::workloads::{self, growth, kinds, Workload, FULL};
 use kitfinder::{Query, Rule, Weights};
 use std::cell::RefCell;
 use std::hint::black_box;
@@ -31,42 +31,46 @@ impl Peer for Library {
     }
 }
 
-#[derive(Clone, Copy, PartialEq)]
-enum Origin {
-    Ours,
-    Published,
-    Plain,
-}
-
 struct Method {
     name: &'static str,
-    origin: Origin,
-    plotted: bool,
+    is_published: bool,
+    is_plotted: bool,
     peer: RefCell<Box<dyn Peer>>,
 }
 
-fn method(name: &'static str, origin: Origin, plotted: bool, peer: impl Peer + 'static) -> Method {
-    Method { name, origin, plotted, peer: RefCell::new(Box::new(peer)) }
-}
+impl Method {
+    fn new(name: &'static str, peer: impl Peer + 'static) -> Method {
+        Method { name, is_published: false, is_plotted: false, peer: RefCell::new(Box::new(peer)) }
+    }
 
-fn library(rule: Rule, limit: u32) -> Library {
-    Library { rule, limit, work: Vec::new() }
+    fn published(self) -> Method {
+        Method { is_published: true, ..self }
+    }
+
+    fn plotted(self) -> Method {
+        Method { is_plotted: true, ..self }
+    }
 }
 
 fn methods() -> Vec<Method> {
+    let library = |rule: Rule, limit: u32| Library { rule, limit, work: Vec::new() };
     let weighed = Rule::Weighed(Weights { a: 1.0, b: 1.0, g: 12.0, h: 4.0 });
     vec![
-        method("kitfinder, Merge, limit 2", Origin::Ours, true, library(Rule::Merge, 2)),
-        method("kitfinder, Merge, limit 255", Origin::Ours, false, library(Rule::Merge, 255)),
-        method("kitfinder, Weighed, limit 255", Origin::Ours, false, library(weighed, 255)),
-        method("kitfinder, Check", Origin::Ours, true, library(Rule::Check, 1)),
-        method("PRETTI", Origin::Published, true, Pretti::default()),
-        method("LIMIT, limit 2", Origin::Published, false, Limit::new(2)),
-        method("LIMIT+, limit 255", Origin::Published, true, Limit::adaptive(255)),
-        method("FreshJoin", Origin::Published, false, FreshJoin::default()),
-        method("nested loop with marks", Origin::Plain, false, NestedLoop::default()),
-        method("bit rows", Origin::Plain, true, BitRows::default()),
+        Method::new("kitfinder, Merge, limit 2", library(Rule::Merge, 2)).plotted(),
+        Method::new("kitfinder, Merge, limit 255", library(Rule::Merge, 255)),
+        Method::new("kitfinder, Weighed, limit 255", library(weighed, 255)),
+        Method::new("kitfinder, Check", library(Rule::Check, 1)).plotted(),
+        Method::new("PRETTI", Pretti::default()).published().plotted(),
+        Method::new("LIMIT, limit 2", Limit::new(2)).published(),
+        Method::new("LIMIT+, limit 255", Limit::adaptive(255)).published().plotted(),
+        Method::new("FreshJoin", FreshJoin::default()).published(),
+        Method::new("nested loop with marks", NestedLoop::default()),
+        Method::new("bit rows", BitRows::default()).plotted(),
     ]
+}
+
+fn names(methods: &[Method]) -> Vec<&'static str> {
+    methods.iter().map(|method| method.name).collect()
 }
 
 /// Every method's list over memory that others and itself have used; all must be the first one's.
@@ -84,65 +88,74 @@ fn compare(all: &[&Workload], methods: &[Method], pairs: &mut [[u16; 2]]) -> Vec
     all.iter().map(compare_on).collect()
 }
 
-/// On which of the workloads the best of some methods is faster than all published ones.
-fn leads(names: &[&str], kinds: &[Workload], methods: &[Method], times: &[Vec<f64>]) -> String {
-    let best = |column: &[f64], of: &dyn Fn(&Method) -> bool| {
-        methods.iter().zip(column).filter(|(method, _)| of(method)).map(|(_, &ns)| ns).fold(f64::MAX, f64::min)
+/// The best times: a column for each workload, in it one time for each method. In a round every method has its turn on every workload.
+fn time_all(all: &[&Workload], methods: &[Method], pairs: &mut [[u16; 2]], rounds: usize) -> Vec<Vec<f64>> {
+    let pairs = RefCell::new(pairs);
+    let turn = |w: &&Workload, method: &Method| _ = black_box(method.peer.borrow_mut().join(w, &mut pairs.borrow_mut()));
+    let turns = all.iter().flat_map(|w| methods.iter().map(move |method| (w, method)));
+    let contestants = turns.map(|(w, method)| Contestant::new(move || turn(w, method))).collect();
+    contest(contestants, rounds).chunks(methods.len()).map(<[f64]>::to_vec).collect()
+}
+
+/// The workloads on which some published method is not slower than the best of the library's first settings, so many of them.
+fn behind(settings: usize, kinds: &[Workload], methods: &[Method], times: &[Vec<f64>]) -> String {
+    let is_behind = |column: &[f64]| {
+        let ours = column[..settings].iter().copied().fold(f64::MAX, f64::min);
+        methods.iter().zip(column).any(|(method, &ns)| method.is_published && ns <= ours)
     };
-    let ahead = |column: &[f64]| best(column, &|m| names.contains(&m.name)) < best(column, &|m| m.origin == Origin::Published);
-    let (won, lost): (Vec<_>, Vec<_>) = kinds.iter().zip(times).partition(|(_, column)| ahead(column));
-    let words = |list: Vec<(&Workload, &Vec<f64>)>| list.iter().map(|(w, _)| w.name.as_str()).collect::<Vec<_>>().join(", ");
-    match lost.len() {
-        0 => "on all workloads".into(),
-        _ => format!("on {} of {} workloads (not on: {})", won.len(), kinds.len(), words(lost)),
+    let names: Vec<&str> = kinds.iter().zip(times).filter(|(_, column)| is_behind(column)).map(|(w, _)| w.name.as_str()).collect();
+    if names.is_empty() {
+        "none of the workloads".into()
+    } else {
+        names.join(", ")
+    }
+}
+
+/// Times and ratios on every kind of workload.
+fn kind_tables(kinds: &[Workload], methods: &[Method], times: &[Vec<f64>], found: &[usize]) -> String {
+    let names = names(methods);
+    let heads: Vec<String> = kinds.iter().map(|w| w.name.clone()).collect();
+    let mut lines = rows(&names, times, |column, k| time(column[k]));
+    lines.push(("pairs", found.iter().map(usize::to_string).collect()));
+    let ratios = rows(&names, times, |column, k| format!("{:.2}", column[k] / column[0]));
+    table("time of one join", &heads, &lines)
+        + &table(&format!("ratio to {}", names[0]), &heads, &ratios)
+        + &format!("Merge with limit 2 is behind a published method on: {}.\n", behind(1, kinds, methods, times))
+        + &format!("The better of the limits 2 and 255 is behind one on: {}.\n\n", behind(2, kinds, methods, times))
+}
+
+/// Times as the sets double, and the plot.
+fn growth_report(sizes: &[usize], methods: &[Method], times: &[Vec<f64>]) -> Report {
+    let mut heads: Vec<String> = sizes.iter().map(usize::to_string).collect();
+    heads.push("factor a doubling".into());
+    let mut lines = rows(&names(methods), times, |column, k| time(column[k]));
+    for (k, (_, cells)) in lines.iter_mut().enumerate() {
+        let doublings = (times.len() - 1) as f64;
+        cells.push(format!("{:.2}", (times[times.len() - 1][k] / times[0][k]).powf(1.0 / doublings)));
+    }
+    let points = |k: usize| sizes.iter().zip(times).map(|(&n, column)| (n, column[k])).collect();
+    let plotted = methods.iter().enumerate().filter(|(_, method)| method.is_plotted);
+    let plotted = plotted.map(|(k, method)| Line { name: method.name.into(), points: points(k) });
+    Report {
+        tables: table("sets a side", &heads, &lines) + "![Time of one join as the sets double](growth.svg)\n\n",
+        plot: plot::svg("The join as the sets double", "sets on each side, and items", "processor time of one join", plotted.collect()),
     }
 }
 
 pub fn measure(rounds: usize) -> Report {
     let (kinds, growth, methods) = (kinds(), growth(), methods());
-    let all: Vec<&Workload> = kinds.iter().chain(&growth).collect();
     let mut pairs = vec![[0; 2]; 1 << 22];
     let small: Vec<Workload> = (0..400).map(workloads::small).collect();
     compare(&small.iter().collect::<Vec<&Workload>>(), &methods, &mut pairs[..1 << 16]);
+    let all: Vec<&Workload> = kinds.iter().chain(&growth).collect();
     let found = compare(&all, &methods, &mut pairs);
-    let pairs = RefCell::new(pairs);
-    let work = |(w, method): (&'_ Workload, &'_ Method)| {
-        black_box(method.peer.borrow_mut().join(w, &mut pairs.borrow_mut()));
-    };
-    let turns = all.iter().flat_map(|&w| methods.iter().map(move |method| (w, method)));
-    let best = contest(turns.map(|turn| Contestant::new(move || work(turn))).collect(), rounds);
-    let times: Vec<Vec<f64>> = best.chunks(methods.len()).map(<[f64]>::to_vec).collect();
-    let names: Vec<&str> = methods.iter().map(|method| method.name).collect();
-    let (kind_times, growth_times) = times.split_at(kinds.len());
+    let mut times = time_all(&all, &methods, &mut pairs, rounds);
 
-    let heads: Vec<String> = kinds.iter().map(|w| w.name.clone()).collect();
-    let mut time_rows = rows(&names, kind_times, |column, k| time(column[k]));
-    time_rows.push(("pairs", found[..kinds.len()].iter().map(usize::to_string).collect()));
-    let mut tables = table("time of one join", &heads, &time_rows);
-    tables +=
-        &table(&format!("ratio to {}", names[0]), &heads, &rows(&names, kind_times, |column, k| format!("{:.2}", column[k] / column[0])));
-    tables += &format!(
-        "Merge with limit 2 is faster than every published method {}; the better of the limits 2 and 255 is {}.\n\n",
-        leads(&names[..1], &kinds, &methods, kind_times),
-        leads(&names[..2], &kinds, &methods, kind_times)
-    );
-
-    // the last size is the workload `full`: the column of the table above
-    let full = kinds.iter().position(|w| w.left.len() == 4096 && w.t == 4096).expect("there is a full workload");
-    let columns: Vec<Vec<f64>> = growth_times.iter().chain([&kind_times[full]]).cloned().collect();
+    let full = kinds.iter().position(|w| w.name == FULL).expect("there is a full workload");
+    let mut growth_times = times.split_off(kinds.len());
+    growth_times.push(times[full].clone());
     let sizes: Vec<usize> = growth.iter().chain([&kinds[full]]).map(|w| w.left.len()).collect();
-    let doublings = (sizes.len() - 1) as f64;
-    let mut heads: Vec<String> = sizes.iter().map(usize::to_string).collect();
-    heads.push("factor a doubling".into());
-    let mut growth_rows = rows(&names, &columns, |column, k| time(column[k]));
-    for (k, (_, cells)) in growth_rows.iter_mut().enumerate() {
-        cells.push(format!("{:.2}", (columns[columns.len() - 1][k] / columns[0][k]).powf(1.0 / doublings)));
-    }
-    tables += &format!("The kind `{}` as its sets and items double; the column of 4,096 is the one above.\n\n", kinds[full].name);
-    tables += &table("sets a side", &heads, &growth_rows);
-    tables += "![Time of one join as the sets double](growth.svg)\n\n";
-    let points = |k: usize| sizes.iter().zip(&columns).map(|(&n, column)| (n, column[k])).collect();
-    let line = |(k, method): (usize, &Method)| Line { name: method.name.into(), points: points(k) };
-    let lines: Vec<Line> = methods.iter().enumerate().filter(|(_, method)| method.plotted).map(line).collect();
-    Report { tables, plot: plot::svg("The join as the sets double", "sets on each side, and items", "processor time of one join", lines) }
+    let Report { tables, plot } = growth_report(&sizes, &methods, &growth_times);
+    let title = format!("The kind `{FULL}` as its sets and items double; its last column is the one above.\n\n");
+    Report { tables: kind_tables(&kinds, &methods, &times, &found[..kinds.len()]) + &title + &tables, plot }
 }

@@ -10,13 +10,16 @@ const README: &str = concat!(env!("CARGO_MANIFEST_DIR"), "/README.md");
 const PLOT: &str = concat!(env!("CARGO_MANIFEST_DIR"), "/growth.svg");
 const MARKS: [&str; 2] = ["<!-- figures: written by bench/run --write -->\n", "<!-- end of figures -->\n"];
 
-/// The machine and its day, which the caller names.
+/// The machine, the day, which the caller names, and how busy the machine was.
 fn machine() -> String {
-    let cpus = fs::read_to_string("/proc/cpuinfo").unwrap_or_default();
-    let model =
-        cpus.lines().find_map(|line| line.strip_prefix("model name")).map_or("a machine", |rest| rest.trim_start_matches([' ', '\t', ':']));
+    let line = |file: &str, start: &str| {
+        let text = fs::read_to_string(file).unwrap_or_default();
+        text.lines().find_map(|line| line.strip_prefix(start).map(|rest| rest.trim_start_matches([' ', '\t', ':']).to_string()))
+    };
+    let model = line("/proc/cpuinfo", "model name").unwrap_or("a processor without a name".into());
+    let load = line("/proc/loadavg", "").and_then(|line| line.split(' ').next().map(str::to_string)).unwrap_or("unknown".into());
     let day = std::env::var("BENCH_DAY").map_or(String::new(), |day| format!(" on {day}"));
-    format!("Measured on {model}{day}")
+    format!("Measured on {model}{day}, at a load of {load} before it began")
 }
 
 fn replaced(text: &str, figures: &str) -> String {
@@ -37,9 +40,10 @@ fn main() {
             }
         }
     }
+    let machine = machine();
     let joins = joins::measure(rounds);
     let files = files::measure(rounds);
-    let figures = format!("{}, best of {rounds} rounds.\n\n{}{files}", machine(), joins.tables);
+    let figures = format!("{machine}; best of {rounds} rounds.\n\n{}{files}", joins.tables);
     print!("{figures}");
     if write {
         let readme = fs::read_to_string(README).expect("bench/README.md can be read");

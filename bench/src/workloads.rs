@@ -166,7 +166,7 @@ fn plain(name: &str, seed: u64, kind: &Kind) -> Workload {
     Workload::new(name, kind.t, &left, &right)
 }
 
-/// n sets a side over n items: the kind whose growth is measured.
+/// n sets a side over n items.
 fn even(name: &str, n: usize) -> Workload {
     plain(name, 3, &Kind { t: n, zipf: 0.5, left: (n, (2, 12)), right: (n, (8, 20)), around: 5 })
 }
@@ -224,12 +224,15 @@ fn deep() -> Workload {
     Workload::new("deep prefixes", 1200, &left, &right)
 }
 
+/// The kind whose growth is measured.
+pub const FULL: &str = "full";
+
 /// The eight kinds.
 pub fn kinds() -> Vec<Workload> {
     vec![
         plain("kiosk", 1, &Kind { t: 300, zipf: 0.5, left: (30, (2, 12)), right: (1, (16, 16)), around: 10 }),
         plain("library", 2, &Kind { t: 1500, zipf: 0.5, left: (300, (2, 12)), right: (500, (1, 30)), around: 5 }),
-        even("full", 4096),
+        even(FULL, 4096),
         plain("skewed", 4, &Kind { t: 4096, zipf: 1.0, left: (4096, (2, 12)), right: (4096, (8, 20)), around: 5 }),
         plain("dense output", 5, &Kind { t: 64, zipf: 0.5, left: (4096, (1, 2)), right: (4096, (8, 20)), around: 0 }),
         long(),
@@ -251,7 +254,7 @@ pub fn small(seed: u64) -> Workload {
     Workload::new(&format!("random join {seed}"), t, &left, &right)
 }
 
-/// The kind `full` with fewer sets.
+/// The kind `FULL` with fewer sets.
 pub fn growth() -> Vec<Workload> {
     [256, 512, 1024, 2048].iter().map(|&n| even(&n.to_string(), n)).collect()
 }

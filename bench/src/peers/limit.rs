@@ -1,6 +1,7 @@
 //! LIMIT and LIMIT+ of document 000 in its order of partitions (OPJ): the prefix tree is cut at a limit and longer left sets are
 //! verified by the rest of their items; the inverted index grows by the right sets of each first item before the left sets of
-//! that item are joined. LIMIT+ also asks a cost model at each node whether to verify at once. The trees of all partitions are built in one go.
+//! that item are joined. LIMIT+ also asks a cost model at each node whether to verify at once, but not at a first item, where the candidates
+//! are a whole list and nothing is intersected. The trees of all partitions are built in one go.
 
 use super::index::{Index, Ranked};
 use super::runs::Runs;
