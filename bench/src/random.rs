@@ -22,4 +22,13 @@ impl Random {
     pub fn unit(&mut self) -> f64 {
         (self.word() >> 11) as f64 / (1u64 << 53) as f64
     }
+
+    /// The numbers below n in some order.
+    pub fn shuffled(&mut self, n: usize) -> Vec<u16> {
+        let mut all: Vec<u16> = (0..n as u16).collect();
+        for i in (1..n).rev() {
+            all.swap(i, self.below(i + 1));
+        }
+        all
+    }
 }

@@ -1,17 +1,18 @@
-//! The inputs that are measured: pairs of collections, from a tiny kiosk to the limits, and tag files.
+//! The inputs that are measured: eight kinds of join, the growth of one of them, and tag files. All follow from their seeds.
 
 use crate::random::Random;
 use kitfinder::Collection;
+use std::ops::Range;
 
 /// A collection that owns its lists.
-#[derive(Clone, Default)]
+#[derive(Clone, Debug, Default, PartialEq)]
 pub struct Sets {
     pub ends: Vec<u32>,
     pub items: Vec<u16>,
 }
 
 impl Sets {
-    pub fn of(sets: &[Vec<u16>]) -> Sets {
+    fn of(sets: &[Vec<u16>]) -> Sets {
         let mut all = Sets::default();
         for set in sets {
             all.items.extend(set);
@@ -29,36 +30,86 @@ impl Sets {
         self.ends.len()
     }
 
+    pub fn is_empty(&self) -> bool {
+        self.ends.is_empty()
+    }
+
+    pub fn range(&self, k: usize) -> Range<usize> {
+        let start = if k == 0 { 0 } else { self.ends[k - 1] };
+        start as usize..self.ends[k] as usize
+    }
+
     pub fn set(&self, k: usize) -> &[u16] {
-        let start = if k == 0 { 0 } else { self.ends[k - 1] as usize };
-        &self.items[start..self.ends[k] as usize]
+        &self.items[self.range(k)]
+    }
+
+    pub fn iter(&self) -> impl Iterator<Item = &[u16]> {
+        let mut start = 0;
+        self.ends.iter().map(move |&end| {
+            let set = &self.items[start..end as usize];
+            start = end as usize;
+            set
+        })
     }
 }
 
 pub struct Workload {
     pub name: String,
-    pub t: u32,
+    pub t: usize,
     pub left: Sets,
     pub right: Sets,
-    /// By rising frequency.
+    /// Ranks by rising frequency on both sides, and on the right side alone.
     pub ranks: Vec<u16>,
+    pub right_ranks: Vec<u16>,
 }
 
-/// Draws items: evenly, or skewed by a power of the item.
-struct Draw {
-    t: usize,
-    skew: f64,
+impl Workload {
+    fn new(name: &str, t: usize, left: &[Vec<u16>], right: &[Vec<u16>]) -> Workload {
+        let (left, right) = (Sets::of(left), Sets::of(right));
+        let ranks = ranks_by_frequency(t, left.items.iter().chain(&right.items));
+        let right_ranks = ranks_by_frequency(t, right.items.iter());
+        Workload { name: name.into(), t, left, right, ranks, right_ranks }
+    }
 }
 
-impl Draw {
-    fn item(&self, random: &mut Random) -> u16 {
-        let u = random.unit();
-        ((u.powf(self.skew) * self.t as f64) as usize).min(self.t - 1) as u16
+/// The rank of each item by rising frequency, ties to the lower item.
+fn ranks_by_frequency<'a>(t: usize, items: impl Iterator<Item = &'a u16>) -> Vec<u16> {
+    let mut frequency = vec![0u32; t];
+    items.for_each(|&item| frequency[item as usize] += 1);
+    let mut order: Vec<usize> = (0..t).collect();
+    order.sort_by_key(|&item| frequency[item]);
+    let mut ranks = vec![0; t];
+    order.iter().enumerate().for_each(|(rank, &item)| ranks[item] = rank as u16);
+    ranks
+}
+
+/// Items by a Zipf law: the item that comes p-th in popularity has weight 1/p^order. Popularity is in no relation to the items' numbers.
+struct Zipf {
+    by_popularity: Vec<u16>,
+    sums: Vec<f64>,
+}
+
+impl Zipf {
+    fn new(t: usize, order: f64, random: &mut Random) -> Zipf {
+        let by_popularity = random.shuffled(t);
+        let mut sum = 0.0;
+        let weights = (1..=t).map(|p| (p as f64).powf(-order));
+        let sums = weights.map(|weight| {
+            sum += weight;
+            sum
+        });
+        Zipf { by_popularity, sums: sums.collect() }
     }
 
-    fn set(&self, random: &mut Random, length: usize) -> Vec<u16> {
-        let mut set: Vec<u16> = Vec::new();
-        while set.len() < length.min(self.t) {
+    fn item(&self, random: &mut Random) -> u16 {
+        let at = random.unit() * self.sums[self.sums.len() - 1];
+        self.by_popularity[self.sums.partition_point(|&sum| sum <= at).min(self.sums.len() - 1)]
+    }
+
+    /// A set of so many items, some of them given.
+    fn set(&self, given: &[u16], length: usize, random: &mut Random) -> Vec<u16> {
+        let mut set = given.to_vec();
+        while set.len() < length {
             let item = self.item(random);
             if !set.contains(&item) {
                 set.push(item);
@@ -67,109 +118,173 @@ impl Draw {
         set.sort_unstable();
         set
     }
+
+    fn sets(&self, count: usize, lengths: (usize, usize), random: &mut Random) -> Vec<Vec<u16>> {
+        let mut set = || {
+            let length = random.within(lengths.0, lengths.1);
+            self.set(&[], length, random)
+        };
+        (0..count).map(|_| set()).collect()
+    }
+
+    /// Sets of which so many in ten are built around a whole set of `within`, where there is one that is not longer.
+    fn around(&self, within: &[Vec<u16>], tenths: usize, count: usize, lengths: (usize, usize), random: &mut Random) -> Vec<Vec<u16>> {
+        let mut set = || {
+            let length = random.within(lengths.0, lengths.1);
+            let chosen = &within[random.below(within.len())];
+            let given = if random.below(10) < tenths && chosen.len() <= length { chosen.as_slice() } else { &[] };
+            self.set(given, length, random)
+        };
+        (0..count).map(|_| set()).collect()
+    }
 }
 
-/// A set of items of another one.
-fn part(random: &mut Random, of: &[u16], length: usize) -> Vec<u16> {
+/// So many items of a list, in rising order.
+fn part(of: &[u16], length: usize, random: &mut Random) -> Vec<u16> {
     let mut set = of.to_vec();
     while set.len() > length {
-        set.remove(random.below(set.len()));
+        set.swap_remove(random.below(set.len()));
     }
+    set.sort_unstable();
     set
 }
 
-struct Shape {
+struct Kind {
     t: usize,
-    left: usize,
-    right: usize,
-    left_length: (usize, usize),
-    right_length: (usize, usize),
-    skew: f64,
-    /// How many of ten left sets are parts of a right set.
-    parts: usize,
+    zipf: f64,
+    left: (usize, (usize, usize)),
+    right: (usize, (usize, usize)),
+    /// How many right sets in ten are built around a left set.
+    around: usize,
 }
 
-fn workload(name: &str, shape: &Shape) -> Workload {
-    let random = &mut Random(shape.left as u64 * 1000 + shape.t as u64);
-    let draw = Draw { t: shape.t, skew: shape.skew };
-    let right: Vec<Vec<u16>> = (0..shape.right)
-        .map(|_| {
-            let length = random.within(shape.right_length.0, shape.right_length.1);
-            draw.set(random, length)
+fn plain(name: &str, seed: u64, kind: &Kind) -> Workload {
+    let random = &mut Random(seed);
+    let zipf = Zipf::new(kind.t, kind.zipf, random);
+    let left = zipf.sets(kind.left.0, kind.left.1, random);
+    let right = zipf.around(&left, kind.around, kind.right.0, kind.right.1, random);
+    Workload::new(name, kind.t, &left, &right)
+}
+
+/// n sets a side over n items.
+fn even(name: &str, n: usize) -> Workload {
+    plain(name, 3, &Kind { t: n, zipf: 0.5, left: (n, (2, 12)), right: (n, (8, 20)), around: 5 })
+}
+
+/// Half of the left sets are parts of a right set.
+fn long() -> Workload {
+    let random = &mut Random(6);
+    let zipf = Zipf::new(1000, 0.5, random);
+    let right = zipf.sets(250, (100, 255), random);
+    let mut left = zipf.sets(250, (100, 255), random);
+    for set in left.iter_mut().step_by(2) {
+        let whole = &right[random.below(right.len())];
+        *set = part(whole, random.within(100, whole.len()), random);
+    }
+    Workload::new("long sets", 1000, &left, &right)
+}
+
+/// 64 left sets, each many times.
+fn equal() -> Workload {
+    let random = &mut Random(7);
+    let zipf = Zipf::new(1000, 0.5, random);
+    let distinct = zipf.sets(64, (2, 12), random);
+    let left: Vec<Vec<u16>> = (0..4096).map(|_| distinct[random.below(64)].clone()).collect();
+    let right = zipf.around(&distinct, 5, 4096, (8, 20), random);
+    Workload::new("equal kits", 1000, &left, &right)
+}
+
+/// Left sets that share long prefixes of rare items: one of 16 cores of 48 items, and a few of 40 common ones. A right set has a core, or
+/// in three of ten cases all of it but one item, most of the common items and some others.
+fn deep() -> Workload {
+    let random = &mut Random(8);
+    let items = random.shuffled(1200);
+    let (common, rare) = items.split_at(40);
+    let (cores, others) = rare.split_at(16 * 48);
+    let cores: Vec<&[u16]> = cores.chunks(48).collect();
+    let with = |mut set: Vec<u16>, more: &[Vec<u16>]| {
+        more.iter().for_each(|items| set.extend(items));
+        set.sort_unstable();
+        set
+    };
+    let left: Vec<Vec<u16>> = (0..1000)
+        .map(|k| {
+            let length = random.within(1, 8);
+            with(cores[k % 16].to_vec(), &[part(common, length, random)])
         })
         .collect();
-    let left: Vec<Vec<u16>> = (0..shape.left)
+    let right: Vec<Vec<u16>> = (0..600)
         .map(|_| {
-            let length = random.within(shape.left_length.0, shape.left_length.1);
-            if random.below(10) < shape.parts {
-                let of = random.below(right.len());
-                part(random, &right[of], length)
-            } else {
-                draw.set(random, length)
-            }
+            let length = if random.below(10) < 7 { 48 } else { 47 };
+            let core = part(cores[random.below(16)], length, random);
+            let (many, few) = (random.within(24, 38), random.within(2, 10));
+            with(core, &[part(common, many, random), part(others, few, random)])
         })
         .collect();
-    finish(name, shape.t, &left, &right)
+    Workload::new("deep prefixes", 1200, &left, &right)
 }
 
-fn finish(name: &str, t: usize, left: &[Vec<u16>], right: &[Vec<u16>]) -> Workload {
-    let (left, right) = (Sets::of(left), Sets::of(right));
-    let mut frequency = vec![0u32; t];
-    left.items.iter().chain(&right.items).for_each(|&i| frequency[i as usize] += 1);
-    let mut order: Vec<usize> = (0..t).collect();
-    order.sort_by_key(|&i| (frequency[i], i));
-    let mut ranks = vec![0; t];
-    order.iter().enumerate().for_each(|(rank, &i)| ranks[i] = rank as u16);
-    Workload { name: name.into(), t: t as u32, left, right, ranks }
-}
+/// The kind whose growth is measured.
+pub const FULL: &str = "full";
 
-/// n sets a side, even: the shape whose growth is measured.
-pub fn even(n: usize) -> Workload {
-    let shape = Shape { t: n.max(64), left: n, right: n, left_length: (2, 8), right_length: (8, 22), skew: 1.0, parts: 5 };
-    workload(&format!("{n} x {n}"), &shape)
-}
-
-pub fn all() -> Vec<Workload> {
-    let tiny = Shape { t: 60, left: 30, right: 1, left_length: (2, 5), right_length: (12, 12), skew: 1.0, parts: 3 };
-    let library = Shape { t: 1000, left: 300, right: 500, left_length: (2, 6), right_length: (5, 30), skew: 1.5, parts: 5 };
-    let skewed = Shape { t: 4096, left: 4096, right: 4096, left_length: (2, 8), right_length: (8, 22), skew: 2.5, parts: 5 };
-    let dense = Shape { t: 40, left: 4096, right: 4096, left_length: (1, 3), right_length: (12, 18), skew: 1.0, parts: 0 };
-    let long = Shape { t: 4096, left: 250, right: 250, left_length: (100, 255), right_length: (200, 255), skew: 1.0, parts: 5 };
-    let base = workload("", &Shape { t: 1000, left: 60, right: 4096, left_length: (4, 12), right_length: (10, 20), skew: 1.3, parts: 9 });
-    let equal: Vec<Vec<u16>> = (0..4096).map(|k| base.left.set(k % 60).to_vec()).collect();
-    let stacks: Vec<Vec<u16>> = (0..4096).map(|k| base.right.set(k).to_vec()).collect();
-    let mut full = even(4096);
-    full.name = "full 4096 x 4096".into();
+/// The eight kinds.
+pub fn kinds() -> Vec<Workload> {
     vec![
-        workload("tiny kiosk", &tiny),
-        workload("library 300 x 500", &library),
-        full,
-        workload("skewed", &skewed),
-        workload("dense output", &dense),
-        workload("long sets", &long),
-        finish("equal kits", 1000, &equal, &stacks),
+        plain("kiosk", 1, &Kind { t: 300, zipf: 0.5, left: (30, (2, 12)), right: (1, (16, 16)), around: 10 }),
+        plain("library", 2, &Kind { t: 1500, zipf: 0.5, left: (300, (2, 12)), right: (500, (1, 30)), around: 5 }),
+        even(FULL, 4096),
+        plain("skewed", 4, &Kind { t: 4096, zipf: 1.0, left: (4096, (2, 12)), right: (4096, (8, 20)), around: 5 }),
+        plain("dense output", 5, &Kind { t: 64, zipf: 0.5, left: (4096, (1, 2)), right: (4096, (8, 20)), around: 0 }),
+        long(),
+        equal(),
+        deep(),
     ]
 }
 
-/// A tag file of so many records a side with so many distinct tags and repeats each.
-pub fn tag_file(records: usize, distinct: usize, repeats: usize, tags: usize) -> Vec<u8> {
-    let random = &mut Random(records as u64);
-    let table: Vec<[u8; 12]> = (0..tags)
+/// A small join with empty sets, equal sets, few items, and at times nothing on a side; not measured, only compared.
+pub fn small(seed: u64) -> Workload {
+    let random = &mut Random(seed);
+    let t = random.within(1, 40);
+    let zipf = Zipf::new(t, 0.5, random);
+    let (lefts, rights) =
+        (random.below(40), [random.below(3), random.below(70), random.below(300), 1100 + random.below(200)][random.below(4)]);
+    let mut left = zipf.sets(lefts, (0, t.min(6)), random);
+    left.extend_from_within(..lefts / 4);
+    let right = zipf.sets(rights, (0, t.min(20)), random);
+    Workload::new(&format!("random join {seed}"), t, &left, &right)
+}
+
+/// The kind `FULL` with fewer sets.
+pub fn growth() -> Vec<Workload> {
+    [256, 512, 1024, 2048].iter().map(|&n| even(&n.to_string(), n)).collect()
+}
+
+/// A tag file of about so many bytes: four records in ten are left sets. A record has a few distinct tags, and in a large file each is read many
+/// times over.
+pub fn tag_file(bytes: usize) -> Vec<u8> {
+    let random = &mut Random(11);
+    let tags = (bytes / 48).clamp(8, 4000);
+    let serials: Vec<[u8; 12]> = (0..tags)
         .map(|_| {
-            let mut tag = [0; 12];
-            tag[..8].copy_from_slice(&random.word().to_be_bytes());
-            tag[8..].copy_from_slice(&(random.word() as u32).to_be_bytes());
-            tag
+            let [a, b, c, d, e, f, g, h] = random.word().to_be_bytes();
+            [0x30, 0x34, 0, random.below(8) as u8, a, b, c, d, e, f, g, h]
         })
         .collect();
+    let zipf = Zipf::new(tags, 0.5, random);
     let mut file = Vec::new();
-    for k in 0..2 * records {
-        file.extend(if k % 2 == 0 { *b"KT" } else { *b"SK" });
-        file.extend((k as u16 / 2).to_be_bytes());
-        let chosen: Vec<usize> = (0..distinct).map(|_| random.below(tags)).collect();
-        file.push((distinct * repeats) as u8);
-        for j in 0..distinct * repeats {
-            file.extend(table[chosen[j % distinct]]);
+    let mut numbers = [0u16; 2];
+    while file.len() < bytes {
+        let side = usize::from(random.below(10) >= 4);
+        let distinct = if side == 0 { random.within(2, 12) } else { random.within(4, 20) }.min(tags);
+        let reads = if bytes > 1_000_000 { random.within(60, 120) } else { distinct + random.below(4) };
+        let set = zipf.set(&[], distinct, random);
+        file.extend([b"KT", b"SK"][side]);
+        file.extend(numbers[side].to_be_bytes());
+        numbers[side] += 1;
+        file.push(reads as u8);
+        for read in 0..reads {
+            let item = if read < distinct { set[read] } else { set[random.below(distinct)] };
+            file.extend(serials[item as usize]);
         }
     }
     file
