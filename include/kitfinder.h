@@ -36,6 +36,17 @@
 extern "C" {
 #endif
 
+/* The limits of sets and settings. */
+#define KITFINDER_MAX_SET_LENGTH 255
+#define KITFINDER_MAX_LIMIT 255
+
+/* The bytes of stack that each function may take, from its caller's frame down, whatever its input. */
+#define KITFINDER_JOIN_STACK 131072
+#define KITFINDER_ORDER_STACK 32768
+#define KITFINDER_LOAD_STACK 131072
+#define KITFINDER_WRITE_STACK 4096
+#define KITFINDER_READ_RECORD_STACK 1024
+
 enum { KITFINDER_MERGE = 0, KITFINDER_CHECK = 1, KITFINDER_WEIGHED = 2 };
 
 /* Lists every pair of a kit and a stack that contains it: two places a pair, kit then stack, rising by kit, then stack.
