@@ -36,6 +36,8 @@
 extern "C" {
 #endif
 
+#define KITFINDER_VERSION "0.1.0"
+
 /* The limits of sets and settings. */
 #define KITFINDER_MAX_SET_LENGTH 255
 #define KITFINDER_MAX_LIMIT 255
