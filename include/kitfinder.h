@@ -4,8 +4,8 @@
  * and a pkg-config file below a prefix. Every function is proved to meet its contract (crates/kitfinder/src/lib.rt).
  * docs/FORMAT.md has the tag file, the limits and what makes a set bad; examples/kiosk.c uses all of this.
  *
- * Words: a kit is a left set, a stack a right set, a tag an item, the allowance the budget. The first word of each pair is the
- * library's trade's, the second is what parameters and the library's sources call it. A place is the number of a set, from 0.
+ * Words: kits are left sets, stacks are right sets, tags are items, the allowance is the budget. Librarians say the first, parameters
+ * and sources the second. A place is the number of a set, from 0.
  *
  * Lists. A list is a pointer and then its length in elements. Where the length is 0 the pointer may be null. Each list is aligned as
  * C aligns its elements; nothing beyond that is asked. A list that a function writes, `answer` too, must not overlap any other list

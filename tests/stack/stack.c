@@ -164,14 +164,15 @@ static size_t add_set(uint32_t *ends, uint16_t *items, size_t sets, uint32_t sha
     return sets + 1;
 }
 
-/* Left sets of up to 255 items along one path: 0 each prefix of it, 1 each prefix with an item of its own, 2 the whole path four
- * times. The right sets hold it whole, or half of it. */
-enum { SHAPES = 3, LONGEST = KITFINDER_MAX_SET_LENGTH };
+/* Left sets along one path as long as a set can be: 0 prefixes of it, 1 prefixes with an item of their own, 2 none of these; and in
+ * each the whole path four times. Each prefix is there, or as many as a collection holds. The right sets hold the path whole, or
+ * half of it. */
+enum { SHAPES = 3, LONGEST = KITFINDER_MAX_SET_LENGTH, STEP = LONGEST * LONGEST / (3 * ENTRIES / 2) + 1 };
 static void make_sets(int shape)
 {
     t = 2 * LONGEST;
     lefts = rights = 0;
-    for (uint32_t k = 1; shape < 2 && k <= LONGEST; k++)
+    for (uint32_t k = 1; shape < 2 && k <= LONGEST; k += STEP)
         lefts = add_set(left_ends, left_items, lefts, shape ? k - 1 : k, shape ? LONGEST + k - 1 : 0);
     for (uint32_t k = 0; k < 4; k++)
         lefts = add_set(left_ends, left_items, lefts, LONGEST, 0);
@@ -219,15 +220,16 @@ static size_t join_at(uint32_t depth, uint32_t by)
 }
 
 /* A file of records with 255 tags each, so many tags distinct. */
+enum { TAGS_A_RECORD = 255 };
 static void make_file(uint32_t records, uint32_t distinct)
 {
     file_len = 0;
     for (uint32_t k = 0; k < records; k++) {
-        const uint8_t head[5] = { k % 2 ? 0x53 : 0x4B, k % 2 ? 0x4B : 0x54, (uint8_t)(k >> 8), (uint8_t)k, LONGEST };
+        const uint8_t head[5] = { k % 2 ? 0x53 : 0x4B, k % 2 ? 0x4B : 0x54, (uint8_t)(k >> 8), (uint8_t)k, TAGS_A_RECORD };
         memcpy(file + file_len, head, sizeof head);
         file_len += sizeof head;
-        for (uint32_t i = 0; i < LONGEST; i++, file_len += 12) {
-            uint32_t tag = (k * LONGEST + i) * 2654435761u % distinct;
+        for (uint32_t i = 0; i < TAGS_A_RECORD; i++, file_len += 12) {
+            uint32_t tag = (k * TAGS_A_RECORD + i) * 2654435761u % distinct;
             memset(file + file_len, 0, 12);
             file[file_len + 10] = (uint8_t)(tag >> 8);
             file[file_len + 11] = (uint8_t)tag;
@@ -267,9 +269,8 @@ int main(void)
     refused("kitfinder_load", 1);
     say("kitfinder_load", KITFINDER_LOAD_STACK);
 
-    for (at = 0; at <= file_len + 1; at += 3065) {
+    for (at = 0; at <= file_len + 1; at += 5 + 12 * TAGS_A_RECORD)
         more(taken("kitfinder_read_record", KITFINDER_READ_RECORD_STACK, read_record));
-    }
     say("kitfinder_read_record", KITFINDER_READ_RECORD_STACK);
 
     make_file(64, TAGS);
