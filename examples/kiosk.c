@@ -1,58 +1,100 @@
-/* A kiosk in C: reads a tag file, orders its tags, joins kits and stacks, and prints each kit that a stack holds whole.
+/* A kiosk in C: reads a tag file of any size, orders its tags, joins kits and stacks, and prints each kit that a stack holds whole.
+ * Ends with 0 for a list, 1 for a refusal, 2 where reading, writing or memory failed.
  * Usage: kiosk FILE */
+#include <errno.h>
+#include <inttypes.h>
 #include <stdio.h>
 #include <stdlib.h>
+#include <string.h>
 
 #include "kitfinder.h"
 
-enum { TAGS = 4096, SETS = 4096, ENTRIES = 65535, PAIRS = 8192 };
+enum { SETS = KITFINDER_MAX_SETS, ENTRIES = KITFINDER_MAX_ENTRIES };
 
-static uint8_t file[1 << 20], tags[12 * TAGS];
-static uint16_t left_numbers[SETS], left_items[ENTRIES], right_numbers[SETS], right_items[ENTRIES];
-static uint32_t left_ends[SETS], right_ends[SETS];
-static uint16_t ranks[TAGS], pairs[2 * PAIRS];
+/* Lists that hold every file within the limits. */
+static uint8_t tags[KITFINDER_TAG_BYTES * KITFINDER_MAX_ITEMS];
+static uint16_t kit_numbers[SETS], kit_items[ENTRIES], stack_numbers[SETS], stack_items[ENTRIES];
+static uint32_t kit_ends[SETS], stack_ends[SETS];
+static uint16_t ranks[KITFINDER_MAX_ITEMS];
 
-static void refused(const uint64_t *answer)
+static void fail(const char *what, const char *why)
 {
-    printf("refused %llu %llu\n", (unsigned long long)answer[0], (unsigned long long)answer[1]);
+    fprintf(stderr, "kiosk: %s: %s\n", what, why);
+    exit(2);
+}
+
+static void *allocate(void *before, size_t bytes)
+{
+    void *memory = realloc(before, bytes);
+    if (!memory)
+        fail("memory", strerror(errno));
+    return memory;
+}
+
+/* A whole file, and its length. */
+static uint8_t *read_file(const char *name, size_t *length)
+{
+    FILE *input = fopen(name, "rb");
+    if (!input)
+        fail(name, strerror(errno));
+    size_t room = 1 << 16;
+    uint8_t *file = allocate(NULL, room);
+    *length = 0;
+    for (size_t got; (got = fread(file + *length, 1, room - *length, input)) > 0;) {
+        *length += got;
+        if (*length == room)
+            file = allocate(file, room *= 2);
+    }
+    if (ferror(input))
+        fail(name, strerror(errno));
+    fclose(input);
+    return file;
+}
+
+/* Ends the program where an answer is a refusal. */
+static void need_accepted(const uint64_t *answer)
+{
+    if (!answer[0])
+        return;
+    fprintf(stderr, "kiosk: refused with %" PRIu64 ": %s", answer[0], kitfinder_refusal_name(answer[0]));
+    if (answer[0] <= KITFINDER_TOO_MANY)
+        fprintf(stderr, ", at byte %" PRIu64, answer[1]);
+    fprintf(stderr, "\n");
     exit(1);
 }
 
 int main(int argc, char **argv)
 {
-    FILE *input = argc == 2 ? fopen(argv[1], "rb") : NULL;
-    if (!input) {
-        fprintf(stderr, "usage: kiosk FILE\n");
-        return 2;
-    }
-    size_t length = fread(file, 1, sizeof file, input);
-    fclose(input);
+    if (argc != 2)
+        fail("usage", "kiosk FILE");
+    size_t length;
+    uint8_t *file = read_file(argv[1], &length);
 
-    uint64_t loaded[8];
-    kitfinder_load(file, length, tags, sizeof tags, left_numbers, SETS, left_ends, SETS, left_items, ENTRIES,
-                   right_numbers, SETS, right_ends, SETS, right_items, ENTRIES, loaded);
-    if (loaded[0])
-        refused(loaded);
-    size_t kits = loaded[3], stacks = loaded[4], kit_items = loaded[5], stack_items = loaded[6];
+    uint64_t loaded[KITFINDER_LOAD_ANSWER];
+    kitfinder_load(file, length, tags, sizeof tags, kit_numbers, SETS, kit_ends, SETS, kit_items, ENTRIES, stack_numbers, SETS,
+                   stack_ends, SETS, stack_items, ENTRIES, loaded);
+    free(file);
+    need_accepted(loaded);
+    size_t kits = loaded[3], stacks = loaded[4], kit_entries = loaded[5], stack_entries = loaded[6];
     uint32_t t = (uint32_t)loaded[7];
 
-    uint64_t ordered[3];
-    kitfinder_order(t, left_ends, kits, left_items, kit_items, right_ends, stacks, right_items, stack_items, 0, ranks, t,
-                    ordered);
-    if (ordered[0])
-        refused(ordered);
+    uint64_t ordered[KITFINDER_ORDER_ANSWER];
+    kitfinder_order(t, kit_ends, kits, kit_items, kit_entries, stack_ends, stacks, stack_items, stack_entries, 0, ranks, t, ordered);
+    need_accepted(ordered);
 
-    size_t words = 16 * (kits + stacks + kit_items + stack_items + t) + 64;
-    uint32_t *work = malloc(words * sizeof *work);
-    if (!work)
-        return 2;
-    uint64_t joined[9];
-    kitfinder_join(t, left_ends, kits, left_items, kit_items, right_ends, stacks, right_items, stack_items, 2, ranks, t,
-                   UINT32_MAX, KITFINDER_MERGE, 0, 0, 0, 0, work, words, pairs, 2 * PAIRS, joined);
+    size_t words = kitfinder_work_words(t, kit_ends, kits, stack_ends, stacks);
+    size_t places = kitfinder_pair_places(kits, stacks);
+    uint32_t *work = allocate(NULL, words * sizeof *work);
+    uint16_t *pairs = allocate(NULL, (places + 1) * sizeof *pairs);
+    uint64_t joined[KITFINDER_JOIN_ANSWER];
+    kitfinder_join(t, kit_ends, kits, kit_items, kit_entries, stack_ends, stacks, stack_items, stack_entries, 2, ranks, t, UINT32_MAX,
+                   KITFINDER_MERGE, 0, 0, 0, 0, work, words, pairs, places, joined);
     free(work);
-    if (joined[0])
-        refused(joined);
+    need_accepted(joined);
     for (size_t i = 0; i < joined[3]; i++)
-        printf("kit %u is whole in stack %u\n", left_numbers[pairs[2 * i]], right_numbers[pairs[2 * i + 1]]);
+        printf("kit %u is whole in stack %u\n", kit_numbers[pairs[2 * i]], stack_numbers[pairs[2 * i + 1]]);
+    free(pairs);
+    if (fflush(stdout) || ferror(stdout))
+        fail("the list", "was not written");
     return 0;
 }

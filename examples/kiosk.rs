@@ -1,49 +1,41 @@
-//! A kiosk in Rust: the same as kiosk.c with the safe wrapper. Usage: kiosk FILE
+//! A kiosk in Rust: reads a tag file, and prints each kit that a stack holds whole. Ends with 0 for a list, 1 for a refusal, 2 where
+//! reading or writing failed. Usage: kiosk FILE
 
-use kitfinder::{Collection, Lists, Query, Refusal, Rule};
+use kitfinder::TagFile;
+use std::io::{self, Write};
+use std::process::ExitCode;
 
-/// The kit and stack numbers of every kit that a stack holds whole.
-fn whole_kits(file: &[u8]) -> Result<Vec<(u16, u16)>, Refusal> {
-    let mut tags = vec![0; 12 * 4096];
-    let (mut left_numbers, mut right_numbers) = (vec![0; 4096], vec![0; 4096]);
-    let (mut left_ends, mut right_ends) = (vec![0; 4096], vec![0; 4096]);
-    let (mut left_items, mut right_items) = (vec![0; 65535], vec![0; 65535]);
-    let lists = Lists {
-        tags: &mut tags,
-        left_numbers: &mut left_numbers,
-        left_ends: &mut left_ends,
-        left_items: &mut left_items,
-        right_numbers: &mut right_numbers,
-        right_ends: &mut right_ends,
-        right_items: &mut right_items,
-    };
-    let loaded = kitfinder::load(file, lists)?;
-    let t = loaded.tags as u32;
-    let left = Collection { ends: &left_ends[..loaded.left_sets], items: &left_items[..loaded.left_entries] };
-    let right = Collection { ends: &right_ends[..loaded.right_sets], items: &right_items[..loaded.right_entries] };
-
-    let mut ranks = vec![0; loaded.tags];
-    kitfinder::order(t, left, right, false, &mut ranks)?;
-
-    let query = Query { t, left, right, limit: 2, ranks: &ranks, budget: u32::MAX, rule: Rule::Merge };
-    let mut work = vec![0; kitfinder::work_words(t, left, right)];
-    let mut pairs = vec![0; 2 * 8192];
-    let counts = kitfinder::join(&query, &mut work, &mut pairs)?;
-    let places = pairs[..2 * counts.pairs as usize].chunks(2);
-    Ok(places.map(|pair| (left_numbers[pair[0] as usize], right_numbers[pair[1] as usize])).collect())
+fn fail(what: &str) -> ExitCode {
+    eprintln!("kiosk: {what}");
+    ExitCode::from(2)
 }
 
-fn main() {
-    let Some(path) = std::env::args().nth(1) else {
-        eprintln!("usage: kiosk FILE");
-        std::process::exit(2);
+fn print(pairs: &[(u16, u16)]) -> io::Result<()> {
+    let mut output = io::BufWriter::new(io::stdout().lock());
+    for (kit, stack) in pairs {
+        writeln!(output, "kit {kit} is whole in stack {stack}")?;
+    }
+    output.flush()
+}
+
+fn main() -> ExitCode {
+    let mut arguments = std::env::args_os().skip(1);
+    let (Some(path), None) = (arguments.next(), arguments.next()) else {
+        return fail("usage: kiosk FILE");
     };
-    let file = std::fs::read(&path).expect("the file can be read");
-    match whole_kits(&file) {
-        Ok(pairs) => pairs.iter().for_each(|(kit, stack)| println!("kit {kit} is whole in stack {stack}")),
+    let file = match std::fs::read(&path) {
+        Ok(file) => file,
+        Err(error) => return fail(&format!("{}: {error}", path.to_string_lossy())),
+    };
+    let pairs = match TagFile::load(&file).and_then(|loaded| loaded.whole_kits()) {
+        Ok(pairs) => pairs,
         Err(refusal) => {
-            println!("refused: {refusal:?}");
-            std::process::exit(1);
+            eprintln!("kiosk: {refusal}");
+            return ExitCode::from(1);
         }
+    };
+    match print(&pairs) {
+        Ok(()) => ExitCode::SUCCESS,
+        Err(error) => fail(&format!("the list was not written: {error}")),
     }
 }

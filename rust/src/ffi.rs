@@ -1,6 +1,8 @@
-//! The functions of the static library as C sees them: include/kitfinder.h in Rust. A slice is a pointer and then its length.
+//! The functions of the static library as C sees them: include/kitfinder.h in Rust, which says what each asks. A slice is a pointer and
+//! then its length; the functions of the crate's root are safe.
 
 extern "C" {
+    /// Lists every pair of a left set and a right set that contains it.
     pub fn kitfinder_join(
         t: u32,
         left_ends: *const u32,
@@ -27,6 +29,7 @@ extern "C" {
         answer: *mut [u64; 9],
     );
 
+    /// Ranks the items by frequency.
     pub fn kitfinder_order(
         t: u32,
         left_ends: *const u32,
@@ -43,6 +46,7 @@ extern "C" {
         answer: *mut [u64; 3],
     );
 
+    /// Loads a tag file.
     pub fn kitfinder_load(
         file: *const u8,
         file_len: usize,
@@ -63,6 +67,7 @@ extern "C" {
         answer: *mut [u64; 8],
     );
 
+    /// Writes a tag file.
     pub fn kitfinder_write(
         t: u32,
         tags: *const u8,
@@ -84,5 +89,6 @@ extern "C" {
         answer: *mut [u64; 4],
     );
 
+    /// Reads the record at a byte place of a tag file.
     pub fn kitfinder_read_record(file: *const u8, file_len: usize, at: usize, answer: *mut [u64; 9]);
 }

@@ -1,136 +1,242 @@
-//! Safe Rust functions over the proved static library of the kit finder. Each calls one exported function and turns its answer
-//! words into a `Result`. Left sets are kits and right sets are stacks; the lent lists are the caller's, as in the library.
+//! Safe Rust functions over the proved static library of the kit finder: a set containment join of kits and stacks, the order of
+//! tags, and the tag file's loader and writer.
+//!
+//! Two levels. [`join`], [`order`], [`load`], [`write()`] and [`read_record`] each call one function of the library on lists that the
+//! caller lends, and allocate nothing. [`TagFile`], [`Sets`] and [`Query::run`] own their lists.
+//!
+//! ```
+//! # fn main() -> Result<(), kitfinder::Refusal> {
+//! // Kit 7 with two tags, and stack 9 with the same two.
+//! let mut bytes = b"KT\x00\x07\x02".to_vec();
+//! bytes.extend([[1; 12], [2; 12]].concat());
+//! bytes.extend(b"SK\x00\x09\x02");
+//! bytes.extend([[2; 12], [1; 12]].concat());
+//!
+//! let file = kitfinder::TagFile::load(&bytes)?;
+//! assert_eq!(file.whole_kits()?, [(7, 9)]);
+//! # Ok(())
+//! # }
+//! ```
+//!
+//! Words: a kit is a left set, a stack a right set, a tag an item, the allowance the budget. A place is the number of a set in its
+//! collection, from 0. docs/FORMAT.md has the tag file, the limits, and what makes a set bad.
+//!
+//! Everything may be called from several threads at once. The stack that each function of the library may take is a constant here
+//! ([`JOIN_STACK`] and its like), as in include/kitfinder.h.
+#![deny(missing_docs)]
 
 pub mod ffi;
+mod owned;
+mod refusal;
 
-/// A collection: set k holds the items from the end of set k-1 (0 for the first) up to its own end.
-#[derive(Clone, Copy, Debug)]
+pub use owned::{Joined, Sets, TagFile};
+pub use refusal::Refusal;
+
+/// The most items (distinct tags).
+pub const MAX_ITEMS: usize = 4096;
+/// The most sets of a side.
+pub const MAX_SETS: usize = 4096;
+/// The most entries of a side: items of its sets.
+pub const MAX_ENTRIES: usize = 65535;
+/// The most items of a set.
+pub const MAX_SET_LENGTH: usize = 255;
+/// The greatest limit of a join.
+pub const MAX_LIMIT: u32 = 255;
+/// The bytes of a tag.
+pub const TAG_BYTES: usize = 12;
+/// The bytes of a record before its tags.
+pub const RECORD_HEAD_BYTES: usize = 5;
+/// The bytes of stack that a join may take.
+pub const JOIN_STACK: usize = 131072;
+/// The bytes of stack that ordering may take.
+pub const ORDER_STACK: usize = 32768;
+/// The bytes of stack that loading may take.
+pub const LOAD_STACK: usize = 131072;
+/// The bytes of stack that writing may take.
+pub const WRITE_STACK: usize = 8192;
+/// The bytes of stack that reading a record may take.
+pub const READ_RECORD_STACK: usize = 1024;
+
+/// A collection: set k holds the items from the end of set k-1 (0 for the first) up to its own end, strictly rising. [`Sets`] makes
+/// one.
+#[derive(Clone, Copy, Debug, Default, PartialEq, Eq)]
 pub struct Collection<'a> {
+    /// The end of each set.
     pub ends: &'a [u32],
+    /// The items of all sets. Those beyond the last end don't count.
     pub items: &'a [u16],
 }
 
 /// The two collections of a join.
-#[derive(Clone, Copy, Debug, PartialEq, Eq)]
+#[derive(Clone, Copy, Debug, PartialEq, Eq, Hash)]
 pub enum Side {
+    /// The left sets: kits.
     Left,
+    /// The right sets: stacks.
     Right,
-}
-
-/// Why an operation gave no result: the rows of the refusal table. A `usize` is the byte place of the record at fault, or the
-/// place of the bad set.
-#[derive(Clone, Copy, Debug, PartialEq, Eq)]
-pub enum Refusal {
-    Malformed(usize),
-    NumberUsed(usize),
-    TooMany(usize),
-    ShortOutput,
-    BadSet(Side, usize),
-    BadSettings,
-    ShortWork,
-    Spent,
-    ShortPairs,
 }
 
 /// The four weights of the weighed merge rule.
 #[derive(Clone, Copy, Debug, PartialEq)]
 pub struct Weights {
+    /// What a candidate costs.
     pub a: f64,
+    /// What a right set costs that holds the path's last item.
     pub b: f64,
+    /// What a merge costs in any case.
     pub g: f64,
+    /// What a check costs.
     pub h: f64,
 }
 
 /// The merge rule.
 #[derive(Clone, Copy, Debug, PartialEq)]
 pub enum Rule {
+    /// Always goes on to the limit.
     Merge,
+    /// Checks every left set against every right set seen.
     Check,
+    /// Compares the costs of both at each node.
     Weighed(Weights),
 }
 
 /// What a join is asked: both collections over `t` items, the depth limit, the rank of each item, the budget of checks, the rule.
 #[derive(Clone, Copy, Debug)]
 pub struct Query<'a> {
+    /// How many items there are.
     pub t: u32,
+    /// The left sets: kits.
     pub left: Collection<'a>,
+    /// The right sets: stacks.
     pub right: Collection<'a>,
+    /// How deep left sets are merged along shared prefixes: 1 to [`MAX_LIMIT`].
     pub limit: u32,
+    /// The rank of each item: a permutation of 0 .. t-1.
     pub ranks: &'a [u16],
+    /// The most checks that the join may need: the allowance.
     pub budget: u32,
+    /// The merge rule.
     pub rule: Rule,
 }
 
 /// The six counts of a join.
 #[derive(Clone, Copy, Debug, PartialEq, Eq)]
+#[non_exhaustive]
 pub struct Counts {
+    /// Pairs of a left set and a right set that contains it.
     pub pairs: u32,
+    /// Those that were met by path.
     pub by_path: u32,
+    /// Those that a check confirmed.
     pub confirmed: u32,
+    /// All checks.
     pub checks: u32,
+    /// Checks that the signatures ended.
     pub dropped: u32,
+    /// Checks that the items ended.
     pub false_drops: u32,
 }
 
 /// The seven lists that the loader fills.
 #[derive(Debug)]
 pub struct Lists<'a> {
+    /// The tag table: [`TAG_BYTES`] for each item.
     pub tags: &'a mut [u8],
+    /// The record numbers of the left sets.
     pub left_numbers: &'a mut [u16],
+    /// The ends of the left sets.
     pub left_ends: &'a mut [u32],
+    /// The items of the left sets.
     pub left_items: &'a mut [u16],
+    /// The record numbers of the right sets.
     pub right_numbers: &'a mut [u16],
+    /// The ends of the right sets.
     pub right_ends: &'a mut [u32],
+    /// The items of the right sets.
     pub right_items: &'a mut [u16],
 }
 
 /// How much the loader filled.
 #[derive(Clone, Copy, Debug, PartialEq, Eq)]
+#[non_exhaustive]
 pub struct Loaded {
+    /// Left sets: kit records.
     pub left_sets: usize,
+    /// Right sets: stack records.
     pub right_sets: usize,
+    /// Items of the left sets.
     pub left_entries: usize,
+    /// Items of the right sets.
     pub right_entries: usize,
+    /// Distinct tags.
     pub tags: usize,
 }
 
-/// A whole record of a tag file: its tags begin at byte `tags`, and the next record at `next`.
+/// A whole record of a tag file.
 #[derive(Clone, Copy, Debug, PartialEq, Eq)]
+#[non_exhaustive]
 pub struct Record {
+    /// Left for a kit, right for a stack.
     pub side: Side,
+    /// Its number.
     pub number: u16,
+    /// How many tags it has, repeats included.
     pub count: usize,
+    /// The byte place of its first tag.
     pub tags: usize,
+    /// The byte place of the next record.
     pub next: usize,
 }
 
-/// The words that a join's work list must have: 16n + 64, where n counts sets, their entries and items.
+/// The entries of a collection: its last end, or as many as there can be where that is wild.
+fn entries(collection: Collection) -> usize {
+    collection.ends.last().map_or(0, |&end| (end as usize).min(MAX_ENTRIES))
+}
+
+/// The words that a join's work list must have: 16n + 64, where n counts sets, their entries and items. Of a bad collection it takes no
+/// more than the limits for granted, so that it never answers more than 2,293,792; the join then refuses for another cause first.
 pub fn work_words(t: u32, left: Collection, right: Collection) -> usize {
-    let entries = |c: Collection| c.ends.last().map_or(0, |&end| end as usize);
-    16 * (left.ends.len() + right.ends.len() + entries(left) + entries(right) + t as usize) + 64
+    let sets = left.ends.len().min(MAX_SETS) + right.ends.len().min(MAX_SETS);
+    16 * (sets + entries(left) + entries(right) + (t as usize).min(MAX_ITEMS)) + 64
 }
 
-/// The refusal of an answer, or that there is none.
-fn accepted(answer: &[u64]) -> Result<(), Refusal> {
-    let place = answer[1] as usize;
-    Err(match answer[0] {
-        0 => return Ok(()),
-        1 => Refusal::Malformed(place),
-        2 => Refusal::NumberUsed(place),
-        3 => Refusal::TooMany(place),
-        4 => Refusal::ShortOutput,
-        5 if answer[1] == 0 => Refusal::BadSet(Side::Left, answer[2] as usize),
-        5 => Refusal::BadSet(Side::Right, answer[2] as usize),
-        6 => Refusal::BadSettings,
-        7 => Refusal::ShortWork,
-        8 => Refusal::Spent,
-        9 => Refusal::ShortPairs,
-        n => unreachable!("the library has no refusal {n}"),
-    })
+/// Places of a pair list that suffice whatever the sets hold: two for each left set and each right set, 33,554,432 at most.
+pub fn pair_places(left: Collection, right: Collection) -> usize {
+    2 * left.ends.len().min(MAX_SETS) * right.ends.len().min(MAX_SETS)
 }
 
-/// Lists every pair of a left set and a right set that contains it: two places a pair, rising by left, then right.
-/// The work list is the sole undecided result: kept after `BadSet`, `BadSettings` and `ShortWork`, else its content is free.
+/// The bytes that [`write()`] fills: 1,613,800 at most.
+pub fn file_bytes(left: Collection, right: Collection) -> usize {
+    let sets = left.ends.len().min(MAX_SETS) + right.ends.len().min(MAX_SETS);
+    RECORD_HEAD_BYTES * sets + TAG_BYTES * (entries(left) + entries(right))
+}
+
+/// The pairs of a filled pair list, each a left place and a right place.
+///
+/// ```
+/// assert!(kitfinder::pairs(&[0, 3, 2, 1]).eq([(0, 3), (2, 1)]));
+/// ```
+pub fn pairs(filled: &[u16]) -> impl ExactSizeIterator<Item = (usize, usize)> + DoubleEndedIterator + Clone + '_ {
+    filled.chunks_exact(2).map(|pair| (pair[0] as usize, pair[1] as usize))
+}
+
+/// Lists every pair of a left set and a right set that contains it: two places a pair, rising by left, then right. The work list needs
+/// [`work_words`], and the pair list two places a pair ([`pair_places`] always suffices); [`pairs`] goes through what was filled.
+///
+/// The work list is the sole undecided result: kept after [`Refusal::BadSet`], [`Refusal::BadSettings`] and [`Refusal::ShortWork`], else its
+/// content is free.
+///
+/// ```
+/// use kitfinder::{Collection, Query, Rule};
+/// let left = Collection { ends: &[2, 3], items: &[0, 1, 1] };
+/// let right = Collection { ends: &[2], items: &[1, 2] };
+/// let query = Query { t: 3, left, right, limit: 2, ranks: &[0, 1, 2], budget: u32::MAX, rule: Rule::Merge };
+/// let mut work = vec![0; kitfinder::work_words(3, left, right)];
+/// let mut list = [0; 4];
+/// let counts = kitfinder::join(&query, &mut work, &mut list)?;
+/// assert!(kitfinder::pairs(&list[..2 * counts.pairs as usize]).eq([(1, 0)]));
+/// # Ok::<(), kitfinder::Refusal>(())
+/// ```
 pub fn join(query: &Query, work: &mut [u32], pairs: &mut [u16]) -> Result<Counts, Refusal> {
     let (rule, w) = match query.rule {
         Rule::Merge => (0, Weights { a: 0.0, b: 0.0, g: 0.0, h: 0.0 }),
@@ -166,7 +272,7 @@ pub fn join(query: &Query, work: &mut [u32], pairs: &mut [u16]) -> Result<Counts
             &mut answer,
         );
     }
-    accepted(&answer)?;
+    refusal::accepted(&answer)?;
     Ok(Counts {
         pairs: answer[3] as u32,
         by_path: answer[4] as u32,
@@ -177,7 +283,16 @@ pub fn join(query: &Query, work: &mut [u32], pairs: &mut [u16]) -> Result<Counts
     })
 }
 
-/// Gives each item its rank by frequency, rising or falling.
+/// Gives each item its rank by frequency, rising or falling. The list of ranks must have `t` places.
+///
+/// ```
+/// use kitfinder::Collection;
+/// let sets = Collection { ends: &[2, 3], items: &[0, 1, 1] };
+/// let mut ranks = [0; 3];
+/// kitfinder::order(3, sets, Collection::default(), false, &mut ranks)?;
+/// assert_eq!(ranks, [1, 2, 0]);
+/// # Ok::<(), kitfinder::Refusal>(())
+/// ```
 pub fn order(t: u32, left: Collection, right: Collection, falling: bool, ranks: &mut [u16]) -> Result<(), Refusal> {
     let mut answer = [0u64; 3];
     // SAFETY: each pointer comes from a slice of the length that follows it, and no two of the lent lists overlap.
@@ -198,10 +313,10 @@ pub fn order(t: u32, left: Collection, right: Collection, falling: bool, ranks: 
             &mut answer,
         );
     }
-    accepted(&answer)
+    refusal::accepted(&answer)
 }
 
-/// Loads a tag file into the seven lists.
+/// Loads a tag file into the seven lists. Lists as long as the limits hold every file. [`TagFile::load`] brings its own.
 pub fn load(file: &[u8], lists: Lists) -> Result<Loaded, Refusal> {
     let mut answer = [0u64; 8];
     // SAFETY: each pointer comes from a slice of the length that follows it, and no two of the lent lists overlap.
@@ -226,7 +341,7 @@ pub fn load(file: &[u8], lists: Lists) -> Result<Loaded, Refusal> {
             &mut answer,
         );
     }
-    accepted(&answer)?;
+    refusal::accepted(&answer)?;
     Ok(Loaded {
         left_sets: answer[3] as usize,
         right_sets: answer[4] as usize,
@@ -236,7 +351,16 @@ pub fn load(file: &[u8], lists: Lists) -> Result<Loaded, Refusal> {
     })
 }
 
-/// Writes a tag file of both collections and answers its length.
+/// Writes a tag file of both collections, kits first, and answers its length. It needs [`file_bytes`], and a tag table of `t` tags.
+///
+/// ```
+/// use kitfinder::Collection;
+/// let kit = Collection { ends: &[1], items: &[0] };
+/// let mut file = vec![0; kitfinder::file_bytes(kit, Collection::default())];
+/// kitfinder::write(1, &[9; 12], &[258], kit, &[], Collection::default(), &mut file)?;
+/// assert_eq!(file, b"KT\x01\x02\x01\x09\x09\x09\x09\x09\x09\x09\x09\x09\x09\x09\x09");
+/// # Ok::<(), kitfinder::Refusal>(())
+/// ```
 pub fn write(
     t: u32,
     tags: &[u8],
@@ -270,16 +394,23 @@ pub fn write(
             &mut answer,
         );
     }
-    accepted(&answer)?;
+    refusal::accepted(&answer)?;
     Ok(answer[3] as usize)
 }
 
 /// Reads the record at a place of a tag file; `None` at the file's end.
+///
+/// ```
+/// let record = kitfinder::read_record(b"KT\x00\x07\x00", 0)?.expect("there is a record");
+/// assert_eq!((record.number, record.count, record.next), (7, 0, 5));
+/// assert_eq!(kitfinder::read_record(b"KT\x00\x07\x00", record.next)?, None);
+/// # Ok::<(), kitfinder::Refusal>(())
+/// ```
 pub fn read_record(file: &[u8], at: usize) -> Result<Option<Record>, Refusal> {
     let mut answer = [0u64; 9];
     // SAFETY: the pointer comes from a slice of the length that follows it.
     unsafe { ffi::kitfinder_read_record(file.as_ptr(), file.len(), at, &mut answer) };
-    accepted(&answer)?;
+    refusal::accepted(&answer)?;
     if answer[3] == 1 {
         return Ok(None);
     }

@@ -1,4 +1,4 @@
--- One more tag of a record in the index: the tag is known, and its last place is brought up to date, or it is new, and is put
+-- One more tag of a record in the index: the tag is known, and was seen again at this turn, or it is new, and is put
 -- where the search found its position. Either way what `Adding` says holds of one tag more.
 use mathlib.Core.Path.{_≡_, refl, sym, ap, subst, _∙_}
 use mathlib.Core.List.{List, [], _∷_, _++_}
@@ -49,8 +49,8 @@ not-leb a b =
 
 -- ---- the tag at place pastTags start k
 
-module _ {file heads tails : List ℕ} {start k tags fresh : ℕ} {order seen : List ℕ}
-    (a : Adding file heads tails start k tags fresh order seen) (inside : pastTags start k + tagLength ≤ length file) where
+module _ {file heads tails : List ℕ} {start k turn tags fresh : ℕ} {order seen : List ℕ}
+    (a : Adding file heads tails start k turn tags fresh order seen) (inside : pastTags start k + tagLength ≤ length file) where
   abbrev place : ℕ
   place = pastTags start k
 
@@ -66,12 +66,12 @@ module _ {file heads tails : List ℕ} {start k tags fresh : ℕ} {order seen : 
   memb-next : (y : ℕ) → memb y (tagsAt (k + 1) file start) ≡ (memb y done || eqb y x)
   memb-next y = ap (memb y) (tagsAt-next k file start) ∙ memb-last y done x
 
-  -- what a last place says of one tag more: of another tag as before, of this one that it is there
-  mark-other : (q y : ℕ) → (y ≡ x → ⊥) → leb start q ≡ memb y done → leb start q ≡ memb y (tagsAt (k + 1) file start)
+  -- what the turn of a tag says after one tag more: of another tag as before, of this one that it is there
+  mark-other : (q y : ℕ) → (y ≡ x → ⊥) → leb turn q ≡ memb y done → leb turn q ≡ memb y (tagsAt (k + 1) file start)
   mark-other q y ne e = e ∙ sym (memb-next y ∙ ap (λ (b : Bool). memb y done || b) (ne-eqb y x ne) ∙ or-false (memb y done))
 
-  mark-this : leb start place ≡ memb x (tagsAt (k + 1) file start)
-  mark-this = le-leb start place (omega arith) ∙ sym (memb-next x ∙ or-right (memb x done) (eqb x x) (eq-eqb x x refl))
+  mark-this : leb turn turn ≡ memb x (tagsAt (k + 1) file start)
+  mark-this = le-leb turn turn (omega arith) ∙ sym (memb-next x ∙ or-right (memb x done) (eqb x x) (eq-eqb x x refl))
 
   counted-next : {f : ℕ} → f ≡ fresh + one (not (memb x done)) → f ≡ length (collapse (tagsAt (k + 1) file start))
   counted-next {f} e =
@@ -87,21 +87,21 @@ module _ {file heads tails : List ℕ} {start k tags fresh : ℕ} {order seen : 
           a .held y (sym (or-false (memb y done)) ∙ ap (λ (b : Bool). memb y done || b) (sym f) ∙ sym (memb-next y) ∙ m)
 
   module _ (id : ℕ) (h : id < tags) (e : tagOfId heads tails id ≡ x) where
-    known : OneMore file start k tags heads tails order tags (fresh + one (ltb (getD seen id 0) start))
-        heads tails order (set seen id place)
+    known : OneMore file start k turn tags heads tails order tags (fresh + one (ltb (getD seen id 0) turn))
+        heads tails order (set seen id turn)
     known =
         record {
           adding = record {
             sorted = a .sorted;
-            wide = length-set seen id place ∙ a .wide;
+            wide = length-set seen id turn ∙ a .wide;
             inside = omega arith;
-            before = each (λ q y. q < pastTags start (k + 1)) (omega arith) (λ j g ne. omega (arith, a .before j g));
-            marks = each (λ q y. leb start q ≡ memb y (tagsAt (k + 1) file start)) mark-this
+            before = each (λ q y. q ≤ turn) (omega arith) (λ j g ne. omega (arith, a .before j g));
+            marks = each (λ q y. leb turn q ≡ memb y (tagsAt (k + 1) file start)) mark-this
                 (λ j g ne. mark-other (getD seen j 0) (tagOfId heads tails j)
                 (λ q. ne (same-id (a .sorted) j id g h (q ∙ sym e))) (a .marks j g));
             held = held-next table (sym kept);
             counted = counted-next (ap (λ (b : Bool). fresh + one b)
-                (sym (not-leb start (getD seen id 0)) ∙ ap not (a .marks id h ∙ ap (λ (y : ℕ). memb y done) e)));
+                (sym (not-leb turn (getD seen id 0)) ∙ ap not (a .marks id h ∙ ap (λ (y : ℕ). memb y done) e)));
           };
           table = sym kept;
           bound = omega arith;
@@ -115,28 +115,28 @@ module _ {file heads tails : List ℕ} {start k tags fresh : ℕ} {order seen : 
             (sorted-lower (a .sorted) (p .at) x (p .below) here .below)
             (sorted-at (a .sorted) (p .at) (p .below) ∙ here)
 
-        each : (P : ℕ → ℕ → Type 0) → P place x → ((j : ℕ) → j < tags → (j ≡ id → ⊥) → P (getD seen j 0) (tagOfId heads tails j))
-            → (j : ℕ) → j < tags → P (getD (set seen id place) j 0) (tagOfId heads tails j)
+        each : (P : ℕ → ℕ → Type 0) → P turn x → ((j : ℕ) → j < tags → (j ≡ id → ⊥) → P (getD seen j 0) (tagOfId heads tails j))
+            → (j : ℕ) → j < tags → P (getD (set seen id turn) j 0) (tagOfId heads tails j)
         each P new old j g = by-test (eqb j id) (λ t. same j (eqb-true j id t)) (λ f. other j g (eqb-false j id f))
           where
-            here : P (getD (set seen id place) id 0) (tagOfId heads tails id)
-            here = rw (getD-set-same seen id place 0 (omega (arith, a .wide, a .sorted .listed .room)), e) new
+            here : P (getD (set seen id turn) id 0) (tagOfId heads tails id)
+            here = rw (getD-set-same seen id turn 0 (omega (arith, a .wide, a .sorted .listed .room)), e) new
 
-            same : (j : ℕ) → j ≡ id → P (getD (set seen id place) j 0) (tagOfId heads tails j)
-            same j q = subst (λ (m : ℕ). P (getD (set seen id place) m 0) (tagOfId heads tails m)) (sym q) here
+            same : (j : ℕ) → j ≡ id → P (getD (set seen id turn) j 0) (tagOfId heads tails j)
+            same j q = subst (λ (m : ℕ). P (getD (set seen id turn) m 0) (tagOfId heads tails m)) (sym q) here
 
-            other : (j : ℕ) → j < tags → (j ≡ id → ⊥) → P (getD (set seen id place) j 0) (tagOfId heads tails j)
-            other j g ne = rw (getD-set-other seen id j place 0 ne) (old j g ne)
+            other : (j : ℕ) → j < tags → (j ≡ id → ⊥) → P (getD (set seen id turn) j 0) (tagOfId heads tails j)
+            other j g ne = rw (getD-set-other seen id j turn 0 ne) (old j g ne)
 
-    pub adding-known : {r : ℕ} {is : List ℕ} → Seen seen id start place r is
-        → OneMore file start k tags heads tails order tags (fresh + r) heads tails order is
+    pub adding-known : {r : ℕ} {is : List ℕ} → Seen seen id turn r is
+        → OneMore file start k turn tags heads tails order tags (fresh + r) heads tails order is
     adding-known s = rw (s .counted, s .set-to) known
 
   module _ (at : ℕ) (low : Lower table x at) (free : tags < indexRoom)
       (missing : at < tags → tagOfId heads tails (getD order at 0) ≡ x → ⊥) where
     pub adding-new : {tag : Tag} {now-heads now-tails now-order now-seen : List ℕ} → tagValue tag ≡ x
-        → NewTag heads tails order seen tags at tag place now-heads now-tails now-order now-seen
-        → OneMore file start k tags heads tails order (tags + 1) (fresh + 1) now-heads now-tails now-order now-seen
+        → NewTag heads tails order seen tags at tag turn now-heads now-tails now-order now-seen
+        → OneMore file start k turn tags heads tails order (tags + 1) (fresh + 1) now-heads now-tails now-order now-seen
     adding-new {tag} {now-heads} {now-tails} {now-order} {now-seen} value p =
         record {
           adding = record {
@@ -149,10 +149,10 @@ module _ {file heads tails : List ℕ} {start k tags fresh : ℕ} {order seen : 
               listed = listed-put (a .sorted .listed) free within (p .order-to);
               rises = ap rising wider ∙ rising-insert x table (a .sorted .rises);
             };
-            wide = ap length (p .seen-to) ∙ length-set seen tags place ∙ a .wide;
+            wide = ap length (p .seen-to) ∙ length-set seen tags turn ∙ a .wide;
             inside = omega arith;
-            before = each (λ q y. q < pastTags start (k + 1)) (omega arith) (λ j g. omega (arith, a .before j g));
-            marks = each (λ q y. leb start q ≡ memb y (tagsAt (k + 1) file start)) mark-this
+            before = each (λ q y. q ≤ turn) (omega arith) (λ j g. omega (arith, a .before j g));
+            marks = each (λ q y. leb turn q ≡ memb y (tagsAt (k + 1) file start)) mark-this
                 (λ j g. mark-other (getD seen j 0) (tagOfId heads tails j) (differs j g) (a .marks j g));
             held = held-next (tableOf now-heads now-tails (tags + 1) now-order) wider;
             counted = counted-next (ap (λ (b : Bool). fresh + one (not b)) (sym absent));
@@ -200,32 +200,32 @@ module _ {file heads tails : List ℕ} {start k tags fresh : ℕ} {order seen : 
             refuted (memb x done) (λ m. let q = memb-place x table (a .held x m) in
             apart (q .at) (omega (arith, q .below, sorted-size (a .sorted))) (q .here))
 
-        each : (P : ℕ → ℕ → Type 0) → P place x → ((j : ℕ) → j < tags → P (getD seen j 0) (tagOfId heads tails j))
+        each : (P : ℕ → ℕ → Type 0) → P turn x → ((j : ℕ) → j < tags → P (getD seen j 0) (tagOfId heads tails j))
             → (j : ℕ) → j < tags + 1 → P (getD now-seen j 0) (tagOfId now-heads now-tails j)
         each P new old =
-            let stored = getD-set-same seen tags place 0 (omega (arith, a .wide)) in
+            let stored = getD-set-same seen tags turn 0 (omega (arith, a .wide)) in
             last-id (λ j. P (getD now-seen j 0) (tagOfId now-heads now-tails j)) tags
             (rw (p .seen-to, stored, tag-this p heads-room tails-room, value) new)
-            (λ j g. rw (p .seen-to, getD-set-other seen tags j place 0 (λ e. omega arith), tag-other p j g) (old j g))
+            (λ j g. rw (p .seen-to, getD-set-other seen tags j turn 0 (λ e. omega arith), tag-other p j g) (old j g))
 
 -- a record has at most as many distinct tags as tags
-pub fresh-bound : {file heads tails : List ℕ} {start k tags fresh : ℕ} {order seen : List ℕ}
-    → Adding file heads tails start k tags fresh order seen → fresh ≤ k
-fresh-bound {file} {heads} {tails} {start} {k} a =
+pub fresh-bound : {file heads tails : List ℕ} {start k turn tags fresh : ℕ} {order seen : List ℕ}
+    → Adding file heads tails start k turn tags fresh order seen → fresh ≤ k
+fresh-bound {file} {heads} {tails} {start} {k} {turn} a =
     omega (arith, a .counted, length-insertAll-bound [] (tagsAt k file start), length-tagsAt k file start)
 
 -- ---- the tags of a record one after the other: the invariant of `add_tags`, with its start, step and end
 
-pub record Going (file : List ℕ) (start count n : ℕ) (was-heads was-tails was-order : List ℕ) (k tags fresh : ℕ)
+pub record Going (file : List ℕ) (start count turn n : ℕ) (was-heads was-tails was-order : List ℕ) (k tags fresh : ℕ)
     (heads tails order seen : List ℕ) : Type 0 where
-  pub adding : Adding file heads tails start k tags fresh order seen
+  pub adding : Adding file heads tails start k turn tags fresh order seen
   pub table : tableOf heads tails tags order ≡ insertAll (tableOf was-heads was-tails n was-order) (tagsAt k file start)
   pub within : k ≤ count
   pub bound : tags ≤ n + k
 
-module _ {file : List ℕ} {start count n : ℕ} {was-heads was-tails was-order : List ℕ} where
-  pub going-start : {seen : List ℕ} → AddReady file start count n was-heads was-tails was-order seen
-      → Going file start count n was-heads was-tails was-order 0 n 0 was-heads was-tails was-order seen
+module _ {file : List ℕ} {start count turn n : ℕ} {was-heads was-tails was-order : List ℕ} where
+  pub going-start : {seen : List ℕ} → AddReady file start count turn n was-heads was-tails was-order seen
+      → Going file start count turn n was-heads was-tails was-order 0 n 0 was-heads was-tails was-order seen
   unfolding tagsAt insertAll memb
   going-start {seen} r =
       record {
@@ -234,7 +234,7 @@ module _ {file : List ℕ} {start count n : ℕ} {was-heads was-tails was-order 
           wide = r .wide;
           inside = omega (arith, r .inside);
           before = λ j h. omega (arith, r .before j h);
-          marks = λ j h. lt-leb start (getD seen j 0) (r .before j h);
+          marks = λ j h. lt-leb turn (getD seen j 0) (r .before j h);
           held = λ y m. true-false m refl;
           counted = refl;
         };
@@ -244,10 +244,10 @@ module _ {file : List ℕ} {start count n : ℕ} {was-heads was-tails was-order 
       }
 
   module _ {k tags fresh : ℕ} {heads tails order seen : List ℕ}
-      (g : Going file start count n was-heads was-tails was-order k tags fresh heads tails order seen) where
+      (g : Going file start count turn n was-heads was-tails was-order k tags fresh heads tails order seen) where
     pub going-step : {now-tags now-fresh : ℕ} {now-heads now-tails now-order now-seen : List ℕ} → k < count
-        → OneMore file start k tags heads tails order now-tags now-fresh now-heads now-tails now-order now-seen
-        → Going file start count n was-heads was-tails was-order (k + 1) now-tags now-fresh now-heads now-tails now-order now-seen
+        → OneMore file start k turn tags heads tails order now-tags now-fresh now-heads now-tails now-order now-seen
+        → Going file start count turn n was-heads was-tails was-order (k + 1) now-tags now-fresh now-heads now-tails now-order now-seen
     going-step h o =
         record {
           adding = o .adding;
@@ -258,13 +258,13 @@ module _ {file : List ℕ} {start count n : ℕ} {was-heads was-tails was-order 
           bound = omega (arith, g .bound, o .bound);
         }
 
-    pub going-end : count ≤ k → AllAdded file start count n was-heads was-tails was-order tags fresh heads tails order seen
+    pub going-end : count ≤ k → AllAdded file start count turn n was-heads was-tails was-order tags fresh heads tails order seen
     going-end past =
         let here : k ≡ count = omega (arith, g .within) in
         record {
           sorted = g .adding .sorted;
           wide = g .adding .wide;
-          before = subst (λ (m : ℕ). (j : ℕ) → j < tags → getD seen j 0 < pastTags start m) here (g .adding .before);
+          before = g .adding .before;
           table = g .table ∙ ap (λ (m : ℕ). insertAll (tableOf was-heads was-tails n was-order) (tagsAt m file start)) here;
           counted = g .adding .counted ∙ ap (λ (m : ℕ). length (collapse (tagsAt m file start))) here;
         }

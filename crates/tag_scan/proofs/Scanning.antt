@@ -25,20 +25,20 @@ use Rattle.tag_file.specs.declared.ReadAnswer.{ReadAnswer}
 use Rattle.tag_file.specs.declared.ReadAnswer.the-variants.{Record, NoMore, Refused}
 use Rattle.tag_file.proofs.Tables.{length-insertAll-bound}
 use Rattle.tag_file.proofs.ReadLaws.{read-refused}
-use Rattle.tag_file.proofs.RecordLaws.{length-tagsAt, read-after, read-past, read-within, read-length}
+use Rattle.tag_file.proofs.RecordLaws.{length-tagsAt, read-past, read-within, read-length}
 use Rattle.tag_file.proofs.RecordLaws.{records-next, totalLength-last}
 use Rattle.tag_index.specs.Index.{indexRoom, AddReady, AllAdded}
-use Rattle.tag_scan.specs.Scan.{keyOf, grownBy, isOver, Taken, faultAfter, firstFaultAfter, fileFaultAfter, ScannedAfter}
+use Rattle.tag_scan.specs.Scan.{keyOf, grownBy, turnOf, isOver, Taken, faultAfter, firstFaultAfter, fileFaultAfter, ScannedAfter}
 use Rattle.tag_scan.proofs.AfterFaults.{after-used, after-past, after-none}
 use Rattle.tag_scan.proofs.Numbers.{Noted, noted-step, noted-tells}
 use Rattle.tag_scan.proofs.Taking.{taken-over, taken-next}
-use Rattle.tag_scan.proofs.Counting.{grown-tags}
+use Rattle.tag_scan.proofs.Counting.{grown-tags, grown-turn}
 
 -- what the reading of a file ends with
 abbrev lastRefusal : List ℕ → Tested
 lastRefusal file = refusalOf (readAt file (totalLength (records file)))
 
-pub record Scanning (earlier : List TagRecord) (file used heads tails order places : List ℕ) (total : Loaded) (at : ℕ)
+pub record Scanning (earlier : List TagRecord) (file used heads tails order turns : List ℕ) (total : Loaded) (at : ℕ)
     : Type 0 where
   pub seen : List TagRecord
   pub split : records file ≡ seen ++ recordsAt file at
@@ -46,8 +46,8 @@ pub record Scanning (earlier : List TagRecord) (file used heads tails order plac
   pub within : at ≤ length file
   pub fault : fileFaultAfter earlier file ≡ firstFaultAfter earlier seen (recordsAt file at) (lastRefusal file)
   pub noted : Noted used seen
-  pub wide : length places ≡ indexRoom
-  pub before : (id : ℕ) → id < total .tags → getD places id 0 ≤ at
+  pub wide : length turns ≡ indexRoom
+  pub before : (id : ℕ) → id < total .tags → getD turns id 0 < turnOf total
   pub taken : Taken (earlier ++ seen) total heads tails order
 
 pub scanning-start : {earlier : List TagRecord} (file used heads tails order : List ℕ) {total : Loaded}
@@ -84,8 +84,8 @@ scanning-refused {earlier} {file} why e small =
     never : {A : Type 0} {w : Refusal} → Failed w ≡ Passed → A
     never e = let z : _≡_ {A = ℕ} 0 1 = cc in absurd (omega arith)
 
-module _ {earlier : List TagRecord} {file used heads tails order places : List ℕ} {total : Loaded} {at : ℕ}
-    (s : Scanning earlier file used heads tails order places total at) where
+module _ {earlier : List TagRecord} {file used heads tails order turns : List ℕ} {total : Loaded} {at : ℕ}
+    (s : Scanning earlier file used heads tails order turns total at) where
   -- the reading ended: there are no records from here on
   pub scanning-stop : (a : ReadAnswer) → readAt file at ≡ a → recordsAt file at ≡ []
       → ScannedAfter earlier file heads tails order (unless load.Refused (refusalOf a) (load.Loaded total))
@@ -141,18 +141,19 @@ module _ {earlier : List TagRecord} {file used heads tails order places : List �
       scanning-used t =
           scanning-refused (NumberUsed at) (here ∙ rw (after-used earlier (s .seen) this (tells ∙ t), ← s .place)) (s .within)
 
-    pub scanning-ready : c ≤ maxSetLength → AddReady file p c (total .tags) heads tails order places
-    scanning-ready few =
+    pub scanning-ready : {turn : ℕ} → turn ≡ turnOf total → c ≤ maxSetLength
+        → AddReady file p c turn (total .tags) heads tails order turns
+    scanning-ready now few =
         record {
           sorted = s .taken .sorted;
           wide = s .wide;
-          before = λ j h. omega (arith, s .before j h, read-after file at e);
+          before = λ j h. omega (arith, s .before j h, now);
           inside = omega (arith, read-past file at e, read-within file at e);
           room = omega (arith, s .taken .limited .tags);
         }
 
-    module _ {tags fresh : ℕ} {now-heads now-tails now-order now-places : List ℕ}
-        (added : AllAdded file p c (total .tags) heads tails order tags fresh now-heads now-tails now-order now-places) where
+    module _ {turn tags fresh : ℕ} {now-heads now-tails now-order now-turns : List ℕ}
+        (added : AllAdded file p c turn (total .tags) heads tails order tags fresh now-heads now-tails now-order now-turns) where
       pub fresh-few : c ≤ maxSetLength → fresh ≤ maxSetLength
       fresh-few few =
           omega (arith, added .counted, length-insertAll-bound [] (tagsAt c file p), length-tagsAt c file p)
@@ -176,9 +177,9 @@ module _ {earlier : List TagRecord} {file used heads tails order places : List �
             scanning-refused (TooMany at)
             (here ∙ rw (after-past earlier (s .seen) this (tells small ∙ free) (sym limit ∙ t), ← s .place)) (s .within)
 
-        pub scanning-next : {now-used : List ℕ} → Inserted used (keyOf side n) now-used → isOver now-total side ≡ false
-            → Scanning earlier file now-used now-heads now-tails now-order now-places now-total next
-        scanning-next noted few =
+        pub scanning-next : {now-used : List ℕ} → turn ≡ turnOf total → Inserted used (keyOf side n) now-used → isOver now-total side ≡ false
+            → Scanning earlier file now-used now-heads now-tails now-order now-turns now-total next
+        scanning-next now noted few =
             let same : now-total .tags ≡ tags = ap (λ (t : Loaded). t .tags) grew ∙ grown-tags total side tags fresh in
             record {
               seen = s .seen ++ (this ∷ []);
@@ -189,7 +190,12 @@ module _ {earlier : List TagRecord} {file used heads tails order places : List �
               fault = here ∙ rw (after-none earlier (s .seen) this (tells small ∙ free) (sym limit ∙ few));
               noted = noted-step this small (s .noted) noted;
               wide = added .wide;
-              before = λ j h. omega (arith, added .before j (subst (λ (k : ℕ). j < k) same h), read-past file at e);
+              before = λ j h. omega (
+                arith,
+                added .before j (subst (λ (k : ℕ). j < k) same h),
+                now,
+                ap turnOf grew ∙ grown-turn total side tags fresh,
+              );
               taken = subst (λ (rs : List TagRecord). Taken rs now-total now-heads now-tails now-order) assoc
                   (taken-next (s .taken) this (added .sorted) (added .table) (added .counted) grew
                   (sym (ap (λ (t : Loaded). isOver t side) grew) ∙ few));

@@ -62,6 +62,10 @@ grownBy t Right tags fresh =
       tags = tags;
     }
 
+-- the turn of the next record: one more than the records before it
+abbrev pub turnOf : Loaded → ℕ
+turnOf t = t .«left_sets» + t .«right_sets» + 1
+
 -- whether counts pass a limit
 abbrev pub passes : ℕ → ℕ → ℕ → Bool
 passes sets entries tags = ltb maxSets sets || (ltb maxEntries entries || ltb maxItems tags)

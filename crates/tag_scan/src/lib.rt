@@ -24,8 +24,8 @@ ghost use Rattle.sets.specs.Refusals.{rowOf, unless};
 ghost use Rattle.tag_file.specs.declared.LoadAnswer.the-variants.{Loaded as Accepted, Refused as Rejected};
 ghost use Rattle.tag_file.specs.Records.{TagRecord};
 ghost use Rattle.tag_file.specs.Loading.{refusalOf};
-ghost use Rattle.tag_scan.specs.Scan.{usedWords, keyOf, Claimed, grownBy, passes, isOver, Limited, Lengths, Taken};
-ghost use Rattle.tag_scan.specs.Scan.{SomeTaken, movedBy, ScannedAfter, ScannedOn, Scanned};
+ghost use Rattle.tag_scan.specs.Scan.{usedWords, keyOf, Claimed, grownBy, turnOf, passes, isOver, Limited, Lengths};
+ghost use Rattle.tag_scan.specs.Scan.{Taken, SomeTaken, movedBy, ScannedAfter, ScannedOn, Scanned};
 
 // The greatest number of distinct tags.
 const MAX_TAGS: usize = MAX_ITEMS as usize;
@@ -97,6 +97,14 @@ fn is_over(total: Loaded, side: Side) -> bool
     }
 }
 
+// The turn of the next record: one more than the records before it.
+fn turn_of(total: Loaded) -> u16
+    requires { ⌜ Limited total ⌝ }
+    ensures { λ r. ⌜ r ≡ turnOf total ⌝ }
+{
+    (total.left_sets + total.right_sets + 1) as u16
+}
+
 // What the first pass answers where the reading ended: the reader's refusal, or the counts.
 fn stopped(answer: ReadAnswer, total: Loaded) -> LoadAnswer
     ensures { λ r. ⌜ r ≡ unless Rejected (refusalOf answer) (Accepted total) ⌝ }
@@ -129,7 +137,7 @@ fn scan_file(
         → ScannedAfter earlier (now (file .entry)) (now (heads .exit)) (now (tails .exit)) (now (order .exit)) r) ⌝ }
 {
     let mut used = [0u64; USED_WORDS];
-    let mut seen = [0usize; INDEX_ROOM];
+    let mut seen = [0u16; INDEX_ROOM];
     let mut total = before;
     let mut at = 0;
     loop {
@@ -147,8 +155,20 @@ fn scan_file(
         if claim(&mut used, side, number) {
             return LoadAnswer::Refused(Refusal::NumberUsed(at));
         }
+        let turn = turn_of(total);
         let n = total.tags;
-        let added = add_tags(file, heads, tails, order, &mut seen, hints, tags, count, n);
+        let added = add_tags(
+            file,
+            heads,
+            tails,
+            order,
+            &mut seen,
+            hints,
+            tags,
+            count,
+            turn,
+            n,
+        );
         total = grown(total, side, added);
         if is_over(total, side) {
             return LoadAnswer::Refused(Refusal::TooMany(at));

@@ -89,16 +89,23 @@ returns-2 c =
     scanning-used (at-answer .before .before .before .loop .inv earlier taken) (read at-answer) (small at-answer)
     (sym (c .before .before .claim .ensures .before) ∙ c .if1 .taken)
 
+turn-of-requires : tie.Need-turn-of-requires Inv-loop μ-loop
+turn-of-requires c κs =
+    let at-loop = c .before .before .before .before .before .before .before .before in
+    let p = at-loop .before .before .pre in
+    at-loop .loop .inv (p .earlier) (p .taken) .taken .limited
+
 add-tags-requires : tie.Need-add-tags-requires Inv-loop μ-loop
 add-tags-requires c κs =
-    let at-answer = c .before .before .before .before .before .before .before .before .before .before in
+    let at-turn = c .before .before .before .before .before in
+    let at-answer = at-turn .before .before .before .before .before .before in
     let at-loop = at-answer .before .before .before in
     let p = at-loop .before .before .pre in
-    scanning-ready (at-loop .loop .inv (p .earlier) (p .taken)) (read at-answer) (few at-answer)
+    scanning-ready (at-loop .loop .inv (p .earlier) (p .taken)) (read at-answer) (at-turn .turn-of .ensures) (few at-answer)
 
 grown-requires : tie.Need-grown-requires Inv-loop μ-loop
 grown-requires c κs =
-    let at-answer = c .before .before .before .before .before .before .before .before .before .before .before in
+    let at-answer = c .before .before .before .before .before .before .before .before .before .before .before .before in
     let at-loop = at-answer .before .before .before in
     let p = at-loop .before .before .pre in
     let s = at-loop .loop .inv (p .earlier) (p .taken) in
@@ -111,7 +118,7 @@ is-over-requires c κs =
 returns-3 : tie.Need-returns-3 Inv-loop μ-loop
 returns-3 c =
     let at-tags = c .before .before .before in
-    let at-if1 = at-tags .before .before .before .before .before .before in
+    let at-if1 = at-tags .before .before .before .before .before .before .before in
     let at-claim = at-if1 .before .before in
     let at-answer = at-claim .before .before .before in
     λ earlier taken.
@@ -121,19 +128,20 @@ returns-3 c =
 
 loop-less : tie.Need-loop-less Inv-loop μ-loop
 loop-less c =
-    let at-claim = c .before .before .before .before .before .before .before .before .before .before .before in
+    let at-claim = c .before .before .before .before .before .before .before .before .before .before .before .before in
     read-less _ _ (read (at-claim .before .before .before))
 
 loop-again : tie.Need-loop-again Inv-loop μ-loop
 loop-again c =
     let at-tags = c .before .before .before in
-    let at-if1 = at-tags .before .before .before .before .before .before in
+    let at-turn = at-tags .before .before .before .before .before .before in
+    let at-if1 = at-turn .before in
     let at-claim = at-if1 .before .before in
     let at-answer = at-claim .before .before .before in
     λ earlier taken.
     scanning-next (at-answer .before .before .before .loop .inv earlier taken) (read at-answer) (at-tags .add-tags .ensures)
     (small at-answer) (sym (at-claim .claim .ensures .before) ∙ at-if1 .if1 .left) (c .before .before .grown .ensures)
-    (at-claim .claim .ensures .noted) (sym (c .before .is-over .ensures) ∙ c .if2 .left)
+    (at-turn .turn-of .ensures) (at-claim .claim .ensures .noted) (sym (c .before .is-over .ensures) ∙ c .if2 .left)
 
 pub scan-file-spec : {M : Type 1} → statement M
 scan-file-spec =
@@ -149,6 +157,7 @@ scan-file-spec =
     slice-aggregate-claim
     claim-requires
     returns-2
+    turn-of-requires
     add-tags-requires
     grown-requires
     is-over-requires

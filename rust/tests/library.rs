@@ -1,0 +1,220 @@
+//! The safe functions over the library: each refusal, the owned lists against the lent ones, and the header's constants.
+
+use kitfinder::{Collection, Query, Refusal, Rule, Sets, Side, TagFile, Weights};
+use std::collections::HashMap;
+use std::path::Path;
+
+fn repository(file: &str) -> Vec<u8> {
+    let path = Path::new(env!("CARGO_MANIFEST_DIR")).join("..").join(file);
+    std::fs::read(&path).unwrap_or_else(|error| panic!("{}: {error}", path.display()))
+}
+
+fn record(mark: &[u8; 2], number: u16, tags: &[u8]) -> Vec<u8> {
+    let mut bytes = mark.to_vec();
+    bytes.extend(number.to_be_bytes());
+    bytes.push(tags.len() as u8);
+    bytes.extend(tags.iter().flat_map(|&tag| [tag; 12]));
+    bytes
+}
+
+/// The shelf example: kits {0,1}, {1}, {0,2,3}; stacks {0,1,2}, {1,3}, {0,2,3}.
+fn shelf() -> (Sets, Sets) {
+    let kits = [vec![0, 1], vec![1], vec![0, 2, 3]].into_iter().collect();
+    let stacks = [vec![2, 1, 0], vec![1, 3], vec![0, 2, 3, 3]].into_iter().collect();
+    (kits, stacks)
+}
+
+fn query<'a>(kits: &'a Sets, stacks: &'a Sets) -> Query<'a> {
+    let (left, right) = (kits.collection(), stacks.collection());
+    Query { t: 4, left, right, limit: 2, ranks: &[0, 1, 2, 3], budget: u32::MAX, rule: Rule::Merge }
+}
+
+#[test]
+fn every_rule_and_limit_finds_the_same_pairs() {
+    let (kits, stacks) = shelf();
+    for rule in [Rule::Merge, Rule::Check, Rule::Weighed(Weights { a: 1.0, b: 1.0, g: 0.0, h: 1.5 })] {
+        for limit in [1, 2, 255] {
+            let found = Query { rule, limit, ..query(&kits, &stacks) }.run().expect("the shelf is accepted");
+            assert!(found.pairs().eq([(0, 0), (1, 0), (1, 1), (2, 2)]));
+            assert_eq!(found.counts().pairs, 4);
+            assert_eq!(found.pairs().len(), 4);
+            assert_eq!(found.pairs().next_back(), Some((2, 2)));
+        }
+    }
+}
+
+#[test]
+fn counts_are_those_of_the_library() {
+    let (kits, stacks) = shelf();
+    let counts = Query { rule: Rule::Check, ..query(&kits, &stacks) }.run().expect("the shelf is accepted").counts();
+    let all = (counts.pairs, counts.by_path, counts.confirmed, counts.checks, counts.dropped, counts.false_drops);
+    assert_eq!(all, (4, 0, 4, 7, 3, 0));
+}
+
+#[test]
+fn the_join_refuses() {
+    let (kits, stacks) = shelf();
+    let good = query(&kits, &stacks);
+    let mut many: Sets = (0..4097).map(|_| []).collect();
+    assert_eq!(Query { left: many.collection(), ..good }.run(), Err(Refusal::BadSet(Side::Left, 4096)));
+    many.push([4]);
+    let alien: Sets = [vec![], vec![4]].into_iter().collect();
+    assert_eq!(Query { right: alien.collection(), ..good }.run(), Err(Refusal::BadSet(Side::Right, 1)));
+    assert_eq!(Query { limit: 0, ..good }.run(), Err(Refusal::BadSettings));
+    assert_eq!(Query { ranks: &[0, 1, 1, 3], ..good }.run(), Err(Refusal::BadSettings));
+    assert_eq!(Query { rule: Rule::Check, budget: 6, ..good }.run(), Err(Refusal::Spent));
+    let (mut work, mut places) = (vec![0; kitfinder::work_words(4, good.left, good.right)], [0; 8]);
+    assert!(kitfinder::join(&good, &mut work, &mut places).is_ok());
+    assert_eq!(kitfinder::join(&good, &mut work[1..], &mut places), Err(Refusal::ShortWork));
+    assert_eq!(kitfinder::join(&good, &mut work, &mut places[..7]), Err(Refusal::ShortPairs));
+}
+
+#[test]
+fn wild_collections_ask_for_no_more_than_the_limits() {
+    let wild = Collection { ends: &[u32::MAX], items: &[] };
+    assert!(kitfinder::work_words(u32::MAX, wild, wild) <= 2_293_792);
+    assert!(kitfinder::file_bytes(wild, wild) <= 1_613_800);
+    let query = Query { t: 4, left: wild, right: wild, limit: 2, ranks: &[0, 1, 2, 3], budget: 0, rule: Rule::Merge };
+    assert_eq!(query.run(), Err(Refusal::BadSet(Side::Left, 0)));
+    let ends = vec![0; 5000];
+    let many = Collection { ends: &ends, items: &[] };
+    assert_eq!(kitfinder::pair_places(many, many), 33_554_432);
+}
+
+#[test]
+fn sets_are_sorted_and_their_repeats_collapsed() {
+    let mut sets = Sets::new();
+    assert!(sets.is_empty());
+    sets.push([3, 1, 3, 2, 1]);
+    sets.push([]);
+    sets.push([7]);
+    assert_eq!(sets.collection(), Collection { ends: &[3, 3, 4], items: &[1, 2, 3, 7] });
+    assert_eq!((0..4).map(|place| sets.get(place)).collect::<Vec<_>>(), [Some(&[1, 2, 3][..]), Some(&[]), Some(&[7]), None]);
+}
+
+#[test]
+fn a_loaded_file_has_its_tags_kits_and_stacks() {
+    let file = [record(b"SK", 9, &[5, 1, 5]), record(b"KT", 9, &[1]), record(b"KT", 300, &[]), record(b"KT", 4, &[7, 1])].concat();
+    let loaded = TagFile::load(&file).expect("the file is in order");
+    assert_eq!(loaded.t(), 3);
+    assert!(loaded.tags().eq([[1; 12], [5; 12], [7; 12]]));
+    assert_eq!(loaded.left_numbers(), [9, 300, 4]);
+    assert_eq!(loaded.right_numbers(), [9]);
+    assert_eq!(loaded.left().collection(), Collection { ends: &[1, 1, 3], items: &[0, 0, 2] });
+    assert_eq!(loaded.right().get(0), Some(&[0, 1][..]));
+    assert_eq!(loaded.ranks(false), Ok(vec![2, 0, 1]));
+    assert_eq!(loaded.ranks(true), Ok(vec![0, 1, 2]));
+    assert_eq!(loaded.whole_kits(), Ok(vec![(9, 9), (300, 9)]));
+    let written = loaded.write().expect("it can be written");
+    let kits_first = [record(b"KT", 9, &[1]), record(b"KT", 300, &[]), record(b"KT", 4, &[1, 7]), record(b"SK", 9, &[1, 5])].concat();
+    assert_eq!(written, kits_first);
+    assert_eq!(TagFile::load(&written).as_ref(), Ok(&loaded));
+}
+
+#[test]
+fn the_loader_has_room_for_files_of_heads_and_of_tags() {
+    assert_eq!(TagFile::load(b""), Ok(TagFile::default()));
+    let heads: Vec<u8> = (0..4096).flat_map(|number| record(b"KT", number, &[])).collect();
+    assert_eq!(TagFile::load(&heads).map(|file| file.left().len()), Ok(4096));
+    let tags: Vec<u8> = (0..=255).collect();
+    let full = record(b"SK", 0, &tags[..255]);
+    assert_eq!(TagFile::load(&full).map(|file| (file.t(), file.right().get(0).map(<[u16]>::len))), Ok((255, Some(255))));
+}
+
+#[test]
+fn the_loader_refuses() {
+    let kit = record(b"KT", 7, &[1, 2]);
+    assert_eq!(TagFile::load(&kit[..kit.len() - 1]), Err(Refusal::Malformed(0)));
+    assert_eq!(TagFile::load(&[kit.clone(), kit.clone()].concat()), Err(Refusal::NumberUsed(29)));
+    let heads: Vec<u8> = (0..4097).flat_map(|number| record(b"KT", number, &[])).collect();
+    assert_eq!(TagFile::load(&heads), Err(Refusal::TooMany(5 * 4096)));
+    let lists = |tags: &mut [u8]| {
+        let (n, e, i) = (&mut [0; 1], &mut [0; 1], &mut [0; 2]);
+        let right = (&mut [0; 0], &mut [0; 0], &mut [0; 0]);
+        let lists = kitfinder::Lists {
+            tags,
+            left_numbers: n,
+            left_ends: e,
+            left_items: i,
+            right_numbers: right.0,
+            right_ends: right.1,
+            right_items: right.2,
+        };
+        kitfinder::load(&kit, lists).map(|loaded| loaded.tags)
+    };
+    assert_eq!(lists(&mut [0; 24]), Ok(2));
+    assert_eq!(lists(&mut [0; 23]), Err(Refusal::ShortOutput));
+}
+
+#[test]
+fn records_are_read_one_after_the_other() {
+    let file = [record(b"KT", 7, &[1, 2]), record(b"SK", 258, &[])].concat();
+    let kit = kitfinder::read_record(&file, 0).expect("in order").expect("a record");
+    assert_eq!((kit.side, kit.number, kit.count, kit.tags, kit.next), (Side::Left, 7, 2, 5, 29));
+    let stack = kitfinder::read_record(&file, kit.next).expect("in order").expect("a record");
+    assert_eq!((stack.side, stack.number, stack.next), (Side::Right, 258, file.len()));
+    assert_eq!(kitfinder::read_record(&file, stack.next), Ok(None));
+    assert_eq!(kitfinder::read_record(&file, 1), Err(Refusal::Malformed(1)));
+}
+
+#[test]
+fn refusals_are_errors_with_numbers_and_words() {
+    let refusals = [
+        Refusal::Malformed(3),
+        Refusal::NumberUsed(3),
+        Refusal::TooMany(3),
+        Refusal::ShortOutput,
+        Refusal::BadSet(Side::Right, 3),
+        Refusal::BadSettings,
+        Refusal::ShortWork,
+        Refusal::Spent,
+        Refusal::ShortPairs,
+    ];
+    for (refusal, number) in refusals.iter().zip(1..) {
+        assert_eq!(refusal.number(), number);
+        let error: Box<dyn std::error::Error + Send + Sync> = Box::new(*refusal);
+        assert!(error.to_string().starts_with(&format!("refused with {number}: ")));
+    }
+}
+
+#[test]
+fn calls_run_on_several_threads_with_the_stack_that_is_stated() {
+    let file = repository("examples/library.tags");
+    let stack = kitfinder::JOIN_STACK.max(kitfinder::LOAD_STACK) + (64 << 10);
+    let threads: Vec<_> = (0..4)
+        .map(|_| {
+            let file = file.clone();
+            let work = move || TagFile::load(&file).and_then(|loaded| loaded.whole_kits());
+            std::thread::Builder::new().stack_size(stack).spawn(work).expect("a thread")
+        })
+        .collect();
+    for thread in threads {
+        assert_eq!(thread.join().expect("it ends"), Ok(vec![(101, 1), (102, 1), (103, 2), (104, 1)]));
+    }
+}
+
+#[test]
+fn constants_are_the_headers() {
+    let header = String::from_utf8(repository("include/kitfinder.h")).expect("text");
+    let defined: HashMap<&str, &str> =
+        header.lines().filter_map(|line| line.strip_prefix("#define KITFINDER_")?.split_once(' ')).collect();
+    let number = |name: &str| defined.get(name).and_then(|text| text.parse::<usize>().ok());
+    let constants = [
+        ("MAX_ITEMS", kitfinder::MAX_ITEMS),
+        ("MAX_SETS", kitfinder::MAX_SETS),
+        ("MAX_ENTRIES", kitfinder::MAX_ENTRIES),
+        ("MAX_SET_LENGTH", kitfinder::MAX_SET_LENGTH),
+        ("MAX_LIMIT", kitfinder::MAX_LIMIT as usize),
+        ("TAG_BYTES", kitfinder::TAG_BYTES),
+        ("RECORD_HEAD_BYTES", kitfinder::RECORD_HEAD_BYTES),
+        ("JOIN_STACK", kitfinder::JOIN_STACK),
+        ("ORDER_STACK", kitfinder::ORDER_STACK),
+        ("LOAD_STACK", kitfinder::LOAD_STACK),
+        ("WRITE_STACK", kitfinder::WRITE_STACK),
+        ("READ_RECORD_STACK", kitfinder::READ_RECORD_STACK),
+    ];
+    for (name, value) in constants {
+        assert_eq!(number(name), Some(value), "{name}");
+    }
+    assert_eq!(defined.get("VERSION"), Some(&format!("{:?}", env!("CARGO_PKG_VERSION")).as_str()));
+}

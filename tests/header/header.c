@@ -1,0 +1,151 @@
+/* What the header says beyond the functions' contracts: its helpers' lengths suffice and are not one too many, its limits are the
+ * library's, refusals have names, and a null pointer may stand for an empty list. It is C and C++. */
+#include <stdio.h>
+#include <stdlib.h>
+#include <string.h>
+
+#include "kitfinder.h"
+
+static int failures;
+static void hold(int fact, const char *what)
+{
+    if (!fact) {
+        fprintf(stderr, "tests/header: not so: %s\n", what);
+        failures++;
+    }
+}
+#define HOLD(fact) hold(fact, #fact)
+
+enum { SETS = KITFINDER_MAX_SETS, ENTRIES = KITFINDER_MAX_ENTRIES, ITEMS = KITFINDER_MAX_ITEMS };
+
+static uint32_t left_ends[SETS + 1], right_ends[SETS + 1];
+static uint16_t left_items[ENTRIES + 1], right_items[ENTRIES + 1], numbers[SETS + 1], ranks[ITEMS + 1];
+static uint8_t tags[KITFINDER_TAG_BYTES * ITEMS];
+static uint64_t answer[16];
+
+/* Sets of these lengths, the first `wide` of them one longer. */
+static size_t make_sets(uint32_t *ends, uint16_t *items, size_t sets, size_t length, size_t wide)
+{
+    size_t end = 0;
+    for (size_t k = 0; k < sets; k++) {
+        for (size_t i = 0; i < length + (k < wide); i++)
+            items[end++] = (uint16_t)i;
+        ends[k] = (uint32_t)end;
+    }
+    return end;
+}
+
+static uint64_t join(uint32_t t, size_t lefts, size_t rights, uint32_t limit, uint32_t *work, size_t words, uint16_t *pairs, size_t places)
+{
+    kitfinder_join(t, left_ends, lefts, left_items, ENTRIES + 1, right_ends, rights, right_items, ENTRIES + 1, limit, ranks, t,
+                   UINT32_MAX, KITFINDER_MERGE, 0, 0, 0, 0, work, words, pairs, places, answer);
+    return answer[0];
+}
+
+static uint64_t write_file(uint32_t t, size_t lefts, size_t rights, uint8_t *file, size_t length)
+{
+    kitfinder_write(t, tags, (size_t)KITFINDER_TAG_BYTES * t, numbers, lefts, left_ends, lefts, left_items, ENTRIES + 1, numbers,
+                    rights, right_ends, rights, right_items, ENTRIES + 1, file, length, answer);
+    return answer[0];
+}
+
+/* Helpers and limits at the largest collections: 4,096 kits with 65,535 entries, and so the stacks. */
+static void test_largest(void)
+{
+    for (size_t i = 0; i < ITEMS; i++)
+        ranks[i] = (uint16_t)i;
+    HOLD(make_sets(left_ends, left_items, SETS, 15, SETS - 1) == ENTRIES);
+    HOLD(make_sets(right_ends, right_items, SETS, 15, SETS - 1) == ENTRIES);
+    size_t words = kitfinder_work_words(ITEMS, left_ends, SETS, right_ends, SETS);
+    HOLD(words == 2293792);
+    size_t places = kitfinder_pair_places(SETS, SETS);
+    HOLD(places == 33554432);
+    uint32_t *work = (uint32_t *)malloc(words * sizeof *work);
+    uint16_t *pairs = (uint16_t *)malloc(places * sizeof *pairs);
+    size_t bytes = kitfinder_file_bytes(left_ends, SETS, right_ends, SETS);
+    HOLD(bytes == 1613800);
+    uint8_t *file = (uint8_t *)malloc(bytes);
+    if (!work || !pairs || !file) {
+        hold(0, "there is memory");
+        return;
+    }
+    HOLD(join(ITEMS, SETS, SETS, KITFINDER_MAX_LIMIT, work, words, pairs, places) == KITFINDER_ACCEPTED);
+    HOLD(answer[3] == (uint64_t)SETS * (SETS - 1) + 1);
+    HOLD(join(ITEMS, SETS, SETS, 2, work, words - 1, pairs, places) == KITFINDER_SHORT_WORK);
+    HOLD(join(ITEMS, SETS, SETS, KITFINDER_MAX_LIMIT + 1, work, words, pairs, places) == KITFINDER_BAD_SETTINGS);
+    HOLD(join(ITEMS + 1, SETS, SETS, 2, work, words, pairs, places) == KITFINDER_BAD_SETTINGS);
+    HOLD(write_file(ITEMS, SETS, SETS, file, bytes) == KITFINDER_ACCEPTED && answer[3] == bytes);
+    HOLD(write_file(ITEMS, SETS, SETS, file, bytes - 1) == KITFINDER_SHORT_OUTPUT);
+
+    /* The pair list that always suffices is used whole where every stack holds every kit. */
+    HOLD(make_sets(left_ends, left_items, 7, 3, 0) == 21 && make_sets(right_ends, right_items, 5, 3, 0) == 15);
+    HOLD(join(3, 7, 5, 2, work, kitfinder_work_words(3, left_ends, 7, right_ends, 5), pairs, kitfinder_pair_places(7, 5)) == 0);
+    HOLD(2 * answer[3] == kitfinder_pair_places(7, 5));
+    HOLD(join(3, 7, 5, 2, work, words, pairs, kitfinder_pair_places(7, 5) - 1) == KITFINDER_SHORT_PAIRS);
+
+    /* Beyond the limits a set is bad, and the helpers ask for no more. */
+    HOLD(make_sets(left_ends, left_items, SETS + 1, 0, 0) == 0);
+    HOLD(kitfinder_work_words(ITEMS + 1, left_ends, SETS + 1, right_ends, 5) <= words);
+    HOLD(join(3, SETS + 1, 5, 2, work, words, pairs, places) == KITFINDER_BAD_SET && answer[1] == KITFINDER_KITS && answer[2] == SETS);
+    HOLD(make_sets(left_ends, left_items, 1, KITFINDER_MAX_SET_LENGTH + 1, 0) == 256);
+    HOLD(join(ITEMS, 1, 5, 2, work, words, pairs, places) == KITFINDER_BAD_SET && answer[2] == 0);
+    HOLD(make_sets(left_ends, left_items, 1, KITFINDER_MAX_SET_LENGTH, 0) == 255);
+    HOLD(join(ITEMS, 1, 5, 2, work, words, pairs, places) == KITFINDER_ACCEPTED);
+    left_ends[0] = UINT32_MAX;
+    HOLD(kitfinder_work_words(3, left_ends, 1, right_ends, 5) <= words);
+    HOLD(kitfinder_file_bytes(left_ends, 1, right_ends, 5) <= bytes);
+    HOLD(join(3, 1, 5, 2, work, words, pairs, places) == KITFINDER_BAD_SET);
+    free(work);
+    free(pairs);
+    free(file);
+}
+
+/* Empty lists with a null pointer, in every function. */
+static void test_null(void)
+{
+    static uint32_t work[1024];
+    uint16_t pairs[8];
+    uint32_t empty[2] = { 0, 0 };
+    HOLD(kitfinder_work_words(0, NULL, 0, NULL, 0) == 64 && kitfinder_file_bytes(NULL, 0, NULL, 0) == 0);
+    for (uint32_t rule = 0; rule < 3; rule++) {
+        kitfinder_join(0, NULL, 0, NULL, 0, NULL, 0, NULL, 0, 1, NULL, 0, 0, rule, 0, 0, 0, 0, work, 64, NULL, 0, answer);
+        HOLD(answer[0] == 0 && answer[3] == 0);
+        kitfinder_join(0, empty, 2, NULL, 0, empty, 2, NULL, 0, 1, NULL, 0, 0, rule, 0, 0, 0, 0, work, 128, pairs, 8, answer);
+        HOLD(answer[0] == 0);
+        kitfinder_join(0, NULL, 0, NULL, 0, empty, 2, NULL, 0, 1, NULL, 0, 0, rule, 0, 0, 0, 0, work, 128, NULL, 0, answer);
+        HOLD(answer[0] == 0 && answer[3] == 0);
+        kitfinder_join(0, NULL, 0, NULL, 0, NULL, 0, NULL, 0, 1, NULL, 0, 0, rule, 0, 0, 0, 0, NULL, 0, NULL, 0, answer);
+        HOLD(answer[0] == KITFINDER_SHORT_WORK);
+    }
+    kitfinder_order(0, NULL, 0, NULL, 0, NULL, 0, NULL, 0, 0, NULL, 0, answer);
+    HOLD(answer[0] == 0);
+    kitfinder_load(NULL, 0, NULL, 0, NULL, 0, NULL, 0, NULL, 0, NULL, 0, NULL, 0, NULL, 0, answer);
+    HOLD(answer[0] == 0 && answer[3] == 0 && answer[7] == 0);
+    kitfinder_load((const uint8_t *)"KT\0\1\0", 5, NULL, 0, NULL, 0, NULL, 0, NULL, 0, NULL, 0, NULL, 0, NULL, 0, answer);
+    HOLD(answer[0] == KITFINDER_SHORT_OUTPUT);
+    kitfinder_write(0, NULL, 0, NULL, 0, NULL, 0, NULL, 0, NULL, 0, NULL, 0, NULL, 0, NULL, 0, answer);
+    HOLD(answer[0] == 0 && answer[3] == 0);
+    kitfinder_write(0, NULL, 0, numbers, 1, empty, 1, NULL, 0, NULL, 0, NULL, 0, NULL, 0, NULL, 0, answer);
+    HOLD(answer[0] == KITFINDER_SHORT_OUTPUT);
+    kitfinder_read_record(NULL, 0, 0, answer);
+    HOLD(answer[0] == 0 && answer[3] == 1);
+    kitfinder_read_record(NULL, 0, 1, answer);
+    HOLD(answer[0] == KITFINDER_MALFORMED);
+}
+
+static void test_names(void)
+{
+    for (uint64_t n = 0; n < 11; n++)
+        for (uint64_t m = 0; m < n; m++)
+            HOLD(strcmp(kitfinder_refusal_name(n), kitfinder_refusal_name(m)) != 0);
+    HOLD(strcmp(kitfinder_refusal_name(UINT64_MAX), kitfinder_refusal_name(10)) == 0);
+}
+
+int main(void)
+{
+    test_largest();
+    test_null();
+    test_names();
+    printf("header: %s\n", failures ? "FAILED" : "helpers, limits, null and names hold");
+    return failures > 0;
+}
