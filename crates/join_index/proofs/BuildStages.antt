@@ -46,27 +46,34 @@ module _ {leftEnds leftItems rightEnds rightItems ranks w : List ℕ} {nl nr : �
   abbrev rights : List (List ℕ)
   rights = setsOf rightEnds rightItems
 
-  pub right-room : SideRoom (lay .offsets) (lay .slots) nr ranks rightEnds rightItems w
+  pub right-room : SideRoom (lay .offsets) nr ranks rightEnds rightItems w
   right-room =
       record {
         good = p .room .rightGood;
         permutation = p .room .permutation;
         few = p .room .items;
         entry = sym (p .rightEntries);
-        below = omega (arith, left-above p, least-below p, order-above p, signed-above p, slots-above p);
-        room = omega (arith, wide p);
+        room = omega (arith, left-above p, least-below p, order-above p, signed-above p, slots-above p, wide p);
       }
 
   module _ {a : List ℕ} (right-built : SideBuilt (lay .offsets) nr ranks rights w a) where
-    pub left-room : SideRoom (lay .«right_ranks» + nr) (lay .slots) nl ranks leftEnds leftItems a
+    pub left-room : SideRoom (lay .«right_ranks» + nr) nl ranks leftEnds leftItems a
     left-room =
         record {
           good = p .room .leftGood;
           permutation = p .room .permutation;
           few = p .room .items;
           entry = sym (p .leftEntries);
-          below = omega (arith, left-above p, p .out .leastOffsets, order-above p, signed-above p, slots-above p);
-          room = omega (arith, wide p, right-built .size);
+          room = omega (
+            arith,
+            left-above p,
+            p .out .leastOffsets,
+            order-above p,
+            signed-above p,
+            slots-above p,
+            wide p,
+            right-built .size,
+          );
         }
 
     -- the right sets in any later list that is the same up to the end of their regions

@@ -1,7 +1,7 @@
 -- `join_index::build::build` meets its contract: each stage requires what the layout and the stages before it leave.
 use native.Mathlib.Omega.{arith}
 use borrow.Author.Needs.{needs}
-use Rattle.join_index.proofs.BuildPlan.{Planned, by-length, sizes, plan-sizes}
+use Rattle.join_index.proofs.BuildPlan.{Planned, by-length, sizes, plan-sizes, wide}
 use Rattle.join_index.proofs.BuildStages.{right-room, left-room, least-room, order-room, sign-room}
 use Rattle.join_index.proofs.BuildGround.{ground, ground-items}
 use Rattle.join_index.proofs.build.build.Statement.{statement}
@@ -113,7 +113,7 @@ returns c =
           rule),
       omega (
         arith,
-        right-room (planned out) .room,
+        wide (planned out),
         right .build-side .kept .0,
         left .build-side2 .kept .0,
         least .build-least .kept .0,
