@@ -10,9 +10,11 @@ use join_tests::test_join;
 use join_walk::visit::Settings;
 use join_walk::visit::Walked;
 use join_walk::walk::walk;
+use kept_rows::rows::clear_rows;
 use lists::zero_u16;
 use sets::Refusal;
 use sets::Tested;
+use word_lists::flags::clear_flags;
 ghost use mathlib.Core.Path.{_≡_};
 ghost use lib.ListN.{length};
 ghost use Rattle.sets.specs.Collections.{setsOf};
@@ -64,7 +66,8 @@ fn join_ready(
         rule: rule,
         budget: budget,
     };
-    let walked = walk(work, lay, st, lefts, rights);
+    let mut flags = clear_flags();
+    let walked = walk(work, &mut flags, lay, st, lefts, rights);
     if walked.spent {
         zero_u16(pairs);
         return JoinAnswer::Refused(Refusal::Spent);
@@ -75,7 +78,8 @@ fn join_ready(
         zero_u16(pairs);
         return JoinAnswer::Refused(Refusal::ShortPairs);
     }
-    write_pairs(work, lay, lefts, rights, pairs);
+    clear_rows(work, lay, lefts);
+    write_pairs(work, &mut flags, lay, lefts, rights, pairs);
     JoinAnswer::Joined(Counts {
         pairs: count,
         by_path: tally.by_path,
