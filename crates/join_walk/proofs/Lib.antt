@@ -20,6 +20,7 @@ pub mod NodeStops
 pub mod NodeSteps
 pub mod RowsOf
 pub mod NodeRows
+pub mod EmptyNodes
 pub mod NodeChildren
 pub mod ChildSteps
 pub mod ChildNodes
