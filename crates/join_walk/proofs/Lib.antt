@@ -21,6 +21,8 @@ pub mod NodeSteps
 pub mod RowsOf
 pub mod NodeRows
 pub mod EmptyNodes
+pub mod LoneSets
+pub mod LimitRows
 pub mod NodeChildren
 pub mod ChildSteps
 pub mod ChildNodes

@@ -16,6 +16,7 @@ use Rattle.join_spec.specs.Walk.{isCandidate}
 use Rattle.join_index.specs.Grouping.{leftAt, rightAt, keyAt}
 use Rattle.join_index.specs.Ground.{Listing}
 use Rattle.join_index.specs.declared.Layout.{Layout}
+use Rattle.word_lists.specs.Words.{Word}
 use Rattle.join_check.specs.Asking.{Index, LeftThere, RunThere}
 use Rattle.join_check.specs.Runs.{run, leftIn, lead}
 use Rattle.join_check.specs.Checks.{holdFirst, RowThere, RunsThere}
@@ -131,6 +132,18 @@ module _ {lay : Layout} {q : Query} {path w : List ℕ} {d lo hi from to : ℕ} 
     unfolding keep
     rows-none none =
         rows-sifted ∙ ap (keep (containedAt q own)) (slice-past from to w none) ∙ sym (slice-past from to w none)
+
+    -- the same of the left set as it was read
+    module _ {k : ℕ} (word : Word w (lay .order + i) k) where
+      pub read-begin : prefix path (leftAt q k) ≡ true
+      read-begin = subst (λ (n : ℕ). prefix path (leftAt q n) ≡ true) (sym (word .is)) rows-begin
+
+      pub read-row : RowThere lay q w k d from to
+      read-row = subst (λ (n : ℕ). RowThere lay q w n d from to) (sym (word .is)) rows-row
+
+      pub read-sifted : containing q k ≡ keep (containedAt q k) (slice from to w)
+      read-sifted =
+          subst (λ (n : ℕ). containing q n ≡ keep (containedAt q n) (slice from to w)) (sym (word .is)) rows-sifted
 
 -- the leading elements of a list pass the test
 lead-at : (p : ℕ → Bool) (xs : List ℕ) (i : ℕ) → i < lead p xs → p (getD xs i 0) ≡ true
