@@ -13,6 +13,7 @@ use join_walk::walk::walk;
 use lists::zero_u16;
 use sets::Refusal;
 use sets::Tested;
+use word_lists::flags::clear_flags;
 ghost use mathlib.Core.Path.{_≡_};
 ghost use lib.ListN.{length};
 ghost use Rattle.sets.specs.Collections.{setsOf};
@@ -64,7 +65,8 @@ fn join_ready(
         rule: rule,
         budget: budget,
     };
-    let walked = walk(work, lay, st, lefts, rights);
+    let mut flags = clear_flags();
+    let walked = walk(work, &mut flags, lay, st, lefts, rights);
     if walked.spent {
         zero_u16(pairs);
         return JoinAnswer::Refused(Refusal::Spent);

@@ -14,6 +14,7 @@ use join_spec::Rule;
 ghost use mathlib.Core.List.{List};
 ghost use Prim.Native.Nat.{ℕ};
 ghost use Rattle.join_spec.specs.Query.{Query};
+ghost use Rattle.word_lists.specs.Flags.{Clear};
 ghost use Rattle.join_walk.specs.Narrowing.{SomePath};
 ghost use Rattle.join_walk.specs.Visiting.{Node, NodeVisited, ChildrenAt, ChildrenVisited};
 
@@ -34,6 +35,7 @@ pub struct Walked {
 // are its candidates.
 pub fn visit_node(
     work: &mut [u32],
+    flags: &mut [u8],
     lay: Layout,
     st: Settings,
     d: usize,
@@ -44,8 +46,10 @@ pub fn visit_node(
     tally: Tally,
 ) -> Walked
     requires { ⌜ SomePath (λ q path. Node lay st q path (now work) d lo hi from to tally) ⌝ }
-    ensures { λ r. ⌜ ((q : Query) (path : List ℕ) → Node lay st q path (now (work .entry)) d lo hi from to tally
+    requires { ⌜ Clear (now flags) ⌝ }
+    ensures visited { λ r. ⌜ ((q : Query) (path : List ℕ) → Node lay st q path (now (work .entry)) d lo hi from to tally
         → NodeVisited lay st q path (now (work .entry)) (now (work .exit)) d lo hi tally r) ⌝ }
+    ensures clear { λ _. ⌜ Clear (now (flags .exit)) ⌝ }
 {
     let limit = st.limit;
     let rule = st.rule;
@@ -53,7 +57,7 @@ pub fn visit_node(
         return check_block(work, lay, st, d, d - 1, lo, hi, from, to, tally);
     }
     let rank = rank_on(work, lay, lo, d - 1);
-    let part = narrow(work, lay, d, rank, from, to);
+    let part = narrow(work, flags, lay, d, rank, from, to);
     let first = part.from;
     let last = part.to;
     if limit <= d {
@@ -67,13 +71,14 @@ pub fn visit_node(
             spent: false,
         };
     }
-    visit_children(work, lay, st, d, mid, hi, first, last, merged)
+    visit_children(work, flags, lay, st, d, mid, hi, first, last, merged)
 }
 
 // Visits the children of a node of d ranks: the left sets at the places lo up to hi go on after its path, and the words
 // from..to are the candidates after it.
 pub fn visit_children(
     work: &mut [u32],
+    flags: &mut [u8],
     lay: Layout,
     st: Settings,
     d: usize,
@@ -84,14 +89,16 @@ pub fn visit_children(
     tally: Tally,
 ) -> Walked
     requires { ⌜ SomePath (λ q path. ChildrenAt lay st q path (now work) d lo hi from to tally) ⌝ }
-    ensures { λ r. ⌜ ((q : Query) (path : List ℕ) → ChildrenAt lay st q path (now (work .entry)) d lo hi from to tally
+    requires { ⌜ Clear (now flags) ⌝ }
+    ensures visited { λ r. ⌜ ((q : Query) (path : List ℕ) → ChildrenAt lay st q path (now (work .entry)) d lo hi from to tally
         → ChildrenVisited lay st q path (now (work .entry)) (now (work .exit)) d lo hi tally r) ⌝ }
+    ensures clear { λ _. ⌜ Clear (now (flags .exit)) ⌝ }
 {
     let mut r = tally;
     let mut i = lo;
     while i < hi {
         let j = run_end(work, lay, d, i, hi);
-        let one = visit_node(work, lay, st, d + 1, i, j, from, to, r);
+        let one = visit_node(work, flags, lay, st, d + 1, i, j, from, to, r);
         if one.spent {
             return one;
         }

@@ -12,6 +12,7 @@ use word_lists::words::word_at;
 ghost use Prim.Native.Nat.{ℕ};
 ghost use Rattle.join_spec.specs.Query.{Query};
 ghost use Rattle.join_check.specs.Asking.{Some};
+ghost use Rattle.word_lists.specs.Flags.{Clear};
 ghost use Rattle.join_walk.specs.Partitions.{SomeRank, Partition, Partitions, WalkReady, WalkDone};
 ghost use Rattle.join_walk.specs.Visiting.{PartVisited};
 
@@ -19,6 +20,7 @@ ghost use Rattle.join_walk.specs.Visiting.{PartVisited};
 // have been added to the seen ones by now: they stand first by least rank.
 fn visit_partition(
     work: &mut [u32],
+    flags: &mut [u8],
     lay: Layout,
     st: Settings,
     lo: usize,
@@ -26,8 +28,10 @@ fn visit_partition(
     tally: Tally,
 ) -> Walked
     requires { ⌜ SomeRank (λ q r. Partition lay st q (now work) lo hi tally r) ⌝ }
-    ensures { λ one. ⌜ ((q : Query) (r : ℕ) → Partition lay st q (now (work .entry)) lo hi tally r
+    requires { ⌜ Clear (now flags) ⌝ }
+    ensures visited { λ one. ⌜ ((q : Query) (r : ℕ) → Partition lay st q (now (work .entry)) lo hi tally r
         → PartVisited lay st q (now (work .entry)) (now (work .exit)) lo hi tally one) ⌝ }
+    ensures clear { λ _. ⌜ Clear (now (flags .exit)) ⌝ }
 {
     let order = lay.order;
     let offsets = lay.least_offsets;
@@ -35,12 +39,13 @@ fn visit_partition(
     let k = word_at(work, order + lo);
     let key = key_at(work, lay, k, 0);
     let seen = word_at(work, offsets + key);
-    visit_node(work, lay, st, 1, lo, hi, first, first + seen, tally)
+    visit_node(work, flags, lay, st, 1, lo, hi, first, first + seen, tally)
 }
 
 // Visits the partitions of the left sets at the places lo up to hi of the order.
 fn visit_partitions(
     work: &mut [u32],
+    flags: &mut [u8],
     lay: Layout,
     st: Settings,
     lo: usize,
@@ -48,14 +53,16 @@ fn visit_partitions(
     tally: Tally,
 ) -> Walked
     requires { ⌜ Some (λ q. Partitions lay st q (now work) lo hi tally) ⌝ }
-    ensures { λ r. ⌜ ((q : Query) → Partitions lay st q (now (work .entry)) lo hi tally
+    requires { ⌜ Clear (now flags) ⌝ }
+    ensures visited { λ r. ⌜ ((q : Query) → Partitions lay st q (now (work .entry)) lo hi tally
         → PartVisited lay st q (now (work .entry)) (now (work .exit)) lo hi tally r) ⌝ }
+    ensures clear { λ _. ⌜ Clear (now (flags .exit)) ⌝ }
 {
     let mut r = tally;
     let mut i = lo;
     while i < hi {
         let j = run_end(work, lay, 0, i, hi);
-        let one = visit_partition(work, lay, st, i, j, r);
+        let one = visit_partition(work, flags, lay, st, i, j, r);
         if one.spent {
             return one;
         }
@@ -69,10 +76,19 @@ fn visit_partitions(
 }
 
 // The whole walk over the index of a query. Empty left sets pair with every right set.
-pub fn walk(work: &mut [u32], lay: Layout, st: Settings, lefts: usize, rights: usize) -> Walked
+pub fn walk(
+    work: &mut [u32],
+    flags: &mut [u8],
+    lay: Layout,
+    st: Settings,
+    lefts: usize,
+    rights: usize,
+) -> Walked
     requires { ⌜ Some (λ q. WalkReady lay st q (now work) lefts rights) ⌝ }
-    ensures { λ r. ⌜ ((q : Query) → WalkReady lay st q (now (work .entry)) lefts rights
+    requires { ⌜ Clear (now flags) ⌝ }
+    ensures walked { λ r. ⌜ ((q : Query) → WalkReady lay st q (now (work .entry)) lefts rights
         → WalkDone lay q (st .budget) (now (work .entry)) (now (work .exit)) r) ⌝ }
+    ensures clear { λ _. ⌜ Clear (now (flags .exit)) ⌝ }
 {
     let none = Tally {
         by_path: 0,
@@ -88,5 +104,5 @@ pub fn walk(work: &mut [u32], lay: Layout, st: Settings, lefts: usize, rights: u
     }
     let mid = merged_end(work, lay, 0, 0, lefts);
     let merged = add_paths(none, mid, rights);
-    visit_partitions(work, lay, st, mid, lefts, merged)
+    visit_partitions(work, flags, lay, st, mid, lefts, merged)
 }

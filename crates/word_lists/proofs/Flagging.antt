@@ -1,5 +1,5 @@
--- Tables of flags: the flags of no word, of one word more, and what they tell; and the invariant of `flag_words`, with its start,
--- step and end.
+-- Tables of flags: the flags of no word, of one word more, and what they tell; and the invariants of `flag_words` and of
+-- `unflag_words`, with their start, step and end.
 use Prim.Native.Nat.{ℕ, _+_, _≤_, _<_}
 use mathlib.Core.Path.{_≡_, refl, sym, ap, subst, _∙_}
 use mathlib.Core.List.{List, [], _∷_, _++_}
@@ -7,7 +7,7 @@ use mathlib.Core.Bool.{Bool, true, false, or-false, or-true}
 use native.Mathlib.Omega.{arith}
 use native.Mathlib.Numerals.{add-one}
 use lib.Dec.{eqb, ltb}
-use lib.ListN.{length, getD, set, replicate, length-set}
+use lib.ListN.{length, getD, set, replicate, length-set, length-replicate}
 use lib.Seq.{getD-set-same, getD-set-other}
 use borrow.Author.Tests.{ltb-true, eqb-true, eqb-false}
 use Rattle.lists.specs.Lists.{one, memb, slice}
@@ -15,9 +15,9 @@ use Rattle.lists.proofs.Counting.{one-bound}
 use Rattle.lists.proofs.Bools.{by-test}
 use Rattle.lists.proofs.Zeros.{getD-zeros}
 use Rattle.lists.proofs.Membership.{memb-append}
-use Rattle.lists.proofs.Slices.{slice-none, slice-snoc, all-slice}
+use Rattle.lists.proofs.Slices.{slice-none, slice-past, slice-next, slice-snoc, all-slice}
 use Rattle.word_lists.specs.Words.{Word}
-use Rattle.word_lists.specs.Flags.{Below, Flagged, isFlagged}
+use Rattle.word_lists.specs.Flags.{flagRoom, Below, Flagged, isFlagged, Clear}
 
 -- a word of a part
 pub word-below : {bound lo hi : ℕ} {w : List ℕ} → Below bound lo hi w → (i : ℕ) → lo ≤ i → i < hi → getD w i 0 < bound
@@ -32,6 +32,9 @@ below-length {bound} {lo} {hi} {w} flags size p = subst (λ (n : ℕ). Below n l
 -- zeros flag nothing; for any length, since the table is long
 pub flagged-none : (n : ℕ) → Flagged (λ s. false) (replicate n 0)
 flagged-none n = record { is = λ s low. getD-zeros n s }
+
+pub clear-none : Clear (replicate flagRoom 0)
+clear-none = record { size = length-replicate {A = ℕ} flagRoom 0; none = flagged-none flagRoom }
 
 -- tests that agree
 pub flagged-same : {test other : ℕ → Bool} {flags : List ℕ} → Flagged test flags
@@ -115,3 +118,50 @@ module _ {w : List ℕ} {a b : ℕ} {was : List ℕ} (places : Below (length was
   flagging-end {flags} {i} f past =
       let here : i ≡ b = omega (arith, f .high) in
       subst (λ (n : ℕ). Flagged (λ s. memb s (slice a n w)) flags) here (f .flagged)
+
+-- of a part whose words were flagged those from place i on may still be; no other number is
+pub record Unflagging (w : List ℕ) (a b : ℕ) (was flags : List ℕ) (i : ℕ) : Type 0 where
+  pub size : length flags ≡ length was
+  pub low : a ≤ i
+  pub high : i ≤ b
+  pub others : (s : ℕ) → s < length flags → memb s (slice i b w) ≡ false → getD flags s 0 ≡ 0
+
+module _ {w : List ℕ} {a b : ℕ} {was : List ℕ} (places : Below (length was) a b w) where
+  pub unflagging-start : Flagged (λ s. memb s (slice a b w)) was → Unflagging w a b was was a
+  unflagging-start f =
+      record {
+        size = refl;
+        low = omega arith;
+        high = places .order;
+        others = λ s low other. f .is s low ∙ ap one other;
+      }
+
+  pub unflagging-low : {flags : List ℕ} {i s : ℕ} → Unflagging w a b was flags i → i < b → Word w i s → s < length flags
+  unflagging-low {flags} {i} f more word = omega (arith, f .size, word-below places i (f .low) more, word .is)
+
+  pub unflagging-step : {flags : List ℕ} {i x : ℕ} → Unflagging w a b was flags i → i < b → Word w i x
+      → Unflagging w a b was (set flags x 0) (i + 1)
+  unfolding memb
+  unflagging-step {flags} {i} {x} f more word =
+      let next : slice i b w ≡ x ∷ slice (i + 1) b w =
+      slice-next i b w more (places .within) ∙ ap (λ (y : ℕ). y ∷ slice (i + 1) b w) (sym (word .is))
+      in
+      record {
+        size = length-set flags x 0 ∙ f .size;
+        low = omega (arith, f .low);
+        high = omega arith;
+        others =
+            λ s small other.
+            by-test (eqb s x)
+            (λ e.
+            ap (λ (n : ℕ). getD (set flags x 0) n 0) (eqb-true s x e)
+            ∙ getD-set-same flags x 0 0 (unflagging-low f more word))
+            (λ e.
+            getD-set-other flags x s 0 0 (eqb-false s x e)
+            ∙ f .others s (rw length-set at small) (ap (memb s) next ∙ rw (e, other)));
+      }
+
+  pub unflagging-end : {flags : List ℕ} {i : ℕ} → Unflagging w a b was flags i → b ≤ i → Flagged (λ s. false) flags
+  unfolding memb
+  unflagging-end {flags} {i} f past =
+      record { is = λ s low. f .others s low (ap (memb s) (slice-past i b w past)) }

@@ -10,16 +10,16 @@ use lib.Dec.{ltb}
 use lib.ListN.{length, getD, set}
 use lib.Seq.{append-snoc}
 use borrow.Author.Tests.{ltb-true}
-use Rattle.lists.specs.Lists.{one, onto, keep, memb, rising, slice}
+use Rattle.lists.specs.Lists.{one, onto, all, keep, memb, rising, slice}
 use Rattle.lists.specs.Parts.{Changed}
 use Rattle.lists.proofs.Bools.{by-test}
 use Rattle.lists.proofs.Filtering.{keep-same-where, memb-keep}
 use Rattle.lists.proofs.Rising.{rising-keep, rising-same}
-use Rattle.lists.proofs.Slices.{slice-past, slice-none, slice-next, slice-set-above, slice-set-end}
+use Rattle.lists.proofs.Slices.{frame-slice, slice-past, slice-none, slice-next, slice-set-above, slice-set-end}
 use Rattle.lists.proofs.Slices.{changed-none, changed-store, changed-at-low}
 use Rattle.word_lists.specs.Merges.{Rising, Intersected}
 use Rattle.word_lists.specs.Flags.{Below, Flagged, isFlagged, Behind, Kept}
-use Rattle.word_lists.proofs.Flagging.{word-below, flag-tells}
+use Rattle.word_lists.proofs.Flagging.{word-below, flag-tells, flagged-same}
 
 -- what was written, with what is to be kept of the rest, is what is to be kept
 pub record Keeping (test : ℕ → Bool) (w₀ : List ℕ) (c e out : ℕ) (w : List ℕ) (j n : ℕ) : Type 0 where
@@ -128,3 +128,19 @@ kept-shared {a} {b} {c} {e} {out} {w} {w′} {flags} {r} first second places f k
           (λ s low. flag-tells f s (ltb-true s (length flags) low))
           ∙ share-swap (slice a b w) (slice c e w) (first .rise) (second .rise);
     }
+
+-- a part below what was written is as it was: its words have their flags still, and these are known
+module _ (a : ℕ) {b out hi : ℕ} {w w′ : List ℕ} (low : b ≤ out) (changed : Changed out hi w w′) where
+  part-same : slice a b w′ ≡ slice a b w
+  part-same = frame-slice a b out w w′ low (changed .low)
+
+  pub below-changed : {bound : ℕ} → Below bound a b w → Below bound a b w′
+  below-changed {bound} p =
+      record {
+        order = p .order;
+        within = omega (arith, p .within, changed .size);
+        below = ap (all (λ s. ltb s bound)) part-same ∙ p .below;
+      }
+
+  pub flagged-changed : {flags : List ℕ} → Flagged (λ s. memb s (slice a b w)) flags → Flagged (λ s. memb s (slice a b w′)) flags
+  flagged-changed f = flagged-same f (λ s. sym (ap (memb s) part-same))

@@ -3,7 +3,7 @@
 use Prim.Native.Nat.{ℕ, _+_, _-_, _≤_, _<_}
 use mathlib.Core.Path.{_≡_}
 use mathlib.Core.List.{List}
-use mathlib.Core.Bool.{Bool, true}
+use mathlib.Core.Bool.{Bool, true, false}
 use lib.Dec.{eqb, ltb}
 use lib.ListN.{length, getD}
 use Rattle.lists.specs.Lists.{one, all, keep, slice}
@@ -26,6 +26,11 @@ pub record Flagged (test : ℕ → Bool) (flags : List ℕ) : Type 0 where
 -- whether the flag of a number is 1
 abbrev pub isFlagged : List ℕ → ℕ → Bool
 isFlagged flags s = eqb (getD flags s 0) 1
+
+-- a table in which no number is flagged
+pub record Clear (flags : List ℕ) : Type 0 where
+  pub size : length flags ≡ flagRoom
+  pub none : Flagged (λ s. false) flags
 
 -- the part from c up to e lies below out, and from out on there is room for it
 pub record Behind (c e out : ℕ) (w : List ℕ) : Type 0 where

@@ -1,9 +1,21 @@
-// Tables of flags, one for each number below their length, and the words of a part of a list that are kept by one.
+// Tables of flags, one for each number below their length, the words of a part of a list that are kept by one, and the words that
+// two rising parts share. A table is lent all clear and comes back all clear.
 use crate::words::word_at;
 ghost use mathlib.Core.Bool.{false};
 ghost use lib.ListN.{length};
 ghost use Rattle.lists.specs.Lists.{memb, slice};
-ghost use Rattle.word_lists.specs.Flags.{Below, Flagged, isFlagged, Behind, Kept};
+ghost use Rattle.word_lists.specs.Merges.{Rising, Apart, Intersected};
+ghost use Rattle.word_lists.specs.Flags.{flagRoom, Below, Flagged, isFlagged, Clear, Behind, Kept};
+
+// How many flags a table has.
+const FLAG_ROOM: usize = 4096;
+
+// A table without a flag.
+pub fn clear_flags() -> [u8; FLAG_ROOM]
+    ensures { λ r. ⌜ Clear r ⌝ }
+{
+    [0u8; FLAG_ROOM]
+}
 
 // Flags the words of a part. No number is flagged before.
 pub fn flag_words(work: &[u32], a: usize, b: usize, flags: &mut [u8])
@@ -36,4 +48,44 @@ pub fn keep_flagged(work: &mut [u32], c: usize, e: usize, out: usize, flags: &[u
         j += 1;
     }
     n
+}
+
+// Takes the flags of the words of a part away. No other number is flagged before.
+pub fn unflag_words(work: &[u32], a: usize, b: usize, flags: &mut [u8])
+    requires { ⌜ Below (length (now flags)) a b (now work) ⌝ }
+    requires { ⌜ Flagged (λ s. memb s (slice a b (now work))) (now flags) ⌝ }
+    ensures { λ _. ⌜ Flagged (λ s. false) (now (flags .exit)) ⌝ }
+{
+    let mut i = a;
+    while i < b {
+        let s = word_at(work, i);
+        flags[s] = 0;
+        i += 1;
+    }
+}
+
+// Writes from out on the words of the first part that are among those of the second, and returns where they end: the words of the
+// first part are flagged, those of the second that are flagged are written, and the flags are taken away again.
+pub fn intersect(
+    work: &mut [u32],
+    flags: &mut [u8],
+    a: usize,
+    b: usize,
+    c: usize,
+    e: usize,
+    out: usize,
+) -> usize
+    requires { ⌜ Rising a b (now work) ⌝ }
+    requires { ⌜ Rising c e (now work) ⌝ }
+    requires { ⌜ Apart b c e out (now work) ⌝ }
+    requires { ⌜ Below flagRoom a b (now work) ⌝ }
+    requires { ⌜ Below flagRoom c e (now work) ⌝ }
+    requires { ⌜ Clear (now flags) ⌝ }
+    ensures shared { λ r. ⌜ Intersected a b c e out (now (work .entry)) (now (work .exit)) r ⌝ }
+    ensures clear { λ _. ⌜ Clear (now (flags .exit)) ⌝ }
+{
+    flag_words(work, a, b, flags);
+    let r = keep_flagged(work, c, e, out, flags);
+    unflag_words(work, a, b, flags);
+    r
 }

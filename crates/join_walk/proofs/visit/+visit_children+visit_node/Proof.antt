@@ -2,7 +2,7 @@
 -- one more for the node visit, so that each call of the other falls. The loop is one of part after part. What each step shows
 -- stands in NodeStops, NodeSteps, NodeChildren, ChildSteps and ChildNodes.
 use Prim.Native.Nat.{ℕ, suc, _-_, _*_, _+_, _<_}
-use mathlib.Core.Path.{_∙_}
+use mathlib.Core.Path.{sym, _∙_}
 use mathlib.Core.List.{List}
 use native.Mathlib.Omega.{arith}
 use borrow.Author.Needs.{needs}
@@ -10,6 +10,7 @@ use borrow.Fn.Kinds.{In}
 use borrow.Fn.PlainCycle.{Measures, is, falls, and}
 use Rattle.join_spec.specs.Query.{Query}
 use Rattle.join_spec.specs.Node.{lastOf}
+use Rattle.word_lists.specs.Flags.{Clear}
 use Rattle.join_walk.specs.Narrowing.{slotOf}
 use Rattle.join_walk.specs.Visiting.{Node, ChildrenAt}
 use Rattle.join_walk.proofs.NodeFacts.{node-path, last-read}
@@ -37,25 +38,25 @@ use Rattle.join_walk.proofs.visit.+visit_children+visit_node.Lts-visit_
 use Rattle.join_walk.proofs.visit.+visit_children+visit_node.{statement}
 use Rattle.join_walk.proofs.visit.+visit_children+visit_node.Tie.{close}
 
--- the measures: a .1 .1 .0 is the settings, a .1 .1 .1 .0 the depth
-abbrev μ-children : Measures 1 children-kinds.ps ℕ
-μ-children κs a = 2 * (a .1 .1 .0 .limit - a .1 .1 .1 .0)
+-- the measures: a .1 .1 .1 .0 is the settings, a .1 .1 .1 .1 .0 the depth
+abbrev μ-children : Measures 2 children-kinds.ps ℕ
+μ-children κs a = 2 * (a .1 .1 .1 .0 .limit - a .1 .1 .1 .1 .0)
 
-abbrev μ-node : Measures 1 node-kinds.ps ℕ
-μ-node κs a = 2 * (a .1 .1 .0 .limit - a .1 .1 .1 .0) + 1
+abbrev μ-node : Measures 2 node-kinds.ps ℕ
+μ-node κs a = 2 * (a .1 .1 .1 .0 .limit - a .1 .1 .1 .1 .0) + 1
 
 -- what is known at the start of a member, and what it must show where it is called
-abbrev children-at : ℕ → In 1 children-kinds.ps
-children-at t = and 1 children-kinds.ps (is 1 children-kinds.ps μ-children t) visit-children.Pre
+abbrev children-at : ℕ → In 2 children-kinds.ps
+children-at t = and 2 children-kinds.ps (is 2 children-kinds.ps μ-children t) visit-children.Pre
 
-abbrev children-below : ℕ → In 1 children-kinds.ps
-children-below t = and 1 children-kinds.ps (falls 1 children-kinds.ps _<_ μ-children t) visit-children.Pre
+abbrev children-below : ℕ → In 2 children-kinds.ps
+children-below t = and 2 children-kinds.ps (falls 2 children-kinds.ps _<_ μ-children t) visit-children.Pre
 
-abbrev node-at : ℕ → In 1 node-kinds.ps
-node-at t = and 1 node-kinds.ps (is 1 node-kinds.ps μ-node t) visit-node.Pre
+abbrev node-at : ℕ → In 2 node-kinds.ps
+node-at t = and 2 node-kinds.ps (is 2 node-kinds.ps μ-node t) visit-node.Pre
 
-abbrev node-below : ℕ → In 1 node-kinds.ps
-node-below t = and 1 node-kinds.ps (falls 1 node-kinds.ps _<_ μ-node t) visit-node.Pre
+abbrev node-below : ℕ → In 2 node-kinds.ps
+node-below t = and 2 node-kinds.ps (falls 2 node-kinds.ps _<_ μ-node t) visit-node.Pre
 
 -- what each member may use of the functions that it calls
 abbrev children-callees : ℕ → children-lts.Claims
@@ -82,95 +83,115 @@ node-callees t = (
 )
 
 abbrev Inv-loop : children-lts.InvT-loop
-Inv-loop work₀ lay st d lo hi from to r₀ i₀ work r i =
+Inv-loop work₀ flags₀ lay st d lo hi from to r₀ i₀ work flags r i =
     Continuing lay (st .budget) (suc d) hi (λ path w. slotOf lay w (suc (lastOf path)))
     (λ q path w i r. ChildrenAt lay st q path w d i hi from to r) work₀ lo r₀ work i r
+    × Clear flags
 
 abbrev μ-loop : children-lts.MeasureT-loop
-μ-loop work₀ lay st d lo hi from to r₀ i₀ work r i = hi - i
+μ-loop work₀ flags₀ lay st d lo hi from to r₀ i₀ work flags r i = hi - i
 
 module _ (t : ℕ) where
   -- the child loop
   loop-holds : children-lts.Need-loop-holds (children-callees t) (children-at t) visit-children.Post Inv-loop μ-loop
-  loop-holds c = continuing-start _ _ _ _ _ _ (c .before .pre .1)
+  loop-holds c =
+      let asked = c .before .before .pre .1 in
+      (continuing-start _ _ _ _ _ _ (asked .0), asked .1)
 
   run-end-requires : children-lts.Need-run-end-requires (children-callees t) (children-at t) visit-children.Post Inv-loop μ-loop
   run-end-requires c κs =
-      some-query (c .before .before .loop .inv .some) (λ q path at. kids-run (at .kids) (c .before .loop-test .taken))
+      some-query (c .before .before .loop .inv .0 .some) (λ q path at. kids-run (at .kids) (c .before .loop-test .taken))
 
   add-visit-node : children-lts.Need-add-visit-node (children-callees t) (children-at t) visit-children.Post Inv-loop μ-loop
   add-visit-node c =
-      let kids = c .before .before .before .before .loop .inv .some .holds .kids in
+      let kids = c .before .before .before .before .before .loop .inv .0 .some .holds .kids in
       omega (arith, kids .within, kids .underway .shallow)
 
   visit-node-requires : children-lts.Need-visit-node-requires (children-callees t) (children-at t) visit-children.Post Inv-loop
       μ-loop
   visit-node-requires c κs =
-      let end = c .before in
+      let end = c .before .before in
       let test = end .before .before in
       let at-loop = test .before in
-      let some = at-loop .loop .inv .some in
+      let some = at-loop .loop .inv .0 .some in
       let kids = some .holds .kids in (
-        omega (arith, at-loop .before .before .pre .0, kids .within, kids .underway .limit),
-        record {
-          query = some .query;
-          path = childPath kids (test .loop-test .taken);
-          holds = next-node (some .holds) (test .loop-test .taken) (end .run-end .ensures);
-        },
+        omega (arith, at-loop .before .before .before .pre .0, kids .within, kids .underway .limit),
+        (
+          record {
+            query = some .query;
+            path = childPath kids (test .loop-test .taken);
+            holds = next-node (some .holds) (test .loop-test .taken) (end .run-end .ensures);
+          },
+          at-loop .loop .inv .1,
+        ),
       )
 
   -- a child was visited
   children-same-length : children-lts.Need-same-length (children-callees t) (children-at t) visit-children.Post Inv-loop μ-loop
   children-same-length c =
-      let visit = c .before .before .before in
-      let at-loop = visit .before .before .before .before .before in
-      visit .visit-node .kept .0 ∙ at-loop .loop .inv .size
+      let visit = c .before .before .before .before .before in
+      let at-loop = visit .before .before .before .before .before .before in
+      visit .visit-node .kept .0 ∙ at-loop .loop .inv .0 .size
+
+  children-same-length-2 : children-lts.Need-same-length-2 (children-callees t) (children-at t) visit-children.Post Inv-loop
+      μ-loop
+  children-same-length-2 c =
+      let visit = c .before .before .before .before .before in
+      visit .visit-node .ensures .1 .size ∙ sym (visit .before .before .before .before .before .before .before .before .before .pre .1 .1 .size)
 
   children-returns : children-lts.Need-returns (children-callees t) (children-at t) visit-children.Post Inv-loop μ-loop
   children-returns c =
-      let visit = c .before .before .before in
-      let end = visit .before .before in
-      let test = end .before .before in
-      continuing-spent (test .before .loop .inv) (omega (arith, end .run-end .ensures .more)) (end .run-end .ensures .within)
-      (children-done (test .loop-test .taken) (end .run-end .ensures) (visit .visit-node .ensures)) (c .if1 .taken)
+      let visit = c .before .before .before .before .before in
+      let end = visit .before .before .before in
+      let test = end .before .before in (
+        continuing-spent (test .before .loop .inv .0) (omega (arith, end .run-end .ensures .more)) (end .run-end .ensures .within)
+            (children-done (test .loop-test .taken) (end .run-end .ensures) (visit .visit-node .ensures .0)) (c .if1 .taken),
+        visit .visit-node .ensures .1,
+      )
 
   loop-less : children-lts.Need-loop-less (children-callees t) (children-at t) visit-children.Post Inv-loop μ-loop
   loop-less c =
-      let end = c .before .before .before .before .before .before in
+      let end = c .before .before .before .before .before .before .before .before .before in
       let test = end .before .before in
       omega (arith, test .loop-test .taken, end .run-end .ensures .more, end .run-end .ensures .within)
 
   loop-again : children-lts.Need-loop-again (children-callees t) (children-at t) visit-children.Post Inv-loop μ-loop
   loop-again c =
       let calm = c .before in
-      let visit = calm .before .before .before in
-      let end = visit .before .before in
-      let test = end .before .before in
-      continuing-step (test .before .loop .inv) (omega (arith, end .run-end .ensures .more)) (end .run-end .ensures .within)
-      (children-done (test .loop-test .taken) (end .run-end .ensures) (visit .visit-node .ensures))
-      (visit .visit-node .kept .0) (calm .if1 .left)
+      let visit = calm .before .before .before .before .before in
+      let end = visit .before .before .before in
+      let test = end .before .before in (
+        continuing-step (test .before .loop .inv .0) (omega (arith, end .run-end .ensures .more)) (end .run-end .ensures .within)
+            (children-done (test .loop-test .taken) (end .run-end .ensures) (visit .visit-node .ensures .0))
+            (visit .visit-node .kept .0) (calm .if1 .left),
+        visit .visit-node .ensures .1,
+      )
 
-  children-same-length-2 : children-lts.Need-same-length-2 (children-callees t) (children-at t) visit-children.Post Inv-loop
+  children-same-length-3 : children-lts.Need-same-length-3 (children-callees t) (children-at t) visit-children.Post Inv-loop
       μ-loop
-  children-same-length-2 c = c .before .loop .inv .size
+  children-same-length-3 c = c .before .loop .inv .0 .size
+
+  children-same-length-4 : children-lts.Need-same-length-4 (children-callees t) (children-at t) visit-children.Post Inv-loop
+      μ-loop
+  children-same-length-4 c = c .before .loop .inv .1 .size ∙ sym (c .before .before .before .before .pre .1 .1 .size)
 
   children-returns-2 : children-lts.Need-returns-2 (children-callees t) (children-at t) visit-children.Post Inv-loop μ-loop
   children-returns-2 c =
       let inv = c .before .loop .inv in
-      continuing-end inv (c .loop-test .left) (inv .some .holds .kids .underway .budget)
+      (continuing-end (inv .0) (c .loop-test .left) (inv .0 .some .holds .kids .underway .budget), inv .1)
 
   -- the node visit, where the walk does not go on
   decide-requires : node-lts.Need-decide-requires (node-callees t) (node-at t) visit-node.Post
-  decide-requires c κs = some-path (c .before .before .pre .1) (λ q path node. node .at)
+  decide-requires c κs = some-path (c .before .before .before .pre .1 .0) (λ q path node. node .at)
 
   sub-check-block : node-lts.Need-sub-check-block (node-callees t) (node-at t) visit-node.Post
   sub-check-block c =
-      let some = c .before .before .before .before .before .pre .1 in
+      let some = c .before .before .before .before .before .before .pre .1 .0 in
       omega (arith, some .holds .at .candidates .deep)
 
   check-block-requires : node-lts.Need-check-block-requires (node-callees t) (node-at t) visit-node.Post
   check-block-requires c κs =
-      let some = c .before .before .before .before .before .pre .1 in
+      let some = c .before .before .before .before .before .before .pre .1 .0 in
       (some-query some (λ q path node. stop-there node), stop-small (some .holds))
 
   node-same-length : node-lts.Need-same-length (node-callees t) (node-at t) visit-node.Post
@@ -178,37 +199,42 @@ module _ (t : ℕ) where
 
   node-returns : node-lts.Need-returns (node-callees t) (node-at t) visit-node.Post
   node-returns c =
-      let stop = c .before .before in
-      λ q path node.
-      stop-visited node (goes-not node (stop .before .decide .ensures) (stop .if1 .taken)) (c .check-block .ensures)
+      let stop = c .before .before in (
+        λ q path node.
+            stop-visited node (goes-not node (stop .before .decide .ensures) (stop .if1 .taken)) (c .check-block .ensures),
+        stop .before .before .before .before .before .pre .1 .1,
+      )
 
   -- where it goes on
   sub-rank-on : node-lts.Need-sub-rank-on (node-callees t) (node-at t) visit-node.Post
   sub-rank-on c =
-      let some = c .before .before .before .before .before .pre .1 in
+      let some = c .before .before .before .before .before .before .pre .1 .0 in
       omega (arith, some .holds .at .candidates .deep)
 
   rank-on-requires : node-lts.Need-rank-on-requires (node-callees t) (node-at t) visit-node.Post
   rank-on-requires c κs =
-      let start = c .before .before .before .before .before in
-      some-path (start .pre .1)
+      let start = c .before .before .before .before .before .before in
+      some-path (start .pre .1 .0)
       (λ q path node. node-path (node .at) (start .args .d - 1) (omega (arith, node .at .candidates .deep)))
 
   narrow-requires : node-lts.Need-narrow-requires (node-callees t) (node-at t) visit-node.Post
   narrow-requires c κs =
-      let ranked = c .before in
-      let some = ranked .before .before .before .before .before .before .pre .1 in
-      let node = some .holds .at in
-      record {
-        query = some .query;
-        path = some .path;
-        holds = (node .candidates, last-read node (ranked .rank-on .ensures));
-      }
+      let ranked = c .before .before in
+      let asked = ranked .before .before .before .before .before .before .before .pre .1 in
+      let some = asked .0 in
+      let node = some .holds .at in (
+        record {
+          query = some .query;
+          path = some .path;
+          holds = (node .candidates, last-read node (ranked .rank-on .ensures));
+        },
+        asked .1,
+      )
 
   -- the start as it is seen after the candidates were narrowed, and the node then
   abbrev begun : node-lts.After-narrow (node-callees t) (node-at t) visit-node.Post
       → node-lts.Start (node-callees t) (node-at t) visit-node.Post
-  begun c = c .before .before .before .before .before .before .before .before
+  begun c = c .before .before .before .before .before .before .before .before .before .before
 
   abbrev Begun : node-lts.Start (node-callees t) (node-at t) visit-node.Post → Query → List ℕ → Type 0
   Begun s q path =
@@ -221,63 +247,74 @@ module _ (t : ℕ) where
       Onward (a .lay) (a .st) q path (a .work .now) (c .narrow .last .0) (a .d) (a .lo) (a .hi) (a .from) (a .to) (a .tally)
       (c .narrow .result)
   onward c q path node =
-      let ranked = c .before .before in
+      let ranked = c .before .before .before in
       let on = ranked .before .before in
-      onward-read node (on .before .decide .ensures) (on .if1 .left) (ranked .rank-on .ensures) (c .narrow .ensures)
+      onward-read node (on .before .decide .ensures) (on .if1 .left) (ranked .rank-on .ensures) (c .narrow .ensures .0)
 
   finish-requires : node-lts.Need-finish-requires (node-callees t) (node-at t) visit-node.Post
   finish-requires c κs =
       let deep = c .before in
-      let part = deep .before .before .before in
-      some-path (begun part .pre .1) (λ q path node. node-limit (onward part q path node) (deep .if2 .taken))
+      let part = deep .before .before .before .before .before in
+      some-path (begun part .pre .1 .0) (λ q path node. node-limit (onward part q path node) (deep .if2 .taken))
 
   node-same-length-2 : node-lts.Need-same-length-2 (node-callees t) (node-at t) visit-node.Post
-  node-same-length-2 c = c .before .before .before .before .before .narrow .kept .0
+  node-same-length-2 c = c .before .before .before .before .before .before .before .narrow .kept .0
+
+  node-same-length-3 : node-lts.Need-same-length-3 (node-callees t) (node-at t) visit-node.Post
+  node-same-length-3 c = c .before .before .before .before .before .before .before .narrow .kept .1 .0
 
   node-returns-2 : node-lts.Need-returns-2 (node-callees t) (node-at t) visit-node.Post
   node-returns-2 c =
       let deep = c .before .before in
-      let part = deep .before .before .before in
-      λ q path node.
-      let so = onward part q path node in
-      limit-visited so (c .finish .ensures q path (node-limit so (deep .if2 .taken)))
+      let part = deep .before .before .before .before .before in (
+        λ q path node.
+            let so = onward part q path node in
+            limit-visited so (c .finish .ensures q path (node-limit so (deep .if2 .taken))),
+        part .narrow .ensures .1,
+      )
 
   merged-end-requires : node-lts.Need-merged-end-requires (node-callees t) (node-at t) visit-node.Post
   merged-end-requires c κs =
-      let part = c .before .before .before .before in
-      some-query (begun part .pre .1) (λ q path node. node-run (onward part q path node))
+      let part = c .before .before .before .before .before .before in
+      some-query (begun part .pre .1 .0) (λ q path node. node-run (onward part q path node))
 
   sub-add-paths : node-lts.Need-sub-add-paths (node-callees t) (node-at t) visit-node.Post
   sub-add-paths c = c .merged-end .ensures .low
 
   sub-add-paths-2 : node-lts.Need-sub-add-paths-2 (node-callees t) (node-at t) visit-node.Post
   sub-add-paths-2 c =
-      let part = c .before .before .before .before .before in
-      let some = begun part .pre .1 in
+      let part = c .before .before .before .before .before .before .before in
+      let some = begun part .pre .1 .0 in
       onward part (some .query) (some .path) (some .holds) .narrowed .rise
 
   add-paths-requires : node-lts.Need-add-paths-requires (node-callees t) (node-at t) visit-node.Post
   add-paths-requires c κs =
       let above = c .before .before in
-      let part = above .before .before .before in
-      let some = begun part .pre .1 in
+      let part = above .before .before .before .before .before in
+      let some = begun part .pre .1 .0 in
       merged-room (onward part (some .query) (some .path) (some .holds)) (above .if2 .left) (c .merged-end .ensures)
 
-  node-same-length-3 : node-lts.Need-same-length-3 (node-callees t) (node-at t) visit-node.Post
-  node-same-length-3 c = c .before .before .before .before .before .before .before .narrow .kept .0
+  node-same-length-4 : node-lts.Need-same-length-4 (node-callees t) (node-at t) visit-node.Post
+  node-same-length-4 c = c .before .before .before .before .before .before .before .before .before .narrow .kept .0
+
+  node-same-length-5 : node-lts.Need-same-length-5 (node-callees t) (node-at t) visit-node.Post
+  node-same-length-5 c = c .before .before .before .before .before .before .before .before .before .narrow .kept .1 .0
 
   node-returns-3 : node-lts.Need-returns-3 (node-callees t) (node-at t) visit-node.Post
   node-returns-3 c =
       let merged = c .before in
       let end = merged .before in
       let above = end .before .before in
-      λ q path node.
-      all-merged (onward (above .before .before .before) q path node) (above .if2 .left) (end .merged-end .ensures)
-      (merged .add-paths .ensures) (c .if3 .taken)
+      let part = above .before .before .before .before .before in (
+        λ q path node.
+            all-merged (onward part q path node) (above .if2 .left) (end .merged-end .ensures) (merged .add-paths .ensures)
+            (c .if3 .taken),
+        part .narrow .ensures .1,
+      )
 
   -- the children of a node, its own left sets merged
   children : (c : node-lts.Else3 (node-callees t) (node-at t) visit-node.Post) (q : Query) (path : List ℕ)
-      → let part = c .before .before .before .before .before .before .before in
+      → let part = c .before .before .before .before .before .before .before .before .before in
       Begun (begun part) q path
       → let a = begun part .args in
       ChildrenAt (a .lay) (a .st) q path (part .narrow .last .0) (a .d) (c .before .before .merged-end .result) (a .hi)
@@ -286,30 +323,39 @@ module _ (t : ℕ) where
       let merged = c .before in
       let end = merged .before in
       let above = end .before .before in
-      node-children (onward (above .before .before .before) q path node) (above .if2 .left) (end .merged-end .ensures)
+      node-children (onward (above .before .before .before .before .before) q path node) (above .if2 .left) (end .merged-end .ensures)
       (merged .add-paths .ensures) (c .if3 .left)
 
   visit-children-requires : node-lts.Need-visit-children-requires (node-callees t) (node-at t) visit-node.Post
   visit-children-requires c κs =
-      let start = begun (c .before .before .before .before .before .before .before .before) in
-      (omega (arith, start .pre .0), some-path (start .pre .1) (children (c .before)))
+      let part = c .before .before .before .before .before .before .before .before .before .before .before in
+      let start = begun part in
+      (omega (arith, start .pre .0), (some-path (start .pre .1 .0) (children (c .before .before)), part .narrow .ensures .1))
 
-  node-same-length-4 : node-lts.Need-same-length-4 (node-callees t) (node-at t) visit-node.Post
-  node-same-length-4 c =
-      let visited = c .before .before in
-      let part = visited .before .before .before .before .before .before .before .before .before in
+  node-same-length-6 : node-lts.Need-same-length-6 (node-callees t) (node-at t) visit-node.Post
+  node-same-length-6 c =
+      let visited = c .before .before .before .before in
+      let part = visited .before .before .before .before .before .before .before .before .before .before .before .before in
       visited .visit-children .kept .0 ∙ part .narrow .kept .0
+
+  node-same-length-7 : node-lts.Need-same-length-7 (node-callees t) (node-at t) visit-node.Post
+  node-same-length-7 c =
+      let visited = c .before .before .before .before in
+      let part = visited .before .before .before .before .before .before .before .before .before .before .before .before in
+      visited .visit-children .kept .1 .0 ∙ part .narrow .kept .1 .0
 
   node-returns-4 : node-lts.Need-returns-4 (node-callees t) (node-at t) visit-node.Post
   node-returns-4 c =
-      let visited = c .before .before in
-      let more = visited .before .before in
+      let visited = c .before .before .before .before in
+      let more = visited .before .before .before in
       let merged = more .before in
       let end = merged .before in
-      let above = end .before .before in
-      λ q path node.
-      children-visited (onward (above .before .before .before) q path node) (above .if2 .left) (end .merged-end .ensures)
-      (merged .add-paths .ensures) (visited .visit-children .ensures q path (children more q path node))
+      let above = end .before .before in (
+        λ q path node.
+            children-visited (onward (above .before .before .before .before .before) q path node) (above .if2 .left) (end .merged-end .ensures)
+            (merged .add-paths .ensures) (visited .visit-children .ensures .0 q path (children more q path node)),
+        visited .visit-children .ensures .1,
+      )
 
 pub +visit-children+visit-node-spec : {M : Type 1} → statement M
 +visit-children+visit-node-spec =
@@ -321,10 +367,12 @@ pub +visit-children+visit-node-spec : {M : Type 1} → statement M
     (add-visit-node t)
     (visit-node-requires t)
     (children-same-length t)
+    (children-same-length-2 t)
     (children-returns t)
     (loop-less t)
     (loop-again t)
-    (children-same-length-2 t)
+    (children-same-length-3 t)
+    (children-same-length-4 t)
     (children-returns-2 t))
     λ t.
     node-lts.spec (node-callees t) (node-at t) visit-node.Post
@@ -338,13 +386,16 @@ pub +visit-children+visit-node-spec : {M : Type 1} → statement M
     (narrow-requires t)
     (finish-requires t)
     (node-same-length-2 t)
+    (node-same-length-3 t)
     (node-returns-2 t)
     (merged-end-requires t)
     (sub-add-paths t)
     (sub-add-paths-2 t)
     (add-paths-requires t)
-    (node-same-length-3 t)
+    (node-same-length-4 t)
+    (node-same-length-5 t)
     (node-returns-3 t)
     (visit-children-requires t)
-    (node-same-length-4 t)
+    (node-same-length-6 t)
+    (node-same-length-7 t)
     (node-returns-4 t)

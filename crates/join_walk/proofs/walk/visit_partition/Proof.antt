@@ -22,64 +22,70 @@ word-at-requires c κs = search needs
 key-at-requires : tie.Need-key-at-requires
 key-at-requires c κs =
     let read = c .before in
-    let start = read .before .before .before in
-    let part = start .pre .holds in
+    let start = read .before .before .before .before in
+    let part = start .pre .0 .holds in
     record {
-      query = start .pre .query;
+      query = start .pre .0 .query;
       holds = run-left (partition-run part) (start .args .lo) (part .some) (read .word-at .ensures);
     }
 
 -- the key that was read, one more than the partition's rank, and the right sets seen at it
 key-is : (c : tie.After-key-at) (q : Query) (r : ℕ)
-    → let a = c .before .before .before .before .before .args in
+    → let a = c .before .before .before .before .before .before .args in
     Partition (a .lay) (a .st) q (a .work .now) (a .lo) (a .hi) (a .tally) r → c .key-at .result ≡ suc r
 key-is c q r part = partition-key part (c .before .before .word-at .ensures) (c .key-at .ensures)
 
 seen-is : (c : tie.After-word-at2) (q : Query) (r : ℕ)
-    → let a = c .before .before .before .before .before .before .before .args in
+    → let a = c .before .before .before .before .before .before .before .before .args in
     Partition (a .lay) (a .st) q (a .work .now) (a .lo) (a .hi) (a .tally) r
     → c .word-at2 .result ≡ seenCount (a .lay) (a .work .now) r
 seen-is c q r part = seen-word part (key-is (c .before .before) q r part) (c .word-at2 .ensures)
 
 add-word-at-2 : tie.Need-add-word-at-2
 add-word-at-2 c =
-    let start = c .before .before .before .before .before .before in
-    let some = start .pre in
+    let start = c .before .before .before .before .before .before .before in
+    let some = start .pre .0 in
     let part = some .holds in
     let key = key-is (c .before) (some .query) (some .rank) part in
     omega (arith, key, part .last, part .index .ground .leastOffsetsWithin, part .index .room, start .good .0)
 
 word-at-requires-2 : tie.Need-word-at-requires-2
 word-at-requires-2 c κs =
-    let some = c .before .before .before .before .before .before .pre in
+    let some = c .before .before .before .before .before .before .before .pre .0 in
     let part = some .holds in
     let key = key-is (c .before) (some .query) (some .rank) part in
     omega (arith, key, part .last, part .index .ground .leastOffsetsWithin, part .index .room)
 
 add-visit-node : tie.Need-add-visit-node
 add-visit-node c =
-    let start = c .before .before .before .before .before .before .before .before in
-    let some = start .pre in
+    let start = c .before .before .before .before .before .before .before .before .before .before in
+    let some = start .pre .0 in
     let part = some .holds in
-    let seen = seen-is (c .before) (some .query) (some .rank) part in
+    let seen = seen-is (c .before .before) (some .query) (some .rank) part in
     omega (arith, seen, part .index .ground .seenWithin (some .rank) (part .last), part .index .room, start .good .0)
 
 visit-node-requires : tie.Need-visit-node-requires
 visit-node-requires c κs =
-    let some = c .before .before .before .before .before .before .before .before .pre in
-    let seen = seen-is (c .before) (some .query) (some .rank) (some .holds) in
-    record { query = some .query; path = some .rank ∷ []; holds = partition-node (some .holds) seen }
+    let asked = c .before .before .before .before .before .before .before .before .before .before .pre in
+    let some = asked .0 in
+    let seen = seen-is (c .before .before) (some .query) (some .rank) (some .holds) in
+    (record { query = some .query; path = some .rank ∷ []; holds = partition-node (some .holds) seen }, asked .1)
 
 same-length : tie.Need-same-length
 same-length c = search needs
 
+same-length-2 : tie.Need-same-length-2
+same-length-2 c = search needs
+
 returns : tie.Need-returns
 returns c =
-    let visited = c .before .before in
-    let counted = visited .before .before in
-    λ q r part.
-    partition-visited (counted .before .before .before .before .before .before .before .args .st) r
-    (visited .visit-node .ensures q (r ∷ []) (partition-node part (seen-is counted q r part)))
+    let visited = c .before .before .before .before in
+    let counted = visited .before .before .before in (
+      λ q r part.
+          partition-visited (counted .before .before .before .before .before .before .before .before .args .st) r
+          (visited .visit-node .ensures .0 q (r ∷ []) (partition-node part (seen-is counted q r part))),
+      visited .visit-node .ensures .1,
+    )
 
 pub visit-partition-spec : {M : Type 1} → statement M
 visit-partition-spec =
@@ -93,4 +99,5 @@ visit-partition-spec =
     add-visit-node
     visit-node-requires
     same-length
+    same-length-2
     returns)
