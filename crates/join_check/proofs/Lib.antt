@@ -6,3 +6,4 @@ pub mod Places
 pub mod Tallying
 pub mod Probing
 pub mod Gathering
+pub mod RowChecks

@@ -78,7 +78,7 @@ pub fn check_probe(work: &[u32], lay: Layout, p: Probe, s: usize) -> Checked
 }
 
 // The same, and counts the check.
-fn check_one(work: &[u32], lay: Layout, p: Probe, s: usize, tally: Tally) -> Tally
+pub fn check_one(work: &[u32], lay: Layout, p: Probe, s: usize, tally: Tally) -> Tally
     requires { ⌜ Some (λ q. RightThere lay q (now work) s) ⌝ }
     requires { ⌜ Rising (p .from) (p .to) (now work) ⌝ }
     requires { ⌜ checksIn tally + 1 < fullWords ⌝ }

@@ -19,7 +19,7 @@ use Rattle.join_index.specs.Grouping.{leftAt, rightAt}
 use Rattle.join_index.specs.Ground.{Ground}
 use Rattle.join_index.specs.Building.{BuildRoom}
 use Rattle.join_index.specs.declared.Layout.{Layout}
-use Rattle.join_index.proofs.BuildPlan.{Planned, items-are, plan-sizes, wide, left-long, right-long}
+use Rattle.join_index.proofs.BuildPlan.{Planned, items-are, plan-sizes, rows-below, left-long, right-long}
 use Rattle.join_index.proofs.BuildPlan.{least-below, signed-above, slots-above}
 use Rattle.join_index.proofs.BuildPlan.{right-end, right-ranks, left-end, left-starts, left-ranks}
 use Rattle.join_index.proofs.BuildStages.{Built, right-set, left-set}
@@ -69,9 +69,16 @@ module _ {leftEnds leftItems rightEnds rightItems ranks w a b c d f : List ℕ} 
         offsetsWithin = omega (arith, right-end plan, least-below plan, least-slots built);
         leastOffsetsWithin = omega (arith, plan .out .byLeast, signed-above plan, slots-above plan);
         seenWithin = λ r h. omega (arith, seen-at built r h, built .leastBuilt .few r h, signed-above plan, slots-above plan);
-        room =
+        slotsBelow = omega (arith, plan .out .rowStarts);
+        slotWithin =
             λ r h.
-            omega (arith, side-bound (built .rightBuilt .held) (right-end plan) f (from-right built) r h, wide plan, size built);
+            omega (arith, side-bound (built .rightBuilt .held) (right-end plan) f (from-right built) r h, plan .out .rowStarts);
+        rowStartsWithin = omega (arith, plan .out .rowEnds, left-long plan);
+        rowEndsWithin = omega (arith, plan .out .rows, left-long plan);
+        rowsAbove = omega (arith, plan .out .leastOffsets, signed-above plan, slots-above plan, plan .out .rowStarts, plan .out .rowEnds, plan .out .rows);
+        rowsWithin = rows-below plan;
+        endWithin = omega (arith, plan .out .end .within, size built);
+        endSmall = plan .out .end .small;
         faithful =
             λ k s hk hs.
             sym

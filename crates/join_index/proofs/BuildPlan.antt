@@ -1,9 +1,10 @@
 -- The plan of the build: the sizes of the input, and that the regions of the layout rise, with scratch words above them.
-use Prim.Native.Nat.{ℕ, _+_, _*_, _≤_}
+use Prim.Native.Nat.{ℕ, _+_, _*_, _≤_, _<_}
 use mathlib.Core.Path.{_≡_, sym, ap, subst}
 use mathlib.Core.List.{List}
 use native.Mathlib.Omega.{arith}
 use lib.ListN.{length}
+use Rattle.sets.specs.Limits.{fullWords}
 use Rattle.sets.specs.Collections.{setsOf, entries}
 use Rattle.sets.proofs.Good.{good-places, good-entries}
 use Rattle.sets.proofs.Between.{length-sets}
@@ -41,7 +42,7 @@ pub record Planned (leftEnds leftItems rightEnds rightItems ranks : List ℕ) (n
   pub room : BuildRoom (length ranks) leftEnds leftItems rightEnds rightItems ranks w
   pub leftEntries : nl ≡ entries leftEnds
   pub rightEntries : nr ≡ entries rightEnds
-  pub out : LaidOut (length ranks) (length leftEnds) (length rightEnds) nl nr lay
+  pub out : LaidOut (length ranks) (length leftEnds) (length rightEnds) nl nr (length w) lay
 
 module _ {leftEnds leftItems rightEnds rightItems ranks w : List ℕ} {nl nr : ℕ} {lay : Layout}
     (p : Planned leftEnds leftItems rightEnds rightItems ranks nl nr lay w) where
@@ -54,7 +55,7 @@ module _ {leftEnds leftItems rightEnds rightItems ranks w : List ℕ} {nl nr : �
   abbrev rights : List (List ℕ)
   rights = setsOf rightEnds rightItems
 
-  out : LaidOut T (length leftEnds) (length rightEnds) nl nr lay
+  out : LaidOut T (length leftEnds) (length rightEnds) nl nr (length w) lay
   out = p .out
 
   pub left-long : length lefts ≡ length leftEnds
@@ -83,6 +84,27 @@ module _ {leftEnds leftItems rightEnds rightItems ranks w : List ℕ} {nl nr : �
         out .leftSignatures,
         out .slots,
       )
+
+  -- the rows begin within the work list, at a place that fits a word
+  pub rows-below : lay .rows ≤ lay .end
+  rows-below =
+      let words : lay .rows ≤ length w = omega (arith, wide, out .rowStarts, out .rowEnds, out .rows) in
+      let small : lay .rows < fullWords =
+      omega (
+        arith,
+        plan-sizes,
+        out .offsets,
+        out .leastOffsets,
+        out .byLeast,
+        out .order,
+        out .rightSignatures,
+        out .leftSignatures,
+        out .slots,
+        out .rowStarts,
+        out .rowEnds,
+        out .rows,
+      ) in
+      out .end .greatest (lay .rows) words small
 
   -- the regions rise
   pub left-above : lay .«right_ranks» + nr ≡ leftBase lay T (length rightEnds) nr

@@ -72,12 +72,25 @@ module _ (lay : Layout) (q : Query) (w v : List ℕ) (kept : take (lay .slots) v
         offsetsWithin = g .offsetsWithin;
         leastOffsetsWithin = g .leastOffsetsWithin;
         seenWithin = λ r h. omega (arith, g .seenWithin r h, same-seen r h);
-        room = λ r h. omega (arith, g .room r h, same-offset (suc r) h);
+        slotsBelow = g .slotsBelow;
+        slotWithin = λ r h. omega (arith, g .slotWithin r h, same-offset (suc r) h);
+        rowStartsWithin = g .rowStartsWithin;
+        rowEndsWithin = g .rowEndsWithin;
+        rowsAbove = g .rowsAbove;
+        rowsWithin = g .rowsWithin;
+        endWithin = omega (arith, g .endWithin, size);
+        endSmall = g .endSmall;
         faithful = g .faithful;
         leftFew = g .leftFew;
         rightFew = g .rightFew;
         itemsFew = g .itemsFew;
       }
+
+-- every slot lies within the work list
+pub slot-bound : {lay : Layout} {q : Query} {w : List ℕ} → Ground lay q w → (r : ℕ) → r < q .T
+    → lay .slots + offsetOf lay w (suc r) ≤ length w
+slot-bound g r h =
+    omega (arith, g .slotWithin r h, g .rowStartsWithin, g .rowEndsWithin, g .rowsWithin, g .endWithin)
 
 module _ (lay : Layout) (q : Query) (w : List ℕ) (g : Ground lay q w) where
   rise-by : (r d : ℕ) → r + d ≤ q .T → offsetOf lay w r ≤ offsetOf lay w (r + d)

@@ -1,11 +1,11 @@
 -- Inner: the build as a whole. Where the regions lie, each beginning where the one before it ends, and what an accepted input
 -- gives the build.
-use Prim.Native.Nat.{ℕ, _+_, _*_, _≤_}
+use Prim.Native.Nat.{ℕ, _+_, _*_, _≤_, _<_}
 use mathlib.Core.Path.{_≡_}
 use mathlib.Core.List.{List}
 use mathlib.Core.Bool.{true}
 use lib.ListN.{length}
-use Rattle.sets.specs.Limits.{maxItems, maxSets, maxEntries}
+use Rattle.sets.specs.Limits.{maxItems, maxSets, maxEntries, fullWords}
 use Rattle.sets.specs.Collections.{firstBad}
 use Rattle.sets.specs.Ordered.{isPermutation}
 use Rattle.sets.specs.declared.Verdict.the-variants.{Good}
@@ -29,9 +29,15 @@ leftBase lay T rights rightEntries = sideEnd (lay .offsets) T rightEntries right
 abbrev pub orderBase : Layout → ℕ → ℕ
 orderBase lay rights = lay .«by_least» + rights
 
+-- most is the greatest number that a list of this many words has and that fits a word
+pub record PlacedWords (words most : ℕ) : Type 0 where
+  pub within : most ≤ words
+  pub small : most < fullWords
+  pub greatest : (n : ℕ) → n ≤ words → n < fullWords → n ≤ most
+
 -- the regions from the first word on: the right side, the left side, the right sets by least rank, the left sets in order, the
--- signatures, and above them the slots
-pub record LaidOut (T lefts rights leftEntries rightEntries : ℕ) (lay : Layout) : Type 0 where
+-- signatures, above them the slots, and last the rows up to the end
+pub record LaidOut (T lefts rights leftEntries rightEntries words : ℕ) (lay : Layout) : Type 0 where
   pub offsets : lay .offsets ≡ 0
   pub index : lay .index ≡ sortedAt (lay .offsets) T
   pub rightStarts : lay .«right_starts» ≡ startsAt (lay .offsets) T rightEntries
@@ -44,6 +50,10 @@ pub record LaidOut (T lefts rights leftEntries rightEntries : ℕ) (lay : Layout
   pub rightSignatures : lay .«right_signatures» ≡ lay .order + lefts
   pub leftSignatures : lay .«left_signatures» ≡ lay .«right_signatures» + 2 * rights
   pub slots : lay .slots ≡ lay .«left_signatures» + 2 * lefts
+  pub rowStarts : lay .«row_starts» ≡ lay .slots + rightEntries
+  pub rowEnds : lay .«row_ends» ≡ lay .«row_starts» + lefts
+  pub rows : lay .rows ≡ lay .«row_ends» + lefts
+  pub end : PlacedWords words (lay .end)
 
 -- collections without a bad set, a rank table and a work list that is long enough
 pub record BuildRoom (T : ℕ) (leftEnds leftItems rightEnds rightItems ranks w : List ℕ) : Type 0 where

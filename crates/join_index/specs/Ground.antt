@@ -1,12 +1,12 @@
 -- Inner: what the regions of the work list hold while the walk goes on, the facts that every step of the walk may use. All of it
--- lies below the candidate slots, which alone change.
+-- lies below the candidate slots: only these and the kept rows above them change.
 use Prim.Native.Nat.{ℕ, suc, _+_, _*_, _≤_, _<_}
 use mathlib.Core.Path.{_≡_}
 use mathlib.Core.List.{List, []}
 use mathlib.Core.Bool.{Bool, _&&_}
 use lib.ListN.{length, getD}
 use Rattle.lists.specs.Lists.{count, keep, memb, subset, upto, slice}
-use Rattle.sets.specs.Limits.{maxSets, maxItems}
+use Rattle.sets.specs.Limits.{maxSets, maxItems, fullWords}
 use Rattle.sets.specs.Collections.{contained}
 use Rattle.sets.specs.Signatures.{signature}
 use Rattle.join_spec.specs.Query.{Query}
@@ -62,8 +62,15 @@ pub record Ground (lay : Layout) (q : Query) (w : List ℕ) : Type 0 where
   pub offsetsWithin : lay .offsets + suc (q .T) ≤ lay .slots
   pub leastOffsetsWithin : lay .«least_offsets» + suc (q .T) ≤ lay .slots
   pub seenWithin : (r : ℕ) → r < q .T → lay .«by_least» + seenCount lay w r ≤ lay .slots
-  -- every slot lies within the work list
-  pub room : (r : ℕ) → r < q .T → lay .slots + offsetOf lay w (suc r) ≤ length w
+  -- every slot lies below the kept rows, and these lie within the work list, where a place fits a word
+  pub slotsBelow : lay .slots ≤ lay .«row_starts»
+  pub slotWithin : (r : ℕ) → r < q .T → lay .slots + offsetOf lay w (suc r) ≤ lay .«row_starts»
+  pub rowStartsWithin : lay .«row_starts» + length (q .lefts) ≤ lay .«row_ends»
+  pub rowEndsWithin : lay .«row_ends» + length (q .lefts) ≤ lay .rows
+  pub rowsAbove : 0 < lay .rows
+  pub rowsWithin : lay .rows ≤ lay .end
+  pub endWithin : lay .end ≤ length w
+  pub endSmall : lay .end < fullWords
   -- ranks decide containment
   pub faithful :
       (k s : ℕ) → k < length (q .lefts) → s < length (q .rights)

@@ -3,7 +3,7 @@
 
 pub mod build;
 
-// Where each region of the work list begins. None but the slots changes during the walk. Each pair of an offsets region and the
+// Where each region of the work list begins. None below the slots changes during the walk. Each pair of an offsets region and the
 // region it counts from is what one counting sort leaves behind.
 pub struct Layout {
     // Where a rank's inverted list begins, counted from index (and from slots): one word a rank and one more.
@@ -29,4 +29,10 @@ pub struct Layout {
     pub left_signatures: usize,
     // A slot for each rank, as long as its inverted list: the candidates of the paths that end in it.
     pub slots: usize,
+    // The kept row of each left set: where it begins in the work list, 0 where none is kept, and where it ends.
+    pub row_starts: usize,
+    pub row_ends: usize,
+    // The kept rows, up to end: the places of right sets. A place below end fits a word.
+    pub rows: usize,
+    pub end: usize,
 }

@@ -17,6 +17,7 @@ use Rattle.join_spec.specs.Query.{Query}
 use Rattle.join_index.specs.Grouping.{rightAt}
 use Rattle.join_index.specs.Ground.{invertedList}
 use Rattle.join_index.specs.declared.Layout.{Layout}
+use Rattle.join_index.proofs.GroundLaws.{slot-bound}
 use Rattle.word_lists.specs.Words.{Word}
 use Rattle.word_lists.specs.Merges.{Rising}
 use Rattle.word_lists.specs.Flags.{flagRoom, Below}
@@ -43,7 +44,7 @@ inverted-stored {lay} {q} {w} {r} there =
       offsetsWithin = omega (arith, there .index .ground .offsetsWithin, there .index .room, there .below);
       rise = omega (arith, h .rise);
       low = omega (arith, h .within);
-      room = omega (arith, there .index .ground .room r (there .below));
+      room = omega (arith, slot-bound (there .index .ground) r (there .below));
       is = rw next (h .is);
     }
 

@@ -17,6 +17,7 @@ use Rattle.join_index.specs.Grouping.{rightAt}
 use Rattle.counting_sort.specs.Holding.{RegionHolds}
 use Rattle.join_index.specs.Ground.{invertedList, offsetOf}
 use Rattle.join_index.specs.declared.Layout.{Layout}
+use Rattle.join_index.proofs.GroundLaws.{slot-bound}
 use Rattle.word_lists.specs.Words.{Word}
 use Rattle.word_lists.specs.Merges.{Rising, Apart, Intersected}
 use Rattle.word_lists.specs.Flags.{flagRoom, Below}
@@ -62,7 +63,7 @@ module _ {lay : Layout} {q : Query} {path w : List ℕ} {d lo hi : ℕ} (cands :
         listed (r ∷ x ∷ rest) e = absurd (omega arith)
 
     slot-room : lay .slots + last ≤ length w
-    slot-room = rw at-last (cands .index .ground .room (lastOf path) (cands .last))
+    slot-room = rw at-last (slot-bound (cands .index .ground) (lastOf path) (cands .last))
 
     pub before-rising : 1 < d → Rising lo hi w
     before-rising deeper =

@@ -22,6 +22,7 @@ use Rattle.join_index.specs.Grouping.{leftAt, rightAt, keyAt}
 use Rattle.counting_sort.specs.Holding.{RegionHolds}
 use Rattle.join_index.specs.Ground.{invertedList}
 use Rattle.join_index.specs.declared.Layout.{Layout}
+use Rattle.join_index.proofs.GroundLaws.{slot-bound}
 use Rattle.join_check.specs.Asking.{Index, LeftThere, PlacesThere}
 use Rattle.join_check.specs.Runs.{leftIn}
 use Rattle.word_lists.specs.Words.{Word}
@@ -86,7 +87,7 @@ module _ {lay : Layout} {q : Query} {path w : List ℕ} {d lo hi from to : ℕ} 
       omega (
         arith,
         node .candidates .below,
-        index .ground .room (lastOf path) (node .candidates .last),
+        slot-bound (index .ground) (lastOf path) (node .candidates .last),
         index .ground .inverted (lastOf path) (node .candidates .last) .rise,
       )
 

@@ -10,6 +10,7 @@ use Rattle.lists.proofs.Slices.{length-slice}
 use Rattle.join_spec.specs.Query.{Query}
 use Rattle.join_spec.specs.Node.{lastOf}
 use Rattle.join_index.specs.declared.Layout.{Layout}
+use Rattle.join_index.proofs.GroundLaws.{slot-bound}
 use Rattle.join_check.specs.Asking.{Index, RunThere}
 use Rattle.join_check.specs.Runs.{run}
 use Rattle.join_check.specs.declared.Tally.{Tally}
@@ -66,7 +67,7 @@ module _ {lay : Layout} {st : Settings} {q : Query} {path w w′ : List ℕ} {d 
   index-after = index-framed index onward-framed low
 
   part-inside : part .to ≤ length w′
-  part-inside = omega (arith, so .narrowed .below, index .ground .room (lastOf path) (cands .last), so .narrowed .size)
+  part-inside = omega (arith, so .narrowed .below, slot-bound (index .ground) (lastOf path) (cands .last), so .narrowed .size)
 
   pub after-length : length (slice (part .«from») (part .to) w′) ≡ part .to - part .«from»
   after-length = length-slice (part .«from») (part .to) w′ part-inside

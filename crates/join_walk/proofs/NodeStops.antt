@@ -15,6 +15,7 @@ use Rattle.join_spec.specs.Query.{Query}
 use Rattle.join_spec.specs.Node.{lastOf}
 use Rattle.join_index.specs.Grouping.{leftAt, orderFrom}
 use Rattle.join_index.specs.declared.Layout.{Layout}
+use Rattle.join_index.proofs.GroundLaws.{slot-bound}
 use Rattle.join_check.specs.Asking.{Index}
 use Rattle.join_check.specs.Runs.{run}
 use Rattle.join_check.specs.Checks.{RunsThere}
@@ -54,7 +55,7 @@ module _ {lay : Layout} {st : Settings} {q : Query} {path w : List ℕ} {d lo hi
       omega (
         arith,
         cands .below,
-        index .ground .room (lastOf path) (cands .last),
+        slot-bound (index .ground) (lastOf path) (cands .last),
         index .ground .inverted (lastOf path) (cands .last) .rise,
       )
 

@@ -1,48 +1,12 @@
--- `join_check::checks::check_row` meets its contract. The invariant: the counters, with the checks of the places still to
--- come, are what they were with all. The measure is how many places are to come.
-use mathlib.Core.Path.{_≡_, refl, sym, ap, _∙_}
-use mathlib.Core.List.{List}
-use Prim.Native.Nat.{ℕ, _+_, _-_, _≤_, _<_}
+-- `join_check::checks::check_row` meets its contract. The invariant is `RowChecking`: the counters, with the checks of
+-- the places still to come, are what they were with all. The measure is how many places are to come.
+use Prim.Native.Nat.{_-_}
 use native.Mathlib.Omega.{arith}
-use Rattle.lists.specs.Lists.{one, slice}
-use Rattle.join_spec.specs.Query.{Query}
-use Rattle.join_spec.specs.Walk.{Outcome}
-use Rattle.join_index.specs.declared.Layout.{Layout}
-use Rattle.join_check.specs.declared.Tally.{Tally}
-use Rattle.join_check.specs.declared.checks.Probe.{Probe}
-use Rattle.word_lists.specs.Words.{Word}
-use Rattle.join_check.specs.Checks.{checkAt, rowCount, RowThere}
-use Rattle.join_check.specs.Counters.{checksIn}
-use Rattle.join_check.specs.Probes.{Probed, OneChecked}
-use Rattle.join_check.proofs.Places.{place-right, count-past, count-next}
-use Rattle.join_check.proofs.Tallying.{Leaving, leaving-start, leaving-step, leaving-end, probe-rising, probe-check}
+use Rattle.join_check.proofs.Places.{place-right}
+use Rattle.join_check.proofs.Tallying.{probe-rising}
+use Rattle.join_check.proofs.RowChecks.{RowChecking, row-start, row-step, row-end}
 use Rattle.join_check.proofs.checks.check_row.Statement.{statement}
 use Rattle.join_check.proofs.checks.check_row.Tie as tie
-
-record RowChecking (lay : Layout) (w : List ℕ) (k e from to : ℕ) (tally r : Tally) (i : ℕ) : Type 0 where
-  low : from ≤ i
-  grown : checksIn r + (to - i) ≡ checksIn tally + (to - from)
-  tallied :
-      (q : Query) → RowThere lay q w k e from to
-      → Leaving (λ is. rowCount q is (slice i to w) k) (λ is. rowCount q is (slice from to w) k) tally r
-
-row-step : {lay : Layout} {w : List ℕ} {k e from to : ℕ} {tally r : Tally} {i : ℕ} {p : Probe} {s : ℕ} {u : Tally}
-    → RowChecking lay w k e from to tally r i → i < to → Probed lay w k e p → Word w i s → OneChecked lay w p s r u
-    → RowChecking lay w k e from to tally u (i + 1)
-row-step {w = w} {k = k} {to = to} {i = i} {s = s} so more probed word one-more =
-    record {
-      low = omega (arith, so .low);
-      grown = omega (arith, so .grown, one-more .grown);
-      tallied = λ q there.
-          leaving-step (so .tallied q there) {later = λ is. rowCount q is (slice (i + 1) to w) k}
-          (one-more .tallied q (place-right (there .places) i s (so .low) more word))
-          (λ is.
-          count-next (λ (x : ℕ). is (checkAt q k x)) w i to more (there .places .within)
-          ∙ ap (λ (n : ℕ). n + rowCount q is (slice (i + 1) to w) k)
-          (ap (λ (x : ℕ). one (is (checkAt q k x))) (sym (word .is))
-          ∙ ap (λ (o : Outcome). one (is o)) (sym
-          (probe-check there (probed .is q (there .left)) i s (so .low) more word))));
-    }
 
 abbrev Inv-loop : tie.InvT-loop
 Inv-loop work lay k e from to p r₀ i₀ r i =
@@ -57,15 +21,7 @@ probe-left-requires c κs =
     record { query = c .before .pre .0 .query; holds = c .before .pre .0 .holds .left }
 
 loop-holds : tie.Need-loop-holds Inv-loop μ-loop
-loop-holds c =
-    let start = c .before .before in
-    record {
-      low = omega arith;
-      grown = refl;
-      tallied = λ q there. leaving-start
-          (λ is. rowCount q is (slice (start .args .from) (start .args .to) (start .args .work .now)) (start .args .k))
-          (start .args .tally);
-    }
+loop-holds c = row-start
 
 word-at-requires : tie.Need-word-at-requires Inv-loop μ-loop
 word-at-requires c κs =
@@ -105,16 +61,7 @@ loop-again c =
     (c .check-one .ensures)
 
 returns : tie.Need-returns Inv-loop μ-loop
-returns c =
-    let start = c .before .before .before .before in
-    let a = start .args in
-    record {
-      grown = omega (arith, c .before .loop .inv .grown, c .loop-test .left);
-      tallied = λ q there.
-          leaving-end (c .before .loop .inv .tallied q there)
-          (λ is. count-past (λ (s : ℕ). is (checkAt q (a .k) s)) (a .work .now) (c .before .loop .i) (a .to)
-          (c .loop-test .left));
-    }
+returns c = row-end (c .before .loop .inv) (c .loop-test .left)
 
 pub check-row-spec : {M : Type 1} → statement M
 check-row-spec =

@@ -1,0 +1,86 @@
+// Rows that are kept as they stand: no row at first, and then one shared row for left sets that the same right sets contain.
+use join_index::Layout;
+use word_lists::words::word_at;
+ghost use mathlib.Core.Path.{_≡_};
+ghost use Rattle.word_lists.specs.Flags.{Behind};
+ghost use Rattle.join_check.specs.Asking.{Some};
+ghost use Rattle.kept_rows.specs.Keeping.{ClearThere, Cleared, WordsRoom, rowStored, Copied};
+ghost use Rattle.kept_rows.specs.Keeping.{ShareThere, Shared, ListThere, ListKept};
+
+// No left set has a row.
+pub fn clear_rows(work: &mut [u32], lay: Layout, lefts: usize)
+    requires { ⌜ Some (λ q. ClearThere lay q (now work) lefts) ⌝ }
+    ensures { λ _. ⌜ Cleared lay (now (work .entry)) lefts (now (work .exit)) ⌝ }
+{
+    let row_starts = lay.row_starts;
+    let mut k: usize = 0;
+    while k < lefts {
+        work[row_starts + k] = 0;
+        k += 1;
+    }
+}
+
+// The row of the left set k lies from one place of the work list up to another.
+pub fn keep_row(work: &mut [u32], lay: Layout, k: usize, from: usize, to: usize)
+    requires { ⌜ WordsRoom lay k from to (now work) ⌝ }
+    ensures { λ _. ⌜ now (work .exit) ≡ rowStored lay k from to (now (work .entry)) ⌝ }
+{
+    work[lay.row_starts + k] = from as u32;
+    work[lay.row_ends + k] = to as u32;
+}
+
+// Copies a part of the work list to the words from top on, and returns where the copy ends.
+fn copy_words(work: &mut [u32], from: usize, to: usize, top: usize) -> usize
+    requires { ⌜ Behind from to top (now work) ⌝ }
+    ensures { λ r. ⌜ Copied from to top (now (work .entry)) (now (work .exit)) r ⌝ }
+{
+    let mut i = from;
+    let mut n = top;
+    while i < to {
+        let s = work[i];
+        work[n] = s;
+        n += 1;
+        i += 1;
+    }
+    n
+}
+
+// The left sets at the places lo up to hi of the order share one row, which lies from one place of the work list up to another.
+fn share_row(work: &mut [u32], lay: Layout, lo: usize, hi: usize, from: usize, to: usize)
+    requires { ⌜ Some (λ q. ShareThere lay q (now work) lo hi from to) ⌝ }
+    ensures { λ _. ⌜ Shared lay (now (work .entry)) lo hi from to (now (work .exit)) ⌝ }
+{
+    let order = lay.order;
+    let mut i = lo;
+    while i < hi {
+        let k = word_at(work, order + i);
+        keep_row(work, lay, k, from, to);
+        i += 1;
+    }
+}
+
+// The left sets at the places lo up to hi of the order are contained in the right sets whose places stand from one place of the
+// work list up to another, and in no others: a copy of that part at top is kept as the row of each, if it fits. Returns the new
+// top.
+pub fn keep_list(
+    work: &mut [u32],
+    lay: Layout,
+    lo: usize,
+    hi: usize,
+    from: usize,
+    to: usize,
+    top: usize,
+) -> usize
+    requires { ⌜ Some (λ q. ListThere lay q (now work) lo hi from to top) ⌝ }
+    ensures { λ r. ⌜ ListKept lay (now (work .entry)) lo hi from to top (now (work .exit)) r ⌝ }
+{
+    if hi <= lo {
+        return top;
+    }
+    if lay.end - top < to - from {
+        return top;
+    }
+    let end = copy_words(work, from, to, top);
+    share_row(work, lay, lo, hi, top, end);
+    end
+}
