@@ -18,6 +18,11 @@ pub mod LimitLaws
 pub mod GroupSteps
 pub mod NodeStops
 pub mod NodeSteps
+pub mod RowsOf
+pub mod NodeRows
+pub mod EmptyNodes
+pub mod LoneSets
+pub mod LimitRows
 pub mod NodeChildren
 pub mod ChildSteps
 pub mod ChildNodes

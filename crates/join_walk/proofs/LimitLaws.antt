@@ -28,7 +28,7 @@ use Rattle.word_lists.specs.Words.{Word}
 use Rattle.join_check.specs.Checks.{RunsThere}
 use Rattle.join_check.specs.Counters.{checksIn}
 use Rattle.join_check.specs.declared.Tally.{Tally}
-use Rattle.join_check.proofs.Orders.{run-first, run-none, run-key}
+use Rattle.join_check.proofs.Orders.{run-key}
 use Rattle.join_walk.specs.Rows.{pathPairs}
 use Rattle.join_walk.specs.Narrowing.{candidateList}
 use Rattle.join_walk.specs.Visiting.{Added, Merged, Visited}
@@ -36,7 +36,7 @@ use Rattle.join_walk.specs.Blocks.{Small, Blocked, AtLimit}
 use Rattle.join_walk.specs.declared.visit.Settings.{Settings}
 use Rattle.join_walk.specs.declared.visit.Walked.{Walked}
 use Rattle.join_walk.proofs.Narrowing.{listing-kept}
-use Rattle.join_walk.proofs.RunLaws.{run-length, run-split}
+use Rattle.join_walk.proofs.RunLaws.{run-length, run-split, run-one}
 use Rattle.join_walk.proofs.VisitLaws.{underway-next}
 use Rattle.join_walk.proofs.FrameLaws.{framed-none}
 use Rattle.join_walk.proofs.PartLoop.{PartDone}
@@ -65,7 +65,7 @@ module _ {lay : Layout} {st : Settings} {q : Query} {path w : List ℕ} {d lo hi
   pub limit-run : lo < hi → RunThere lay q w lo hi
   limit-run some = record { index = at .index; some = some; within = at .few }
 
-  limit-listing : Listing (length (q .rights)) (λ s. isCandidate d path (rightAt q s)) (slice from to w)
+  pub limit-listing : Listing (length (q .rights)) (λ s. isCandidate d path (rightAt q s)) (slice from to w)
   limit-listing =
       subst (λ (l : List ℕ). Listing (length (q .rights)) (λ s. isCandidate d path (rightAt q s)) l) (sym (at .holds))
       (listing-kept (length (q .rights)) (λ s. isCandidate d path (rightAt q s)))
@@ -139,9 +139,7 @@ all-one p x l e h = subst (λ (m : List ℕ). all p m ≡ true) (sym e) (and-bot
 
 module _ {lay : Layout} {st : Settings} {q : Query} {w : List ℕ} {d i from to : ℕ} {tally : Tally} where
   one-left : {path : List ℕ} → AtLimit lay st q path w d i (i + 1) from to tally → run lay w i (i + 1) ≡ leftIn lay w i ∷ []
-  one-left at =
-      run-first (limit-run at (omega arith))
-      ∙ ap (λ (l : List ℕ). leftIn lay w i ∷ l) (run-none lay w (i + 1) (i + 1) (omega arith))
+  one-left at = run-one (limit-run at (omega arith)) refl
 
   pub one-room : {path : List ℕ} → AtLimit lay st q path w d i (i + 1) from to tally
       → tally .«by_path» + pathPairs 1 (to - from) isByPath ≤ maxPairs

@@ -66,7 +66,7 @@ module _ {lay : Layout} {st : Settings} {q : Query} {path w w′ : List ℕ} {d 
   pub index-after : Index lay q w′
   index-after = index-framed index onward-framed low
 
-  part-inside : part .to ≤ length w′
+  pub part-inside : part .to ≤ length w′
   part-inside = omega (arith, so .narrowed .below, slot-bound (index .ground) (lastOf path) (cands .last), so .narrowed .size)
 
   pub after-length : length (slice (part .«from») (part .to) w′) ≡ part .to - part .«from»

@@ -1,0 +1,126 @@
+-- A lone left set under the rule Merge that ends within the limit: the walk goes on to its end, so it comes by path with exactly
+-- the right sets that contain it, however many ranks of it are still to be merged.
+use Prim.Native.Nat.{ℕ, zero, suc, _+_, _-_, _*_, _≤_}
+use mathlib.Core.Path.{_≡_, refl, sym, ap, subst, _∙_}
+use mathlib.Core.List.{List, [], _∷_}
+use mathlib.Core.Bool.{Bool, false}
+use native.Mathlib.Omega.{arith}
+use native.Mathlib.Nat.{one-mul}
+use borrow.Author.Tests.{leb-true}
+use lib.Dec.{leb}
+use lib.ListN.{length, take, getD}
+use Rattle.lists.specs.Lists.{keep, sum, upto, slice}
+use Rattle.lists.proofs.Bools.{by-test, true-false}
+use Rattle.lists.proofs.Counting.{count-bound}
+use Rattle.lists.proofs.Filtering.{length-keep}
+use Rattle.lists.proofs.Ranges.{length-range}
+use Rattle.sets.specs.Limits.{maxPairs}
+use Rattle.join_spec.specs.Query.{Query}
+use Rattle.join_spec.specs.Walk.{Outcome, isCandidate}
+use Rattle.join_spec.specs.Counting.{isByPath}
+use Rattle.join_spec.specs.declared.Rule.the-variants.{Merge}
+use Rattle.join_index.specs.Grouping.{leftAt, rightAt, keyAt}
+use Rattle.join_index.specs.Ground.{Listing}
+use Rattle.join_index.specs.declared.Layout.{Layout}
+use Rattle.word_lists.specs.Words.{Word}
+use Rattle.join_check.specs.Asking.{LeftThere}
+use Rattle.join_check.specs.Checks.{RowThere}
+use Rattle.join_check.specs.Runs.{run}
+use Rattle.join_check.specs.declared.Tally.{Tally}
+use Rattle.join_walk.specs.Rows.{row, pathPairs}
+use Rattle.join_walk.specs.Visiting.{Merged, Visited}
+use Rattle.join_walk.specs.declared.narrow.Part.{Part}
+use Rattle.join_walk.specs.declared.visit.Settings.{Settings}
+use Rattle.join_walk.proofs.Narrowing.{listing-kept}
+use Rattle.join_walk.proofs.RunLaws.{run-one}
+use Rattle.join_walk.proofs.Prefixes.{prefix-length}
+use Rattle.join_walk.proofs.NodeFacts.{merge-goes}
+use Rattle.join_walk.proofs.RowLaws.{MetOnly, row-merges, row-deeper}
+use Rattle.join_walk.proofs.PathLaws.{paths-all, merged-checks}
+use Rattle.join_walk.proofs.BlockVisits.{merged-added}
+use Rattle.join_walk.proofs.NodeSteps.{Onward, node-run}
+use Rattle.join_walk.proofs.RowsOf.{containedAt, containing, row-whole}
+use Rattle.join_walk.proofs.NodeRows.{onward-rows, read-begin, read-row, read-sifted}
+
+-- a left set without a key after e ranks has no more than e
+key-within : (q : Query) (e k : ℕ) → keyAt q e k ≡ 0 → length (leftAt q k) ≤ e
+unfolding keyAt
+key-within q e k none =
+    by-test (leb (length (leftAt q k)) e)
+    (λ short. leb-true (length (leftAt q k)) e short)
+    (λ longer.
+    let key : keyAt q e k ≡ suc (getD (leftAt q k) e 0) = rw longer refl in
+    absurd (omega (arith, key, none)))
+
+-- the right sets that contain a left set are at most all
+containing-few : (q : Query) (k : ℕ) → length (containing q k) ≤ length (q .rights)
+containing-few q k =
+    omega (
+      arith,
+      length-keep (containedAt q k) (upto (length (q .rights))),
+      count-bound (containedAt q k) (upto (length (q .rights))),
+      length-range 0 (length (q .rights)),
+    )
+
+module _ {lay : Layout} {q : Query} {w : List ℕ} {k : ℕ} (there : LeftThere lay q w k) (merge : q .rule ≡ Merge)
+    (short : length (leftAt q k) ≤ q .limit) (is : Outcome → Bool) (met : MetOnly is) where
+  -- the row of the left set, with m ranks of it left
+  row-lone : (m d : ℕ) → m + d ≡ length (leftAt q k) → row is q d k ≡ pathPairs 1 (length (containing q k)) is
+  row-lone zero d ends =
+      row-merges q d k is met (containing q k) (sym (merge-goes q (take d (leftAt q k)) merge)) (omega arith)
+      (subst (λ (n : ℕ). Listing (length (q .rights)) (λ s. isCandidate n (leftAt q k) (rightAt q s)) (containing q k)) (omega arith)
+      (subst
+      (λ (l : List ℕ). Listing (length (q .rights)) (λ s. isCandidate (length (leftAt q k)) (leftAt q k) (rightAt q s)) l)
+      (sym (row-whole there))
+      (listing-kept (length (q .rights)) (λ s. isCandidate (length (leftAt q k)) (leftAt q k) (rightAt q s)))))
+  row-lone (suc m) d ends =
+      row-deeper q d k is (sym (merge-goes q (take d (leftAt q k)) merge)) (omega arith) (omega arith)
+      ∙ row-lone m (suc d) (omega arith)
+
+-- a node with one left set, as it was read
+module _ {lay : Layout} {st : Settings} {q : Query} {path w w′ : List ℕ} {d lo hi from to : ℕ} {tally : Tally} {part : Part}
+    (so : Onward lay st q path w w′ d lo hi from to tally part) (one : hi ≡ lo + 1) {k : ℕ} (word : Word w′ (lay .order + lo) k) where
+  -- it can be checked against the part, and the right sets that contain it are those of the part that do
+  pub lone-row : RowThere lay q w′ k d (part .«from») (part .to)
+  lone-row = read-row (onward-rows so) lo (omega arith) (omega arith) word
+
+  pub lone-sifted : containing q k ≡ keep (containedAt q k) (slice (part .«from») (part .to) w′)
+  lone-sifted = read-sifted (onward-rows so) lo (omega arith) (omega arith) word
+
+  -- there is room to count its pairs
+  pub lone-room : {c : ℕ} → c ≡ length (containing q k) → tally .«by_path» + pathPairs 1 c isByPath ≤ maxPairs
+  unfolding sum
+  lone-room {c} is =
+      let single : (hi - lo) * length (q .rights) ≡ length (q .rights) =
+      ap (λ (n : ℕ). n * length (q .rights)) (omega arith) ∙ one-mul (length (q .rights)) in
+      omega (arith, so .node .underway .bounded, containing-few q k, single, paths-all 1 c, one-mul c)
+
+  long : d ≤ length (leftAt q k)
+  long =
+      omega (
+        arith,
+        so .node .at .candidates .depth,
+        prefix-length path (leftAt q k) (read-begin (onward-rows so) lo (omega arith) (omega arith) word),
+      )
+
+  -- and they are its visit
+  pub lone-visited : {c : ℕ} {r : Tally} → st .rule ≡ Merge → keyAt q (st .limit) k ≡ 0 → c ≡ length (containing q k)
+      → Merged 1 c tally r → Visited q (st .budget) d (run lay w′ lo hi) tally (record { tally = r; spent = false })
+  unfolding sum
+  lone-visited {c} {r} merge short is merged =
+      record {
+        added = λ calm.
+            merged-added (run lay w′ lo hi)
+            (λ kind met.
+            ap (sum (row kind q d)) (run-one (node-run so) one ∙ ap (λ (n : ℕ). n ∷ []) (sym (word .is)))
+            ∙ omega (
+              arith,
+              row-lone (lone-row .left) (sym (so .node .underway .rule) ∙ merge)
+                  (omega (arith, so .node .underway .limit, key-within q (st .limit) k short)) kind met
+                  (length (leftAt q k) - d) d (omega (arith, long)),
+              ap (λ (n : ℕ). pathPairs 1 n kind) is,
+            ))
+            merged;
+        within = λ calm. omega (arith, merged-checks merged, so .node .underway .budget);
+        beyond = λ spent. true-false spent refl;
+      }
