@@ -24,11 +24,11 @@ use Rattle.join_index.specs.Grouping.{leftAt, rightAt}
 use Rattle.join_index.specs.Ground.{Listing}
 use Rattle.join_index.specs.declared.Layout.{Layout}
 use Rattle.join_check.specs.Runs.{run}
-use Rattle.join_check.specs.declared.Tally.{Tally}
 use Rattle.join_walk.specs.Rows.{goes, row}
 use Rattle.join_walk.specs.Narrowing.{candidateList}
 use Rattle.join_walk.specs.Visiting.{Visited}
 use Rattle.join_walk.specs.declared.narrow.Part.{Part}
+use Rattle.join_walk.specs.declared.visit.Progress.{Progress}
 use Rattle.join_walk.specs.declared.visit.Settings.{Settings}
 use Rattle.join_walk.proofs.Narrowing.{listing-kept}
 use Rattle.join_walk.proofs.Prefixes.{prefix-length}
@@ -108,9 +108,9 @@ rows-empty {q} {path} {d} {lefts} rooted within on none is met =
     ∙ sum-zero lefts
 
 -- so the visit of a node where the part is empty is over
-pub empty-visited : {lay : Layout} {st : Settings} {q : Query} {path w w′ : List ℕ} {d lo hi from to : ℕ} {tally : Tally}
-    {part : Part} → Onward lay st q path w w′ d lo hi from to tally part → part .to ≤ part .«from»
-    → Visited q (st .budget) d (run lay w′ lo hi) tally (record { tally = tally; spent = false })
+pub empty-visited : {lay : Layout} {st : Settings} {q : Query} {path w w′ : List ℕ} {d lo hi from to : ℕ} {p : Progress}
+    {part : Part} {top : ℕ} → Onward lay st q path w w′ d lo hi from to p part top → part .to ≤ part .«from»
+    → Visited q (st .budget) d (run lay w′ lo hi) (p .tally) (record { at = record { tally = p .tally; top = top }; spent = false })
 empty-visited {q = q} {path} {d = d} {part = part} so empty =
     record {
       added = λ calm.
@@ -125,4 +125,4 @@ empty-visited {q = q} {path} {d = d} {part = part} so empty =
     }
   where
     none : candidateList q path d ≡ []
-    none = sym (so .narrowed .holds) ∙ slice-past (part .«from») (part .to) _ empty
+    none = sym (so .holds) ∙ slice-past (part .«from») (part .to) _ empty

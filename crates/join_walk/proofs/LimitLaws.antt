@@ -14,7 +14,7 @@ use Rattle.lists.proofs.Throughout.{all-front, all-back}
 use Rattle.lists.proofs.Counting.{count-bound}
 use Rattle.lists.proofs.Filtering.{length-keep}
 use Rattle.lists.proofs.Ranges.{length-range}
-use Rattle.lists.proofs.Slices.{length-slice}
+use Rattle.lists.proofs.Slices.{length-slice, frame-slice}
 use Rattle.sets.specs.Limits.{maxPairs}
 use Rattle.join_spec.specs.Query.{Query}
 use Rattle.join_spec.specs.Walk.{isCandidate}
@@ -31,17 +31,18 @@ use Rattle.join_check.specs.declared.Tally.{Tally}
 use Rattle.join_check.proofs.Orders.{run-key}
 use Rattle.join_walk.specs.Rows.{pathPairs}
 use Rattle.join_walk.specs.Narrowing.{candidateList}
-use Rattle.join_walk.specs.Visiting.{Added, Merged, Visited}
+use Rattle.join_walk.specs.Visiting.{Added, Merged, Visited, RunVisited}
 use Rattle.join_walk.specs.Blocks.{Small, Blocked, AtLimit}
+use Rattle.join_walk.specs.declared.visit.Progress.{Progress}
 use Rattle.join_walk.specs.declared.visit.Settings.{Settings}
 use Rattle.join_walk.specs.declared.visit.Walked.{Walked}
 use Rattle.join_walk.proofs.Narrowing.{listing-kept}
 use Rattle.join_walk.proofs.RunLaws.{run-length, run-split, run-one}
 use Rattle.join_walk.proofs.VisitLaws.{underway-next}
-use Rattle.join_walk.proofs.FrameLaws.{framed-none}
+use Rattle.join_walk.proofs.FrameLaws.{rows-inside, index-framed, run-framed}
 use Rattle.join_walk.proofs.PartLoop.{PartDone}
 use Rattle.join_walk.proofs.PathLaws.{paths-all, merged-checks}
-use Rattle.join_walk.proofs.BlockLaws.{Rooted, runs-there, rows-limit, rows-merge, key-longer}
+use Rattle.join_walk.proofs.BlockLaws.{Begin, Rooted, runs-there, rows-limit, rows-merge, key-longer}
 use Rattle.join_walk.proofs.BlockVisits.{block-visited, merged-added}
 
 -- the candidates after a path are at most the right sets
@@ -54,10 +55,13 @@ candidates-most q path e =
       length-range 0 (length (q .rights)),
     )
 
-module _ {lay : Layout} {st : Settings} {q : Query} {path w : List ℕ} {d lo hi from to : ℕ} {tally : Tally}
-    (at : AtLimit lay st q path w d lo hi from to tally) where
+module _ {lay : Layout} {st : Settings} {q : Query} {path w : List ℕ} {d lo hi from to : ℕ} {p : Progress}
+    (at : AtLimit lay st q path w d lo hi from to p) where
+  part-inside : to ≤ length w
+  part-inside = omega (arith, at .below, rows-inside (at .index))
+
   part-length : length (slice from to w) ≡ to - from
-  part-length = length-slice from to w (at .within)
+  part-length = length-slice from to w part-inside
 
   part-few : to - from ≤ length (q .rights)
   part-few = omega (arith, part-length, ap length (at .holds), candidates-most q path d)
@@ -71,7 +75,7 @@ module _ {lay : Layout} {st : Settings} {q : Query} {path w : List ℕ} {d lo hi
       (listing-kept (length (q .rights)) (λ s. isCandidate d path (rightAt q s)))
 
   -- the first of them alone, and the others
-  pub limit-first : lo < hi → AtLimit lay st q path w d lo (lo + 1) from to tally
+  pub limit-first : lo < hi → AtLimit lay st q path w d lo (lo + 1) from to p
   limit-first some =
       let parts = run-split lay q w lo (lo + 1) hi (at .index) (omega arith) (omega arith) (at .few) in
       record {
@@ -83,6 +87,7 @@ module _ {lay : Layout} {st : Settings} {q : Query} {path w : List ℕ} {d lo hi
           budget = at .underway .budget;
           bounded = omega (arith, at .underway .bounded, one-row);
         };
+        rows = at .rows;
         depth = at .depth;
         deep = at .deep;
         limit = at .limit;
@@ -92,44 +97,50 @@ module _ {lay : Layout} {st : Settings} {q : Query} {path w : List ℕ} {d lo hi
         begins = all-front (λ k. prefix path (leftAt q k)) (run lay w lo (lo + 1)) (run lay w (lo + 1) hi)
             (subst (λ (l : List ℕ). all (λ k. prefix path (leftAt q k)) l ≡ true) parts (at .begins));
         rise = at .rise;
-        within = at .within;
+        below = at .below;
         holds = at .holds;
       }
     where
       one-row : (lo + 1 - lo) * length (q .rights) ≤ (hi - lo) * length (q .rights)
       one-row = mul-le-mul-right (length (q .rights)) (omega arith)
 
-  limit-next : {r : Tally} → lo < hi → Added q d (run lay w lo (lo + 1)) tally r → checksIn r ≤ st .budget
-      → AtLimit lay st q path w d (lo + 1) hi from to r
-  limit-next some add low =
+  limit-next : {w′ : List ℕ} {r : Walked} → lo < hi
+      → RunVisited lay q (st .budget) (lay .«row_starts») d w w′ lo (lo + 1) (p .tally) r → r .spent ≡ false
+      → AtLimit lay st q path w′ d (lo + 1) hi from to (r .at)
+  limit-next {w′} some visit calm =
       let parts = run-split lay q w lo (lo + 1) hi (at .index) (omega arith) (omega arith) (at .few) in
+      let slots = at .index .ground .slotsBelow in
       record {
-        index = at .index;
-        underway = underway-next (at .underway) add
-            (omega (arith, run-length lay q w lo (lo + 1) (at .index) (omega (arith, at .few)))) low;
+        index = index-framed (at .index) (visit .framed) slots;
+        underway = underway-next (at .underway) (visit .visited .added calm)
+            (omega (arith, run-length lay q w lo (lo + 1) (at .index) (omega (arith, at .few)))) (visit .visited .within calm);
+        rows = visit .rows calm;
         depth = at .depth;
         deep = at .deep;
         limit = at .limit;
         on = at .on;
         upto = omega arith;
         few = at .few;
-        begins = all-back (λ k. prefix path (leftAt q k)) (run lay w lo (lo + 1)) (run lay w (lo + 1) hi)
-            (subst (λ (l : List ℕ). all (λ k. prefix path (leftAt q k)) l ≡ true) parts (at .begins));
+        begins =
+            subst (λ (l : List ℕ). Begin q path l) (sym (run-framed (at .index) (visit .framed) slots (lo + 1) hi (at .few)))
+            (all-back (λ k. prefix path (leftAt q k)) (run lay w lo (lo + 1)) (run lay w (lo + 1) hi)
+            (subst (λ (l : List ℕ). Begin q path l) parts (at .begins)));
         rise = at .rise;
-        within = at .within;
-        holds = at .holds;
+        below = at .below;
+        holds = frame-slice from to (lay .«row_starts») w w′ (at .below) (visit .framed .frame) ∙ at .holds;
       }
 
   -- the first, visited, as a part of them
-  pub limit-done : lo < hi → {one : Walked} → Visited q (st .budget) d (run lay w lo (lo + 1)) tally one
-      → PartDone lay (st .budget) d hi (λ path w. lay .slots) (λ q path w i r. AtLimit lay st q path w d i hi from to r) q path w
-      lo tally w (lo + 1) one
+  pub limit-done : lo < hi → {w′ : List ℕ} {one : Walked}
+      → RunVisited lay q (st .budget) (lay .«row_starts») d w w′ lo (lo + 1) (p .tally) one
+      → PartDone lay (st .budget) d hi (λ path w. lay .«row_starts») (λ q path w i r. AtLimit lay st q path w d i hi from to r) q
+      path w lo p w′ (lo + 1) one
   limit-done some visit =
       record {
-        facts = record { index = at .index; few = at .few; slots = omega arith };
-        visit = record { framed = framed-none (lay .slots) w; visited = visit };
+        facts = record { index = at .index; few = at .few; slots = at .index .ground .slotsBelow };
+        visit = visit;
         steady = refl;
-        next = λ calm. limit-next some (visit .added calm) (visit .within calm);
+        next = λ calm. limit-next some visit calm;
       }
 
 -- one left set at the limit
@@ -137,27 +148,27 @@ all-one : (p : ℕ → Bool) (x : ℕ) (l : List ℕ) → l ≡ x ∷ [] → p x
 unfolding all
 all-one p x l e h = subst (λ (m : List ℕ). all p m ≡ true) (sym e) (and-both h refl)
 
-module _ {lay : Layout} {st : Settings} {q : Query} {w : List ℕ} {d i from to : ℕ} {tally : Tally} where
-  one-left : {path : List ℕ} → AtLimit lay st q path w d i (i + 1) from to tally → run lay w i (i + 1) ≡ leftIn lay w i ∷ []
+module _ {lay : Layout} {st : Settings} {q : Query} {w : List ℕ} {d i from to : ℕ} {p : Progress} where
+  one-left : {path : List ℕ} → AtLimit lay st q path w d i (i + 1) from to p → run lay w i (i + 1) ≡ leftIn lay w i ∷ []
   one-left at = run-one (limit-run at (omega arith)) refl
 
-  pub one-room : {path : List ℕ} → AtLimit lay st q path w d i (i + 1) from to tally
-      → tally .«by_path» + pathPairs 1 (to - from) isByPath ≤ maxPairs
+  pub one-room : {path : List ℕ} → AtLimit lay st q path w d i (i + 1) from to p
+      → p .tally .«by_path» + pathPairs 1 (to - from) isByPath ≤ maxPairs
   unfolding sum
   one-room at =
       let one : (i + 1 - i) * length (q .rights) ≡ length (q .rights) =
       ap (λ (n : ℕ). n * length (q .rights)) (omega arith) ∙ one-mul (length (q .rights)) in
       omega (arith, at .underway .bounded, part-few at, one, paths-all 1 (to - from), one-mul (to - from))
 
-  rooted : {path : List ℕ} → AtLimit lay st q path w d i (i + 1) from to tally → Rooted q path d (run lay w i (i + 1))
+  rooted : {path : List ℕ} → AtLimit lay st q path w d i (i + 1) from to p → Rooted q path d (run lay w i (i + 1))
   rooted at = record { depth = at .depth; deep = at .deep; begin = at .begins }
 
-  pub one-merged : {path : List ℕ} → AtLimit lay st q path w d i (i + 1) from to tally → keyAt q d (leftIn lay w i) ≡ 0
-      → {r : Tally} → Merged 1 (to - from) tally r
-      → Visited q (st .budget) d (run lay w i (i + 1)) tally (record { tally = r; spent = false })
+  pub one-merged : {path : List ℕ} → AtLimit lay st q path w d i (i + 1) from to p → keyAt q d (leftIn lay w i) ≡ 0
+      → {r : Tally} {top : ℕ} → Merged 1 (to - from) (p .tally) r
+      → Visited q (st .budget) d (run lay w i (i + 1)) (p .tally) (record { at = record { tally = r; top = top }; spent = false })
   one-merged at ends {r} merged =
       let lefts = run lay w i (i + 1) in
-      let add : Added q d lefts tally r =
+      let add : Added q d lefts (p .tally) r =
       merged-added lefts
       (λ is met.
       rows-merge (rooted at) (slice from to w) is met (at .on)
@@ -172,14 +183,14 @@ module _ {lay : Layout} {st : Settings} {q : Query} {w : List ℕ} {d i from to 
       }
 
   -- its key as it was read
-  pub one-key : {path : List ℕ} {k r : ℕ} → AtLimit lay st q path w d i (i + 1) from to tally → Word w (lay .order + i) k
+  pub one-key : {path : List ℕ} {k r : ℕ} → AtLimit lay st q path w d i (i + 1) from to p → Word w (lay .order + i) k
       → ((q : Query) → LeftThere lay q w k → r ≡ keyAt q d k) → r ≡ keyAt q d (leftIn lay w i)
   one-key at word read = run-key (limit-run at (omega arith)) d i (omega arith) word read
 
-  pub one-there : {path : List ℕ} → AtLimit lay st q path w d i (i + 1) from to tally → RunsThere lay q w d i (i + 1) from to
-  one-there at = runs-there (rooted at) (at .index) (at .within) (at .few) (limit-listing at) (omega arith)
+  pub one-there : {path : List ℕ} → AtLimit lay st q path w d i (i + 1) from to p → RunsThere lay q w d i (i + 1) from to
+  one-there at = runs-there (rooted at) (at .index) (part-inside at) (at .few) (limit-listing at) (omega arith)
 
-  pub one-small : {path : List ℕ} → AtLimit lay st q path w d i (i + 1) from to tally → Small (st .budget) i (i + 1) from to tally
+  pub one-small : {path : List ℕ} → AtLimit lay st q path w d i (i + 1) from to p → Small (st .budget) i (i + 1) from to (p .tally)
   one-small at =
       record {
         lefts = omega arith;
@@ -189,9 +200,9 @@ module _ {lay : Layout} {st : Settings} {q : Query} {w : List ℕ} {d i from to 
         covered = at .underway .budget;
       }
 
-  pub one-checked : {path : List ℕ} → AtLimit lay st q path w d i (i + 1) from to tally
+  pub one-checked : {path : List ℕ} → AtLimit lay st q path w d i (i + 1) from to p
       → (keyAt q d (leftIn lay w i) ≡ 0 → ⊥) → {r : Walked}
-      → Blocked lay w (st .budget) d i (i + 1) from to tally r → Visited q (st .budget) d (run lay w i (i + 1)) tally r
+      → Blocked lay w (st .budget) d i (i + 1) from to p r → Visited q (st .budget) d (run lay w i (i + 1)) (p .tally) r
   one-checked at longer block =
       let own = leftIn lay w i in
       block-visited (one-there at) (ap length (one-left at) ∙ omega arith) (part-length at)

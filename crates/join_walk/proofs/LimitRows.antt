@@ -22,20 +22,21 @@ use Rattle.join_check.proofs.Tallying.{tallied-same}
 use Rattle.join_walk.specs.Rows.{row}
 use Rattle.join_walk.specs.Visiting.{Visited}
 use Rattle.join_walk.specs.Blocks.{AtLimit}
+use Rattle.join_walk.specs.declared.visit.Progress.{Progress}
 use Rattle.join_walk.specs.declared.visit.Settings.{Settings}
 use Rattle.join_walk.proofs.RunLaws.{run-one}
 use Rattle.join_walk.proofs.RowLaws.{MetOnly, row-limit}
 use Rattle.join_walk.proofs.BlockLaws.{key-longer, left-goes, listing-left}
 use Rattle.join_walk.proofs.LimitLaws.{limit-run, limit-listing}
-use Rattle.join_walk.proofs.NodeRows.{limit-rows, read-begin}
+use Rattle.join_walk.proofs.NodeRows.{limit-rows, row-begins}
 
-module _ {lay : Layout} {st : Settings} {q : Query} {path w : List ℕ} {d i from to : ℕ} {tally : Tally}
-    (at : AtLimit lay st q path w d i (i + 1) from to tally) {k : ℕ} (word : Word w (lay .order + i) k)
+module _ {lay : Layout} {st : Settings} {q : Query} {path w : List ℕ} {d i from to : ℕ} {p : Progress}
+    (at : AtLimit lay st q path w d i (i + 1) from to p) {k : ℕ} (word : Word w (lay .order + i) k)
     (longer : keyAt q d k ≡ 0 → ⊥) where
   one-rows : (is : Outcome → Bool) → MetOnly is → sum (row is q d) (run lay w i (i + 1)) ≡ rowCount q is (slice from to w) k
   unfolding sum
   one-rows is met =
-      let begins = read-begin (limit-rows at) i (omega arith) (omega arith) word in
+      let begins = row-begins (limit-rows at) i (omega arith) (omega arith) (word .is) in
       ap (sum (row is q d)) (run-one (limit-run at (omega arith)) refl ∙ ap (λ (n : ℕ). n ∷ []) (sym (word .is)))
       ∙ omega (
         arith,
@@ -44,8 +45,8 @@ module _ {lay : Layout} {st : Settings} {q : Query} {path w : List ℕ} {d i fro
             (listing-left (limit-rows at .rooted) d k (slice from to w) begins (omega arith) (limit-listing at)),
       )
 
-  pub one-recorded : {r : Tally} → Tallied (λ is. rowCount q is (slice from to w) k) tally r → checksIn r ≤ st .budget
-      → Visited q (st .budget) d (run lay w i (i + 1)) tally (record { tally = r; spent = false })
+  pub one-recorded : {r : Tally} {top : ℕ} → Tallied (λ is. rowCount q is (slice from to w) k) (p .tally) r → checksIn r ≤ st .budget
+      → Visited q (st .budget) d (run lay w i (i + 1)) (p .tally) (record { at = record { tally = r; top = top }; spent = false })
   one-recorded tallied low =
       record {
         added = λ calm. record { tallied = tallied-same (λ kind. sym (one-rows (isOf kind) (kind-met kind))) tallied };

@@ -9,7 +9,7 @@ use native.Mathlib.Nat.{one-mul}
 use borrow.Author.Tests.{leb-true}
 use lib.Dec.{leb}
 use lib.ListN.{length, take, getD}
-use Rattle.lists.specs.Lists.{keep, sum, upto, slice}
+use Rattle.lists.specs.Lists.{sum, upto}
 use Rattle.lists.proofs.Bools.{by-test, true-false}
 use Rattle.lists.proofs.Counting.{count-bound}
 use Rattle.lists.proofs.Filtering.{length-keep}
@@ -24,12 +24,14 @@ use Rattle.join_index.specs.Ground.{Listing}
 use Rattle.join_index.specs.declared.Layout.{Layout}
 use Rattle.word_lists.specs.Words.{Word}
 use Rattle.join_check.specs.Asking.{LeftThere}
-use Rattle.join_check.specs.Checks.{RowThere}
 use Rattle.join_check.specs.Runs.{run}
 use Rattle.join_check.specs.declared.Tally.{Tally}
+use Rattle.kept_rows.specs.Kept.{containedAt, containing}
+use Rattle.kept_rows.specs.Recording.{RecordThere}
 use Rattle.join_walk.specs.Rows.{row, pathPairs}
 use Rattle.join_walk.specs.Visiting.{Merged, Visited}
 use Rattle.join_walk.specs.declared.narrow.Part.{Part}
+use Rattle.join_walk.specs.declared.visit.Progress.{Progress}
 use Rattle.join_walk.specs.declared.visit.Settings.{Settings}
 use Rattle.join_walk.proofs.Narrowing.{listing-kept}
 use Rattle.join_walk.proofs.RunLaws.{run-one}
@@ -39,8 +41,8 @@ use Rattle.join_walk.proofs.RowLaws.{MetOnly, row-merges, row-deeper}
 use Rattle.join_walk.proofs.PathLaws.{paths-all, merged-checks}
 use Rattle.join_walk.proofs.BlockVisits.{merged-added}
 use Rattle.join_walk.proofs.NodeSteps.{Onward, node-run}
-use Rattle.join_walk.proofs.RowsOf.{containedAt, containing, row-whole}
-use Rattle.join_walk.proofs.NodeRows.{onward-rows, read-begin, read-row, read-sifted}
+use Rattle.join_walk.proofs.RowsOf.{row-whole}
+use Rattle.join_walk.proofs.NodeRows.{onward-rows, row-begins, row-there, row-record}
 
 -- a left set without a key after e ranks has no more than e
 key-within : (q : Query) (e k : ℕ) → keyAt q e k ≡ 0 → length (leftAt q k) ≤ e
@@ -78,17 +80,14 @@ module _ {lay : Layout} {q : Query} {w : List ℕ} {k : ℕ} (there : LeftThere 
       ∙ row-lone m (suc d) (omega arith)
 
 -- a node with one left set, as it was read
-module _ {lay : Layout} {st : Settings} {q : Query} {path w w′ : List ℕ} {d lo hi from to : ℕ} {tally : Tally} {part : Part}
-    (so : Onward lay st q path w w′ d lo hi from to tally part) (one : hi ≡ lo + 1) {k : ℕ} (word : Word w′ (lay .order + lo) k) where
-  -- it can be checked against the part, and the right sets that contain it are those of the part that do
-  pub lone-row : RowThere lay q w′ k d (part .«from») (part .to)
-  lone-row = read-row (onward-rows so) lo (omega arith) (omega arith) word
-
-  pub lone-sifted : containing q k ≡ keep (containedAt q k) (slice (part .«from») (part .to) w′)
-  lone-sifted = read-sifted (onward-rows so) lo (omega arith) (omega arith) word
+module _ {lay : Layout} {st : Settings} {q : Query} {path w w′ : List ℕ} {d lo hi from to : ℕ} {p : Progress} {part : Part} {top : ℕ}
+    (so : Onward lay st q path w w′ d lo hi from to p part top) (one : hi ≡ lo + 1) {k : ℕ} (word : Word w′ (lay .order + lo) k) where
+  -- its row can be found by checks against the part, where there is room for it
+  pub lone-record : top + (part .to - part .«from») ≤ lay .end → RecordThere lay q w′ k d (part .«from») (part .to) top
+  lone-record room = row-record (onward-rows so) lo (omega arith) (omega arith) (word .is) (so .rows) room
 
   -- there is room to count its pairs
-  pub lone-room : {c : ℕ} → c ≡ length (containing q k) → tally .«by_path» + pathPairs 1 c isByPath ≤ maxPairs
+  pub lone-room : {c : ℕ} → c ≡ length (containing q k) → p .tally .«by_path» + pathPairs 1 c isByPath ≤ maxPairs
   unfolding sum
   lone-room {c} is =
       let single : (hi - lo) * length (q .rights) ≡ length (q .rights) =
@@ -100,12 +99,13 @@ module _ {lay : Layout} {st : Settings} {q : Query} {path w w′ : List ℕ} {d 
       omega (
         arith,
         so .node .at .candidates .depth,
-        prefix-length path (leftAt q k) (read-begin (onward-rows so) lo (omega arith) (omega arith) word),
+        prefix-length path (leftAt q k) (row-begins (onward-rows so) lo (omega arith) (omega arith) (word .is)),
       )
 
   -- and they are its visit
   pub lone-visited : {c : ℕ} {r : Tally} → st .rule ≡ Merge → keyAt q (st .limit) k ≡ 0 → c ≡ length (containing q k)
-      → Merged 1 c tally r → Visited q (st .budget) d (run lay w′ lo hi) tally (record { tally = r; spent = false })
+      → Merged 1 c (p .tally) r → {more : ℕ}
+      → Visited q (st .budget) d (run lay w′ lo hi) (p .tally) (record { at = record { tally = r; top = more }; spent = false })
   unfolding sum
   lone-visited {c} {r} merge short is merged =
       record {
@@ -115,7 +115,7 @@ module _ {lay : Layout} {st : Settings} {q : Query} {path w w′ : List ℕ} {d 
             ap (sum (row kind q d)) (run-one (node-run so) one ∙ ap (λ (n : ℕ). n ∷ []) (sym (word .is)))
             ∙ omega (
               arith,
-              row-lone (lone-row .left) (sym (so .node .underway .rule) ∙ merge)
+              row-lone (row-there (onward-rows so) lo (omega arith) (omega arith) (word .is) .left) (sym (so .node .underway .rule) ∙ merge)
                   (omega (arith, so .node .underway .limit, key-within q (st .limit) k short)) kind met
                   (length (leftAt q k) - d) d (omega (arith, long)),
               ap (λ (n : ℕ). pathPairs 1 n kind) is,

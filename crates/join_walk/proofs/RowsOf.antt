@@ -2,15 +2,14 @@
 -- left set ends with the path they are the candidates.
 use Prim.Native.Nat.{ℕ, _≤_, _<_}
 use mathlib.Core.Path.{_≡_, sym, ap, _∙_}
-use mathlib.Core.List.{List, []}
-use mathlib.Core.Bool.{Bool, true}
+use mathlib.Core.List.{List}
+use mathlib.Core.Bool.{true}
 use borrow.Author.Tests.{ltb-true}
 use lib.Dec.{ltb}
-use lib.ListN.{length, getD}
+use lib.ListN.{length}
 use Rattle.lists.specs.Lists.{keep, prefix, subset, upto}
 use Rattle.lists.proofs.Filtering.{keep-same-where, keep-through}
 use Rattle.lists.proofs.Ranges.{all-upto}
-use Rattle.sets.specs.Collections.{contained}
 use Rattle.join_spec.specs.Query.{Query}
 use Rattle.join_spec.specs.Walk.{isCandidate}
 use Rattle.join_spec.proofs.Outcomes.{candidate-contained, candidate-whole}
@@ -18,16 +17,9 @@ use Rattle.join_index.specs.Grouping.{leftAt, rightAt}
 use Rattle.join_index.specs.declared.Layout.{Layout}
 use Rattle.join_index.proofs.Ordering.{right-rising}
 use Rattle.join_check.specs.Asking.{LeftThere}
+use Rattle.kept_rows.specs.Kept.{containedAt, containing}
 use Rattle.join_walk.specs.Narrowing.{candidateList}
 use Rattle.join_walk.proofs.Narrowing.{candidate-path}
-
--- whether the left set k is contained in the right set s
-abbrev pub containedAt : Query → ℕ → ℕ → Bool
-containedAt q k s = contained (getD (q .lefts) k []) (getD (q .rights) s [])
-
--- the places of the right sets that contain the left set k, rising
-abbrev pub containing : Query → ℕ → List ℕ
-containing q k = keep (containedAt q k) (upto (length (q .rights)))
 
 module _ {lay : Layout} {q : Query} {w : List ℕ} {k : ℕ} (there : LeftThere lay q w k) where
   -- ranks decide containment

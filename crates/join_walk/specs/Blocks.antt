@@ -16,9 +16,11 @@ use Rattle.join_check.specs.Runs.{run, lead}
 use Rattle.join_check.specs.Counters.{checksIn, Tallied}
 use Rattle.join_check.specs.Checks.{runCount, RunsThere}
 use Rattle.join_check.specs.declared.Tally.{Tally}
+use Rattle.kept_rows.specs.Kept.{RowsKept}
 use Rattle.join_walk.specs.Rows.{goes}
 use Rattle.join_walk.specs.Narrowing.{candidateList}
 use Rattle.join_walk.specs.Visiting.{Underway}
+use Rattle.join_walk.specs.declared.visit.Progress.{Progress}
 use Rattle.join_walk.specs.declared.visit.Settings.{Settings}
 use Rattle.join_walk.specs.declared.visit.Walked.{Walked}
 
@@ -30,13 +32,14 @@ pub record Small (budget lo hi from to : ℕ) (tally : Tally) : Type 0 where
   pub part : from ≤ to
   pub covered : checksIn tally ≤ budget
 
--- every left set was checked against every candidate, or that would have passed the budget
-pub record Blocked (lay : Layout) (w : List ℕ) (budget e lo hi from to : ℕ) (tally : Tally) (r : Walked) : Type 0 where
+-- every left set was checked against every candidate, or that would have passed the budget; no row is kept
+pub record Blocked (lay : Layout) (w : List ℕ) (budget e lo hi from to : ℕ) (p : Progress) (r : Walked) : Type 0 where
   pub tallied :
       r .spent ≡ false → (q : Query) → RunsThere lay q w e lo hi from to
-      → Tallied (λ is. runCount q is (slice from to w) (run lay w lo hi)) tally (r .tally)
-  pub within : r .spent ≡ false → checksIn (r .tally) ≤ budget
-  pub beyond : r .spent ≡ true → budget < checksIn tally + (hi - lo) * (to - from)
+      → Tallied (λ is. runCount q is (slice from to w) (run lay w lo hi)) (p .tally) (r .at .tally)
+  pub within : r .spent ≡ false → checksIn (r .at .tally) ≤ budget
+  pub beyond : r .spent ≡ true → budget < checksIn (p .tally) + (hi - lo) * (to - from)
+  pub top : r .at .top ≡ p .top
 
 -- r is where the left sets end that stand first from place lo and have no rank after depth d
 pub record MergedEnd (lay : Layout) (w : List ℕ) (d lo hi r : ℕ) : Type 0 where
@@ -47,9 +50,10 @@ pub record MergedEnd (lay : Layout) (w : List ℕ) (d lo hi r : ℕ) : Type 0 wh
 -- left sets at the limit, at the places lo up to hi: they begin with the path, where the walk goes on, and the candidates are
 -- those after it
 pub record AtLimit (lay : Layout) (st : Settings) (q : Query) (path w : List ℕ) (d lo hi from to : ℕ)
-    (tally : Tally) : Type 0 where
+    (p : Progress) : Type 0 where
   pub index : Index lay q w
-  pub underway : Underway st q tally (hi - lo)
+  pub underway : Underway st q (p .tally) (hi - lo)
+  pub rows : RowsKept lay q w (p .top)
   pub depth : length path ≡ d
   pub deep : 0 < d
   pub limit : q .limit ≡ d
@@ -58,5 +62,5 @@ pub record AtLimit (lay : Layout) (st : Settings) (q : Query) (path w : List ℕ
   pub few : hi ≤ length (q .lefts)
   pub begins : all (λ k. prefix path (leftAt q k)) (run lay w lo hi) ≡ true
   pub rise : from ≤ to
-  pub within : to ≤ length w
+  pub below : to ≤ lay .«row_starts»
   pub holds : slice from to w ≡ candidateList q path d
