@@ -24,9 +24,10 @@ use Rattle.join_index.specs.Grouping.{leftAt, rightAt}
 use Rattle.join_index.specs.Ground.{Listing}
 use Rattle.join_index.specs.declared.Layout.{Layout}
 use Rattle.join_check.specs.Runs.{run}
+use Rattle.kept_rows.specs.Keeping.{ListKept}
 use Rattle.join_walk.specs.Rows.{goes, row}
 use Rattle.join_walk.specs.Narrowing.{candidateList}
-use Rattle.join_walk.specs.Visiting.{Visited}
+use Rattle.join_walk.specs.Visiting.{RunVisited}
 use Rattle.join_walk.specs.declared.narrow.Part.{Part}
 use Rattle.join_walk.specs.declared.visit.Progress.{Progress}
 use Rattle.join_walk.specs.declared.visit.Settings.{Settings}
@@ -35,8 +36,9 @@ use Rattle.join_walk.proofs.Prefixes.{prefix-length}
 use Rattle.join_walk.proofs.RowLaws.{MetOnly, row-stops, row-limit, row-merges, row-deeper}
 use Rattle.join_walk.proofs.PathLaws.{paths-one}
 use Rattle.join_walk.proofs.BlockLaws.{Rooted, listing-left, left-goes}
-use Rattle.join_walk.proofs.NodeSteps.{Onward}
-use Rattle.join_walk.proofs.NodeRows.{onward-rows}
+use Rattle.join_walk.proofs.GoingLaws.{going-rooted}
+use Rattle.join_walk.proofs.NodeSteps.{Onward, onward-going}
+use Rattle.join_walk.proofs.NodeRows.{empty-list}
 
 -- no right set is a candidate after the first d ranks of the left set k
 abbrev Unmet : Query → ℕ → ℕ → Type 0
@@ -107,22 +109,25 @@ rows-empty {q} {path} {d} {lefts} rooted within on none is met =
     (listing-kept (length (q .rights)) (λ s. isCandidate d path (rightAt q s))))))
     ∙ sum-zero lefts
 
--- so the visit of a node where the part is empty is over
-pub empty-visited : {lay : Layout} {st : Settings} {q : Query} {path w w′ : List ℕ} {d lo hi from to : ℕ} {p : Progress}
-    {part : Part} {top : ℕ} → Onward lay st q path w w′ d lo hi from to p part top → part .to ≤ part .«from»
-    → Visited q (st .budget) d (run lay w′ lo hi) (p .tally) (record { at = record { tally = p .tally; top = top }; spent = false })
-empty-visited {q = q} {path} {d = d} {part = part} so empty =
+-- so the visit of a node where the part is empty is over, and the rows of its left sets are kept
+pub empty-kept : {lay : Layout} {st : Settings} {q : Query} {path w w′ w″ : List ℕ} {d lo hi from to top : ℕ} {p : Progress}
+    {part : Part} → Onward lay st q path w w′ d lo hi from to p part (p .top) → part .to ≤ part .«from»
+    → ListKept lay w′ lo hi (part .«from») (part .to) (p .top) w″ top
+    → RunVisited lay q (st .budget) (lay .«row_starts») d w′ w″ lo hi (p .tally)
+    (record { at = record { tally = p .tally; top = top }; spent = false })
+empty-kept {lay} {q = q} {path} {w′ = w′} {d = d} {lo} {hi} {part = part} so empty kept =
     record {
-      added = λ calm.
-          record {
-            tallied = record {
-              grows = λ kind.
-                  omega (arith, rows-empty (onward-rows so .rooted) (so .node .at .within) (sym (so .on)) none (isOf kind) (kind-met kind));
-            };
-          };
-      within = λ calm. so .node .underway .budget;
-      beyond = λ spent. true-false spent refl;
+      framed = record { size = kept .size; frame = kept .frame };
+      visited = record {
+        added = λ calm.
+            record { tallied = record { grows = λ kind. omega (arith, nothing (isOf kind) (kind-met kind)) } };
+        within = λ calm. so .node .underway .budget;
+        beyond = λ spent. true-false spent refl;
+      };
+      rows = λ calm. kept .rows q (empty-list (onward-going so) empty);
     }
   where
-    none : candidateList q path d ≡ []
-    none = sym (so .holds) ∙ slice-past (part .«from») (part .to) _ empty
+    nothing : (is : Outcome → Bool) → MetOnly is → sum (row is q d) (run lay w′ lo hi) ≡ 0
+    nothing =
+        rows-empty (going-rooted (onward-going so)) (so .node .at .within) (sym (so .on))
+        (sym (so .holds) ∙ slice-past (part .«from») (part .to) w′ empty)

@@ -27,9 +27,11 @@ use Rattle.join_check.specs.Asking.{LeftThere}
 use Rattle.join_check.specs.Runs.{run}
 use Rattle.join_check.specs.declared.Tally.{Tally}
 use Rattle.kept_rows.specs.Kept.{containedAt, containing}
-use Rattle.kept_rows.specs.Recording.{RecordThere}
-use Rattle.join_walk.specs.Rows.{row, pathPairs}
-use Rattle.join_walk.specs.Visiting.{Merged, Visited}
+use Rattle.kept_rows.specs.Recording.{RecordThere, RowRecorded}
+use Rattle.kept_rows.specs.declared.record.Recorded.{Recorded}
+use Rattle.join_walk.specs.Rows.{row as counted, pathPairs}
+use Rattle.join_walk.specs.Visiting.{Merged, RunVisited}
+use Rattle.join_walk.specs.Blocks.{Going, Lone}
 use Rattle.join_walk.specs.declared.narrow.Part.{Part}
 use Rattle.join_walk.specs.declared.visit.Progress.{Progress}
 use Rattle.join_walk.specs.declared.visit.Settings.{Settings}
@@ -40,9 +42,9 @@ use Rattle.join_walk.proofs.NodeFacts.{merge-goes}
 use Rattle.join_walk.proofs.RowLaws.{MetOnly, row-merges, row-deeper}
 use Rattle.join_walk.proofs.PathLaws.{paths-all, merged-checks}
 use Rattle.join_walk.proofs.BlockVisits.{merged-added}
-use Rattle.join_walk.proofs.NodeSteps.{Onward, node-run}
+use Rattle.join_walk.proofs.GoingLaws.{going-run}
 use Rattle.join_walk.proofs.RowsOf.{row-whole}
-use Rattle.join_walk.proofs.NodeRows.{onward-rows, row-begins, row-there, row-record}
+use Rattle.join_walk.proofs.NodeRows.{row-left, row-begins, row-record}
 
 -- a left set without a key after e ranks has no more than e
 key-within : (q : Query) (e k : ℕ) → keyAt q e k ≡ 0 → length (leftAt q k) ≤ e
@@ -67,7 +69,7 @@ containing-few q k =
 module _ {lay : Layout} {q : Query} {w : List ℕ} {k : ℕ} (there : LeftThere lay q w k) (merge : q .rule ≡ Merge)
     (short : length (leftAt q k) ≤ q .limit) (is : Outcome → Bool) (met : MetOnly is) where
   -- the row of the left set, with m ranks of it left
-  row-lone : (m d : ℕ) → m + d ≡ length (leftAt q k) → row is q d k ≡ pathPairs 1 (length (containing q k)) is
+  row-lone : (m d : ℕ) → m + d ≡ length (leftAt q k) → counted is q d k ≡ pathPairs 1 (length (containing q k)) is
   row-lone zero d ends =
       row-merges q d k is met (containing q k) (sym (merge-goes q (take d (leftAt q k)) merge)) (omega arith)
       (subst (λ (n : ℕ). Listing (length (q .rights)) (λ s. isCandidate n (leftAt q k) (rightAt q s)) (containing q k)) (omega arith)
@@ -79,48 +81,64 @@ module _ {lay : Layout} {q : Query} {w : List ℕ} {k : ℕ} (there : LeftThere 
       row-deeper q d k is (sym (merge-goes q (take d (leftAt q k)) merge)) (omega arith) (omega arith)
       ∙ row-lone m (suc d) (omega arith)
 
--- a node with one left set, as it was read
-module _ {lay : Layout} {st : Settings} {q : Query} {path w w′ : List ℕ} {d lo hi from to : ℕ} {p : Progress} {part : Part} {top : ℕ}
-    (so : Onward lay st q path w w′ d lo hi from to p part top) (one : hi ≡ lo + 1) {k : ℕ} (word : Word w′ (lay .order + lo) k) where
-  -- its row can be found by checks against the part, where there is room for it
-  pub lone-record : top + (part .to - part .«from») ≤ lay .end → RecordThere lay q w′ k d (part .«from») (part .to) top
-  lone-record room = row-record (onward-rows so) lo (omega arith) (omega arith) (word .is) (so .rows) room
+-- a lone left set, as it was read
+module _ {lay : Layout} {st : Settings} {q : Query} {path w : List ℕ} {d lo from to : ℕ} {p : Progress} {k : ℕ}
+    (going : Going lay st q path w d lo (lo + 1) from to p) (lone : Lone lay st w lo (lo + 1) from to (p .top))
+    (word : Word w (lay .order + lo) k) where
+  there : LeftThere lay q w k
+  there = row-left going lo (omega arith) (omega arith) (word .is)
 
-  -- there is room to count its pairs
-  pub lone-room : {c : ℕ} → c ≡ length (containing q k) → p .tally .«by_path» + pathPairs 1 c isByPath ≤ maxPairs
-  unfolding sum
-  lone-room {c} is =
-      let single : (hi - lo) * length (q .rights) ≡ length (q .rights) =
-      ap (λ (n : ℕ). n * length (q .rights)) (omega arith) ∙ one-mul (length (q .rights)) in
-      omega (arith, so .node .underway .bounded, containing-few q k, single, paths-all 1 c, one-mul c)
+  -- checks against the part find its row
+  pub lone-record : RecordThere lay q w k d from to (p .top)
+  lone-record = row-record going lo (omega arith) (omega arith) (word .is) (lone .room)
 
-  long : d ≤ length (leftAt q k)
-  long =
-      omega (
-        arith,
-        so .node .at .candidates .depth,
-        prefix-length path (leftAt q k) (row-begins (onward-rows so) lo (omega arith) (omega arith) (word .is)),
-      )
+  module _ {none : Tally} {w′ : List ℕ} {row : Recorded} (recorded : RowRecorded lay w k d from to none (p .top) w′ row) where
+    pairs : row .top - p .top ≡ length (containing q k)
+    pairs = omega (arith, recorded .past q lone-record)
 
-  -- and they are its visit
-  pub lone-visited : {c : ℕ} {r : Tally} → st .rule ≡ Merge → keyAt q (st .limit) k ≡ 0 → c ≡ length (containing q k)
-      → Merged 1 c (p .tally) r → {more : ℕ}
-      → Visited q (st .budget) d (run lay w′ lo hi) (p .tally) (record { at = record { tally = r; top = more }; spent = false })
-  unfolding sum
-  lone-visited {c} {r} merge short is merged =
-      record {
-        added = λ calm.
-            merged-added (run lay w′ lo hi)
-            (λ kind met.
-            ap (sum (row kind q d)) (run-one (node-run so) one ∙ ap (λ (n : ℕ). n ∷ []) (sym (word .is)))
-            ∙ omega (
-              arith,
-              row-lone (row-there (onward-rows so) lo (omega arith) (omega arith) (word .is) .left) (sym (so .node .underway .rule) ∙ merge)
-                  (omega (arith, so .node .underway .limit, key-within q (st .limit) k short)) kind met
-                  (length (leftAt q k) - d) d (omega (arith, long)),
-              ap (λ (n : ℕ). pathPairs 1 n kind) is,
-            ))
-            merged;
-        within = λ calm. omega (arith, merged-checks merged, so .node .underway .budget);
-        beyond = λ spent. true-false spent refl;
-      }
+    -- there is room to count its pairs
+    pub lone-room : p .tally .«by_path» + pathPairs 1 (row .top - p .top) isByPath ≤ maxPairs
+    unfolding sum
+    lone-room =
+        let single : (lo + 1 - lo) * length (q .rights) ≡ length (q .rights) =
+        ap (λ (n : ℕ). n * length (q .rights)) (omega arith) ∙ one-mul (length (q .rights)) in
+        omega (
+          arith,
+          going .underway .bounded,
+          containing-few q k,
+          single,
+          pairs,
+          paths-all 1 (row .top - p .top),
+          one-mul (row .top - p .top),
+        )
+
+    rows : (is : Outcome → Bool) → MetOnly is
+        → sum (counted is q d) (run lay w lo (lo + 1)) ≡ pathPairs 1 (row .top - p .top) is
+    unfolding sum
+    rows is met =
+        let run-there = going-run going (omega arith) in
+        let short : length (leftAt q k) ≤ st .limit =
+        subst (λ (n : ℕ). length (leftAt q n) ≤ st .limit) (sym (word .is)) (lone .short q run-there) in
+        let long = prefix-length path (leftAt q k) (row-begins going lo (omega arith) (omega arith) (word .is)) in
+        ap (sum (counted is q d)) (run-one run-there refl ∙ ap (λ (n : ℕ). n ∷ []) (sym (word .is)))
+        ∙ omega (
+          arith,
+          row-lone there (sym (going .underway .rule) ∙ lone .merge) (omega (arith, short, going .underway .limit)) is met
+              (length (leftAt q k) - d) d (omega (arith, long, going .depth)),
+          ap (λ (n : ℕ). pathPairs 1 n is) pairs,
+        )
+
+    -- and they are its visit
+    pub lone-kept : {m : Tally} → Merged 1 (row .top - p .top) (p .tally) m
+        → RunVisited lay q (st .budget) (lay .«row_starts») d w w′ lo (lo + 1) (p .tally)
+        (record { at = record { tally = m; top = row .top }; spent = false })
+    lone-kept merged =
+        record {
+          framed = record { size = recorded .size; frame = recorded .frame };
+          visited = record {
+            added = λ calm. merged-added (run lay w lo (lo + 1)) rows merged;
+            within = λ calm. omega (arith, merged-checks merged, going .underway .budget);
+            beyond = λ spent. true-false spent refl;
+          };
+          rows = λ calm. recorded .rows q lone-record;
+        }

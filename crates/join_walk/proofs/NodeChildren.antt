@@ -46,7 +46,7 @@ use Rattle.join_walk.proofs.PathLaws.{paths-all, merged-checks}
 use Rattle.join_walk.proofs.BlockVisits.{merged-added}
 use Rattle.join_walk.proofs.VisitLaws.{visited-then, visited-rows, underway-next}
 use Rattle.join_walk.proofs.FrameLaws.{slot-framed, run-framed, framed-then}
-use Rattle.join_walk.proofs.NodeSteps.{Onward, index-after, after-length, after-few, node-run}
+use Rattle.join_walk.proofs.NodeSteps.{Onward, index-after, after-length, node-run}
 use Rattle.join_walk.proofs.NodeStops.{node-rooted}
 
 module _ {lay : Layout} {st : Settings} {q : Query} {path w w′ : List ℕ} {d lo hi from to : ℕ} {p : Progress} {part : Part}
@@ -82,13 +82,6 @@ module _ {lay : Layout} {st : Settings} {q : Query} {path w w′ : List ℕ} {d 
 
     front-length : length (run lay w lo mid) ≡ mid - lo
     front-length = run-length lay q w lo mid index (omega (arith, end .high, so .node .at .few))
-
-    pub merged-room : p .tally .«by_path» + pathPairs (mid - lo) (part .to - part .«from») isByPath ≤ maxPairs
-    unfolding sum
-    merged-room =
-        let product : (mid - lo) * (part .to - part .«from») ≤ (hi - lo) * length (q .rights) =
-        mul-le-mul {n₁ = mid - lo} {n₂ = hi - lo} (omega (arith, end .high)) (after-few so) in
-        omega (arith, so .node .underway .bounded, product, paths-all (mid - lo) (part .to - part .«from»))
 
     ended-rooted : Rooted q path d (run lay w lo mid)
     unfolding rest

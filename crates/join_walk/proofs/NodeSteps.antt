@@ -18,14 +18,13 @@ use Rattle.join_walk.specs.Rows.{goes}
 use Rattle.join_walk.specs.Narrowing.{Candidates, Narrowed, candidateList, slotOf}
 use Rattle.join_walk.specs.Visiting.{OnPath, NodeAt, Node, NodeVisited, Visited}
 use Rattle.join_walk.specs.Visiting.{Framed, RunVisited}
-use Rattle.join_walk.specs.Blocks.{AtLimit}
+use Rattle.join_walk.specs.Blocks.{Going, AtLimit}
 use Rattle.join_walk.specs.declared.narrow.Part.{Part}
 use Rattle.join_walk.specs.declared.visit.Progress.{Progress}
 use Rattle.join_walk.specs.declared.visit.Settings.{Settings}
 use Rattle.join_walk.specs.declared.visit.Walked.{Walked}
 use Rattle.join_walk.proofs.NodeFacts.{last-read}
 use Rattle.join_walk.proofs.BlockLaws.{Begin}
-use Rattle.join_walk.proofs.LimitLaws.{candidates-most}
 use Rattle.join_walk.proofs.FrameLaws.{index-framed, run-framed, framed-then, rows-inside, slot-low}
 use Rattle.join_walk.proofs.NodeStops.{goes-on, node-rooted}
 
@@ -85,9 +84,6 @@ module _ {lay : Layout} {st : Settings} {q : Query} {path w w′ : List ℕ} {d 
   pub after-length : length (slice (part .«from») (part .to) w′) ≡ part .to - part .«from»
   after-length = length-slice (part .«from») (part .to) w′ part-inside
 
-  pub after-few : part .to - part .«from» ≤ length (q .rights)
-  after-few = omega (arith, after-length, ap length (so .holds), candidates-most q path d)
-
   pub node-run : RunThere lay q w′ lo hi
   node-run = record { index = index-after; some = so .node .at .some; within = so .node .at .few }
 
@@ -131,18 +127,17 @@ module _ {lay : Layout} {st : Settings} {q : Query} {path w w′ : List ℕ} {d 
         rows = done .rows;
       }
 
--- at the limit
-pub node-limit : {lay : Layout} {st : Settings} {q : Query} {path w w′ : List ℕ} {d lo hi from to : ℕ} {p : Progress} {part : Part}
-    → Onward lay st q path w w′ d lo hi from to p part (p .top) → st .limit ≤ d
-    → AtLimit lay st q path w′ d lo hi (part .«from») (part .to) p
-node-limit so deepest =
+-- the left sets of a node, its candidates narrowed
+pub onward-going : {lay : Layout} {st : Settings} {q : Query} {path w w′ : List ℕ} {d lo hi from to : ℕ} {p : Progress}
+    {part : Part} → Onward lay st q path w w′ d lo hi from to p part (p .top)
+    → Going lay st q path w′ d lo hi (part .«from») (part .to) p
+onward-going so =
     record {
       index = index-after so;
       underway = so .node .underway;
       rows = so .rows;
       depth = so .node .at .candidates .depth;
       deep = so .node .at .candidates .deep;
-      limit = omega (arith, so .node .underway .limit, so .node .at .within);
       on = sym (so .on);
       upto = omega (arith, so .node .at .some);
       few = so .node .at .few;
@@ -151,3 +146,10 @@ node-limit so deepest =
       below = part-below so;
       holds = so .holds;
     }
+
+-- at the limit
+pub node-limit : {lay : Layout} {st : Settings} {q : Query} {path w w′ : List ℕ} {d lo hi from to : ℕ} {p : Progress} {part : Part}
+    → Onward lay st q path w w′ d lo hi from to p part (p .top) → st .limit ≤ d
+    → AtLimit lay st q path w′ d lo hi (part .«from») (part .to) p
+node-limit so deepest =
+    record { going = onward-going so; limit = omega (arith, so .node .underway .limit, so .node .at .within) }
