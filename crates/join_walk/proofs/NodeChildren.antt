@@ -1,11 +1,10 @@
 -- A node where the walk goes on below the limit: the left sets that end there come first and pair by path, and the others are its
 -- children.
-use Prim.Native.Nat.{ℕ, suc, _+_, _-_, _*_, _≤_, _<_}
+use Prim.Native.Nat.{ℕ, suc, _+_, _-_, _≤_, _<_}
 use mathlib.Core.Path.{_≡_, refl, sym, ap, ap₂, subst, _∙_}
 use mathlib.Core.List.{List, _++_}
 use mathlib.Core.Bool.{Bool, true, false, _&&_, not}
 use native.Mathlib.Omega.{arith}
-use native.Mathlib.Nat.{mul-le-mul}
 use borrow.Author.Tests.{not-true}
 use lib.Dec.{eqb}
 use lib.ListN.{length, take}
@@ -14,11 +13,9 @@ use Rattle.lists.proofs.Bools.{and-left, and-right, true-false}
 use Rattle.lists.proofs.Throughout.{all-back}
 use Rattle.lists.proofs.Filtering.{all-kept, all-keep}
 use Rattle.lists.proofs.Summing.{sum-same-where}
-use Rattle.sets.specs.Limits.{maxPairs}
 use Rattle.join_spec.specs.Query.{Query}
 use Rattle.join_spec.specs.Node.{lastOf}
 use Rattle.join_spec.specs.Walk.{Outcome, isCandidate}
-use Rattle.join_spec.specs.Counting.{isByPath}
 use Rattle.join_index.specs.Grouping.{leftAt, rightAt, keyAt, orderFrom}
 use Rattle.join_index.specs.Ground.{Listing}
 use Rattle.join_index.specs.declared.Layout.{Layout}
@@ -42,7 +39,7 @@ use Rattle.join_walk.proofs.Narrowing.{listing-kept}
 use Rattle.join_walk.proofs.Prefixes.{prefix-take}
 use Rattle.join_walk.proofs.RowLaws.{row-deeper}
 use Rattle.join_walk.proofs.BlockLaws.{Begin, Rooted, rows-merge, key-longer, all-and}
-use Rattle.join_walk.proofs.PathLaws.{paths-all, merged-checks}
+use Rattle.join_walk.proofs.PathLaws.{merged-checks}
 use Rattle.join_walk.proofs.BlockVisits.{merged-added}
 use Rattle.join_walk.proofs.VisitLaws.{visited-then, visited-rows, underway-next}
 use Rattle.join_walk.proofs.FrameLaws.{slot-framed, run-framed, framed-then}

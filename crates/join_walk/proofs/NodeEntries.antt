@@ -1,6 +1,6 @@
 -- A node where the walk goes on, entered: those of its left sets that end there are settled, and what is left are its children.
 use Prim.Native.Nat.{ℕ, _+_, _<_}
-use mathlib.Core.Path.{_≡_, refl, sym, ap, _∙_}
+use mathlib.Core.Path.{_≡_, sym, ap, _∙_}
 use mathlib.Core.List.{List}
 use mathlib.Core.Bool.{false}
 use native.Mathlib.Omega.{arith}
@@ -10,7 +10,7 @@ use Rattle.join_index.specs.Grouping.{keyAt}
 use Rattle.join_index.specs.declared.Layout.{Layout}
 use Rattle.join_check.specs.Runs.{lead}
 use Rattle.join_walk.specs.Visiting.{Framed, NodeVisited}
-use Rattle.join_walk.specs.Blocks.{Going, MergedEnd, Settles}
+use Rattle.join_walk.specs.Blocks.{MergedEnd, Settles}
 use Rattle.join_walk.specs.Entering.{PairsKept, NodeEntered}
 use Rattle.join_walk.specs.declared.blocks.Settled.{Settled}
 use Rattle.join_walk.specs.declared.enter.Entered.{Entered}
