@@ -2,7 +2,7 @@
 use Prim.Native.Nat.{ℕ, suc, _-_, _≤_}
 use mathlib.Core.Path.{_≡_, sym, subst, _∙_}
 use mathlib.Core.List.{List}
-use mathlib.Core.Bool.{Bool, true, false, not}
+use mathlib.Core.Bool.{true}
 use native.Mathlib.Omega.{arith}
 use lib.ListN.{length, getD}
 use Rattle.lists.specs.Lists.{slice}
@@ -26,7 +26,7 @@ use Rattle.join_walk.specs.declared.visit.Walked.{Walked}
 use Rattle.join_walk.proofs.NodeFacts.{last-read}
 use Rattle.join_walk.proofs.BlockLaws.{Begin}
 use Rattle.join_walk.proofs.FrameLaws.{index-framed, run-framed, framed-then, rows-inside, slot-low}
-use Rattle.join_walk.proofs.NodeStops.{goes-on, node-rooted}
+use Rattle.join_walk.proofs.NodeStops.{node-rooted}
 
 -- a node where the walk goes on, its candidates narrowed to a part of the work list, which became w′; its rows end at top
 pub record Onward (lay : Layout) (st : Settings) (q : Query) (path w w′ : List ℕ) (d lo hi from to : ℕ) (p : Progress)
@@ -39,14 +39,13 @@ pub record Onward (lay : Layout) (st : Settings) (q : Query) (path w w′ : List
   pub on : true ≡ goes q path
   pub rows : RowsKept lay q w′ top
 
--- as the decision was answered, the path's last rank read, and the candidates narrowed by it
+-- as the path's last rank was read, and the candidates narrowed by it
 pub onward-read : {lay : Layout} {st : Settings} {q : Query} {path w w′ : List ℕ} {d lo hi from to : ℕ} {p : Progress}
-    {part : Part} {b : Bool} {rank : ℕ} → Node lay st q path w d lo hi from to p
-    → ((q : Query) (path : List ℕ) → NodeAt lay q path w d lo hi from to → q .rule ≡ st .rule → b ≡ goes q path) → not b ≡ false
+    {part : Part} {rank : ℕ} → Node lay st q path w d lo hi from to p → true ≡ goes q path
     → ((q : Query) (path : List ℕ) → OnPath lay q path w lo (d - 1) → rank ≡ getD path (d - 1) 0)
     → ((q : Query) (path : List ℕ) → Candidates lay q path w d from to → rank ≡ lastOf path → Narrowed lay q path d w w′ part)
     → Onward lay st q path w w′ d lo hi from to p part (p .top)
-onward-read {q = q} {path = path} node decided test read narrow =
+onward-read {q = q} {path = path} node on read narrow =
     let narrowed = narrow q path (node .at .candidates) (last-read (node .at) read) in
     record {
       node = node;
@@ -54,7 +53,7 @@ onward-read {q = q} {path = path} node decided test read narrow =
       rise = narrowed .rise;
       below = narrowed .below;
       holds = narrowed .holds;
-      on = goes-on node decided test;
+      on = on;
       rows = rows-framed (node .at .candidates .index .ground) (narrowed .rest) (node .rows);
     }
 

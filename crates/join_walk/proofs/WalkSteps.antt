@@ -11,6 +11,7 @@ use lib.Dec.{eqb}
 use lib.ListN.{length}
 use Rattle.lists.specs.Lists.{keep, prefix, range, slice, sum, upto}
 use Rattle.lists.proofs.Bools.{true-false}
+use Rattle.lists.proofs.Slices.{frame-less}
 use Rattle.lists.proofs.Summing.{sum-same, sum-append, sum-same-where}
 use Rattle.sets.specs.Limits.{maxSets, maxPairs}
 use Rattle.join_spec.specs.Query.{Query}
@@ -25,6 +26,8 @@ use Rattle.join_check.specs.Runs.{run}
 use Rattle.join_check.specs.Counters.{counter, checksIn}
 use Rattle.join_check.specs.declared.Tally.{Tally}
 use Rattle.kept_rows.specs.Kept.{RowsKept}
+use Rattle.kept_rows.specs.Keeping.{Cleared}
+use Rattle.kept_rows.proofs.RowLaws.{index-kept}
 use Rattle.join_walk.specs.Rows.{row, pathPairs}
 use Rattle.join_walk.specs.Visiting.{Merged, PartVisited, beginners}
 use Rattle.join_walk.specs.Blocks.{MergedEnd}
@@ -187,3 +190,34 @@ module _ {lay : Layout} {st : Settings} {q : Query} {w : List ℕ} {lefts rights
             };
             rows = part .rows;
           }
+
+-- no row is kept before it
+module _ {lay : Layout} {st : Settings} {q : Query} {w w′ : List ℕ} {lefts rights : ℕ} (ready : WalkReady lay st q w lefts rights)
+    (cleared : Cleared lay w lefts w′) where
+  pub ready-cleared : WalkReady lay st q w′ lefts rights
+  ready-cleared =
+      record {
+        index = index-kept (cleared .frame) (cleared .size) (ready .index);
+        limit = ready .limit;
+        shallow = ready .shallow;
+        rule = ready .rule;
+        some = ready .some;
+        leftCount = ready .leftCount;
+        rightCount = ready .rightCount;
+      }
+
+  pub rows-cleared : RowsKept lay q w′ (lay .rows)
+  rows-cleared = cleared .rows q (record { index = ready .index; leftCount = ready .leftCount })
+
+  pub done-cleared : {budget : ℕ} {w″ : List ℕ} {r : Walked} → WalkDone lay q budget w′ w″ r → WalkDone lay q budget w w″ r
+  done-cleared {w″ = w″} done =
+      record {
+        framed = record {
+          size = done .framed .size ∙ cleared .size;
+          frame =
+              done .framed .frame
+              ∙ frame-less (lay .slots) (lay .«row_starts») w w′ (ready .index .ground .slotsBelow) (cleared .frame);
+        };
+        counted = done .counted;
+        rows = done .rows;
+      }

@@ -168,9 +168,10 @@ fn finish_row(
         return Walked { at: p, spent: true };
     }
     let r = record_row(work, lay, k, e, from, to, p.tally, p.top);
+    let tally = r.tally;
     Walked {
         at: Progress {
-            tally: r.tally,
+            tally: tally,
             top: r.top,
         },
         spent: false,

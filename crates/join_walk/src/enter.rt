@@ -52,10 +52,11 @@ pub fn enter_node(
     let first = part.from;
     let last = part.to;
     if last <= first {
+        let tally = p.tally;
         let top = keep_list(work, lay, lo, hi, first, last, p.top);
         return Entered {
             at: Progress {
-                tally: p.tally,
+                tally: tally,
                 top: top,
             },
             spent: false,
@@ -66,8 +67,9 @@ pub fn enter_node(
     }
     if limit <= d {
         let done = finish(work, lay, st, d, lo, hi, first, last, p);
+        let at = done.at;
         return Entered {
-            at: done.at,
+            at: at,
             spent: done.spent,
             mid: hi,
             from: first,
@@ -85,8 +87,9 @@ pub fn enter_node(
         };
     }
     let settled = settle(work, lay, st, d, lo, hi, first, last, p);
+    let at = settled.at;
     Entered {
-        at: settled.at,
+        at: at,
         spent: false,
         mid: settled.mid,
         from: first,

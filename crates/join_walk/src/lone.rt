@@ -9,7 +9,7 @@ use join_index::Layout;
 use join_spec::Rule;
 use kept_rows::record::record_row;
 use word_lists::words::word_at;
-ghost use mathlib.Core.Bool.{true};
+ghost use mathlib.Core.Bool.{true, false};
 ghost use mathlib.Core.Path.{_≡_};
 ghost use mathlib.Core.List.{List};
 ghost use Prim.Native.Nat.{ℕ, _+_, _≤_};

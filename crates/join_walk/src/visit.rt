@@ -58,14 +58,17 @@ pub fn visit_node(
         return check_block(work, lay, st, d, d - 1, lo, hi, from, to, p);
     }
     let on = enter_node(work, flags, lay, st, d, lo, hi, from, to, p);
+    let at = on.at;
     let mid = on.mid;
+    let first = on.from;
+    let last = on.to;
     if hi <= mid {
         return Walked {
-            at: on.at,
+            at: at,
             spent: on.spent,
         };
     }
-    visit_children(work, flags, lay, st, d, mid, hi, on.from, on.to, on.at)
+    visit_children(work, flags, lay, st, d, mid, hi, first, last, at)
 }
 
 // Visits the children of a node of d ranks: the left sets at the places lo up to hi go on after its path, and the words
