@@ -47,7 +47,7 @@ use Rattle.join_walk.proofs.RowsOf.{row-whole}
 use Rattle.join_walk.proofs.NodeRows.{row-left, row-begins, row-record}
 
 -- a left set without a key after e ranks has no more than e
-key-within : (q : Query) (e k : ℕ) → keyAt q e k ≡ 0 → length (leftAt q k) ≤ e
+pub key-within : (q : Query) (e k : ℕ) → keyAt q e k ≡ 0 → length (leftAt q k) ≤ e
 unfolding keyAt
 key-within q e k none =
     by-test (leb (length (leftAt q k)) e)
