@@ -34,6 +34,8 @@ use Rattle.join_check.specs.Asking.{Index}
 use Rattle.join_walk.specs.Partitions.{WalkReady, WalkDone}
 use Rattle.join_walk.specs.declared.visit.Walked.{Walked}
 use Rattle.join_walk.proofs.FrameLaws.{index-framed}
+use Rattle.kept_rows.specs.Keeping.{ClearThere, Cleared}
+use Rattle.kept_rows.proofs.RowLaws.{index-kept}
 use Rattle.join_pairs.specs.Writing.{PairsRoom}
 use Rattle.join.specs.Ready.{Accepted}
 
@@ -156,11 +158,17 @@ module _ {i : Input} {limit : ℕ} {ranks : List ℕ} {words : ℕ} {rule : Rule
         → Refused ShortPairs ≡ walkAnswer asked budget places
     answer-short places short = short-places asked budget places (done .counted .within calm) (omega (arith, short, count-is))
 
-    pub pairs-room : Index lay asked w → (pairs : List ℕ) → 2 * (r .tally .«by_path» + r .tally .confirmed) ≤ length pairs
-        → PairsRoom lay asked w′ (length (i .left .ends)) (length (i .right .ends)) pairs
-    pairs-room index pairs enough =
+    pub rows-ready : Index lay asked w → ClearThere lay asked w′ (length (i .left .ends))
+    rows-ready index = record { index = index-framed index (done .framed) (omega arith); leftCount = lefts-count ok rule }
+
+    pub pairs-room : {v : List ℕ} → Index lay asked w → Cleared lay w′ (length (i .left .ends)) v → (pairs : List ℕ)
+        → 2 * (r .tally .«by_path» + r .tally .confirmed) ≤ length pairs
+        → PairsRoom lay asked v (length (i .left .ends)) (length (i .right .ends)) pairs
+    pairs-room index cleared pairs enough =
         record {
-          index = index-framed index (done .framed) (omega arith);
+          index = index-kept (cleared .frame) (cleared .size) (rows-ready index .index);
+          top = lay .rows;
+          rows = cleared .rows asked (rows-ready index);
           leftCount = lefts-count ok rule;
           rightCount = rights-count ok rule;
           room = omega (arith, count-is);

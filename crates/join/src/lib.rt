@@ -10,6 +10,7 @@ use join_tests::test_join;
 use join_walk::visit::Settings;
 use join_walk::visit::Walked;
 use join_walk::walk::walk;
+use kept_rows::rows::clear_rows;
 use lists::zero_u16;
 use sets::Refusal;
 use sets::Tested;
@@ -77,7 +78,8 @@ fn join_ready(
         zero_u16(pairs);
         return JoinAnswer::Refused(Refusal::ShortPairs);
     }
-    write_pairs(work, lay, lefts, rights, pairs);
+    clear_rows(work, lay, lefts);
+    write_pairs(work, &mut flags, lay, lefts, rights, pairs);
     JoinAnswer::Joined(Counts {
         pairs: count,
         by_path: tally.by_path,

@@ -24,7 +24,8 @@ use Rattle.join_check.specs.Asking.{LeftThere}
 use Rattle.join_check.specs.Probes.{Probed}
 use Rattle.join_check.proofs.Reading.{index-frame}
 use Rattle.join_pairs.specs.declared.candidates.Shortlist.{Shortlist}
-use Rattle.join_pairs.specs.Containing.{RanksThere, containedAt, pairsWith, rowAt, rowOf}
+use Rattle.kept_rows.specs.Kept.{containedAt}
+use Rattle.join_pairs.specs.Containing.{RanksThere, pairsWith, rowAt, rowOf}
 use Rattle.join_pairs.specs.Shortlists.{FindThere, ShortlistOf, Shortlisted}
 use Rattle.join_pairs.specs.Writing.{AllRoom, RowRoom, LeftRoom}
 use Rattle.join_pairs.proofs.RowPairs.{length-pairs, row-whole, row-empty}
@@ -81,7 +82,7 @@ module _ {lay : Layout} {w : List ℕ} {k : ℕ} {p : Probe} (found : Probed lay
 
   -- the candidates
   module _ {r : ℕ} {v : List ℕ} {c : Shortlist} (pivot : memb r (slice (p .from) (p .to) w) ≡ true)
-      (listed : Shortlisted lay w (p .from) (p .to) r v c) (size : length v ≡ length w)
+      (listed : Shortlisted lay w (p .from) (p .to) r v c)
       {q : Query} {rights at : ℕ} {was : List ℕ} (there : LeftRoom lay q w k rights at was)
     where
       shortlist : ShortlistOf lay q w (p .from) (p .to) v c
@@ -110,18 +111,18 @@ module _ {lay : Layout} {w : List ℕ} {k : ℕ} {p : Probe} (found : Probed lay
           ∙ keep-agree holding (containedAt q k) (slice (c .from) (c .to) v) (λ s m. same s (below-memb s m)))
 
       rest-same : slice (c .rest) (p .to) v ≡ slice (c .rest) (p .to) w
-      rest-same = frame-slice (c .rest) (p .to) (lay .slots) w v (found .within) (listed .frame)
+      rest-same = frame-slice (c .rest) (p .to) (lay .slots) w v (found .within) (listed .changed .low)
 
       pub shortlist-room :
           RowRoom lay q v (record { signature = p .signature; from = c .rest; to = p .to }) k (c .from) (c .to) at was
       shortlist-room =
           record {
-            left = record { index = index-frame (listed .frame) size (there .left .index); below = there .left .below };
+            left = record { index = index-frame (listed .changed .low) (listed .changed .size) (there .left .index); below = there .left .below };
             places = shortlist .places;
             signed = found .is q (there .left) .signed;
             rising =
                 record {
-                  within = omega (arith, found .within, there .left .index .room);
+                  within = omega (arith, found .within, there .left .index .room, listed .changed .size);
                   rise = ap rising rest-same
                       ∙ rising-rest w (p .from) (p .to) (c .rest) (listed .low) (ranks-rise q (there .left));
                 };

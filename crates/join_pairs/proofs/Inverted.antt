@@ -27,11 +27,12 @@ use Rattle.join_pairs.specs.declared.candidates.Span.{Span}
 use Rattle.join_pairs.specs.Containing.{RankThere, RanksThere}
 use Rattle.join_pairs.specs.Shortlists.{Located}
 
--- the inverted list of a rank lies between two offsets, and its slot within the work list
+-- the inverted list of a rank lies between two offsets, and its slot below the rows
 pub record Inverted (lay : Layout) (q : Query) (w : List ℕ) (r : ℕ) : Type 0 where
   pub offsetsWithin : lay .offsets + r + 1 < length w
   pub rise : getD w (lay .offsets + r) 0 ≤ getD w (lay .offsets + r + 1) 0
   pub low : lay .index + getD w (lay .offsets + r + 1) 0 ≤ lay .slots
+  pub below : lay .slots + getD w (lay .offsets + r + 1) 0 ≤ lay .«row_starts»
   pub room : lay .slots + getD w (lay .offsets + r + 1) 0 ≤ length w
   pub is : slice (lay .index + getD w (lay .offsets + r) 0) (lay .index + getD w (lay .offsets + r + 1) 0) w ≡ invertedList q r
 
@@ -44,6 +45,7 @@ inverted-stored {lay} {q} {w} {r} there =
       offsetsWithin = omega (arith, there .index .ground .offsetsWithin, there .index .room, there .below);
       rise = omega (arith, h .rise);
       low = omega (arith, h .within);
+      below = omega (arith, there .index .ground .slotWithin r (there .below));
       room = omega (arith, slot-bound (there .index .ground) r (there .below));
       is = rw next (h .is);
     }

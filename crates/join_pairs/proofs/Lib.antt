@@ -5,3 +5,4 @@ pub mod Meeting
 pub mod Sifting
 pub mod Passing
 pub mod Finding
+pub mod Copying

@@ -1,16 +1,17 @@
 -- Candidates cut down by one rank: all of them hold the pivot, and any other rank is met by its inverted list.
 use Prim.Native.Nat.{ℕ, _+_}
-use mathlib.Core.Path.{_≡_, refl, sym, ap, _∙_}
+use mathlib.Core.Path.{_≡_, sym, ap, _∙_}
 use mathlib.Core.List.{List}
 use mathlib.Core.Bool.{Bool, _&&_}
 use native.Mathlib.Omega.{arith}
 use lib.Dec.{ltb}
 use lib.ListN.{length}
 use Rattle.lists.specs.Lists.{keep, memb, slice, upto}
+use Rattle.lists.specs.Parts.{Changed}
 use Rattle.lists.proofs.Throughout.{all-elim}
 use Rattle.lists.proofs.Filtering.{memb-keep, keep-agree, keep-all}
 use Rattle.lists.proofs.Ranges.{memb-upto}
-use Rattle.lists.proofs.Slices.{frame-less}
+use Rattle.lists.proofs.Slices.{changed-none, changed-more}
 use Rattle.join_spec.specs.Query.{Query}
 use Rattle.join_index.specs.Grouping.{rightAt}
 use Rattle.join_index.specs.declared.Layout.{Layout}
@@ -20,12 +21,21 @@ use Rattle.join_pairs.specs.declared.candidates.Span.{Span}
 use Rattle.join_pairs.specs.Shortlists.{Located, SpanThere, RankMet}
 use Rattle.join_pairs.proofs.Inverted.{inverted-stored, list-part}
 
+-- one change after the other
+pub changed-then : {lo hi : ℕ} {w v u : List ℕ} → Changed lo hi w v → Changed lo hi v u → Changed lo hi w u
+changed-then first then =
+    record {
+      size = then .size ∙ first .size;
+      low = then .low ∙ first .low;
+      high = then .high ∙ first .high;
+    }
+
 module _ {lay : Layout} {q : Query} {w : List ℕ} {r pivot from to : ℕ} (there : SpanThere lay q w r pivot from to) where
   pub met-same : r ≡ pivot
       → RankMet lay w r pivot from to w (record { from = from; to = to })
   met-same same =
       record {
-        frame = refl;
+        changed = changed-none (lay .slots) (lay .«row_starts») w;
         order = there .order;
         high = omega (arith, there .high, inverted-stored (there .rank) .rise);
         is = λ p t.
@@ -49,7 +59,9 @@ module _ {lay : Layout} {q : Query} {w : List ℕ} {r pivot from to : ℕ} (ther
     met-other {w′} shared =
         let s = inverted-stored (there .rank) in
         record {
-          frame = frame-less (lay .slots) (lay .slots + start) w w′ (omega arith) (shared .changed .low);
+          changed =
+              changed-more (lay .slots) (lay .«row_starts») (omega arith)
+              (omega (arith, s .below, s .rise, located .from, located .to, word .is)) (shared .changed);
           order = shared .low;
           high = omega (arith, shared .high, s .rise, located .from, located .to, word .is);
           is = λ p t.

@@ -1,24 +1,24 @@
 -- One right set and the rest of a left set to be looked for in it: where the rest has no rank it contains the left set, else the
 -- check decides, since a right set that contains it has all bits of its signature.
 use Prim.Native.Nat.{ℕ, _≤_}
-use mathlib.Core.Path.{_≡_, refl, sym, ap, _∙_}
+use mathlib.Core.Path.{_≡_, sym, ap, ap₂, _∙_}
 use mathlib.Core.List.{List, []}
-use mathlib.Core.Bool.{Bool, true, false, cond}
+use mathlib.Core.Bool.{Bool, true, cond}
 use lib.ListN.{getD}
 use Rattle.lists.specs.Lists.{subset, slice}
-use Rattle.lists.proofs.Bools.{by-test, true-false, refuted}
 use Rattle.lists.proofs.Throughout.{subset-nil}
 use Rattle.lists.proofs.Slices.{slice-past}
 use Rattle.sets.specs.Signatures.{signature, drops}
-use Rattle.sets.proofs.Signatures.{contained-not-dropped}
 use Rattle.join_spec.specs.Query.{Query}
-use Rattle.join_spec.specs.Walk.{falseDrop, confirmed}
+use Rattle.join_spec.specs.Walk.{dropped, falseDrop, confirmed}
 use Rattle.join_spec.specs.Counting.{isConfirmed}
 use Rattle.join_index.specs.Grouping.{rightAt}
 use Rattle.join_index.specs.declared.Layout.{Layout}
 use Rattle.join_check.specs.declared.checks.Probe.{Probe}
 use Rattle.join_check.specs.Probes.{probeOutcome}
-use Rattle.join_pairs.specs.Containing.{containedAt, CheckThere}
+use Rattle.join_check.proofs.RowChecks.{check-confirmed}
+use Rattle.kept_rows.specs.Kept.{containedAt}
+use Rattle.join_pairs.specs.Containing.{CheckThere}
 
 module _ {lay : Layout} {q : Query} {w : List ℕ} {p : Probe} {k s : ℕ} (there : CheckThere lay q w p k s) where
   pub contains-none : p .to ≤ p .from → true ≡ containedAt q k s
@@ -30,13 +30,7 @@ module _ {lay : Layout} {q : Query} {w : List ℕ} {p : Probe} {k s : ℕ} (ther
   contains-confirmed =
       let left = getD (q .lefts) k [] in
       let right = getD (q .rights) s [] in
-      let test : drops (p .signature) (signature right) ≡ drops (signature left) (signature right) =
-      ap (λ (x : ℕ). drops x (signature right)) (there .signed) in
-      by-test (drops (signature left) (signature right))
-      (λ e.
-      rw (test, e) (sym (refuted (containedAt q k s) (λ yes. true-false e (contained-not-dropped left right yes)))))
-      (λ e. rw (test, e) (told (subset (slice (p .from) (p .to) w) (rightAt q s)) ∙ there .decides))
-    where
-      told : (b : Bool) → isConfirmed (cond b confirmed falseDrop) ≡ b
-      told true = refl
-      told false = refl
+      ap isConfirmed
+      (ap₂ (λ (a : ℕ) (b : Bool). cond (drops a (signature right)) dropped (cond b confirmed falseDrop)) (there .signed)
+      (there .decides))
+      ∙ check-confirmed left right

@@ -1,6 +1,6 @@
 -- The pairs of one left set, with a list of right places one by one, and with all of them.
 use Prim.Native.Nat.{ℕ, zero, suc, _+_, _-_, _*_, _≤_, _<_}
-use mathlib.Core.Path.{_≡_, refl, ap, _∙_}
+use mathlib.Core.Path.{_≡_, refl, sym, ap, _∙_}
 use mathlib.Core.List.{List, [], _∷_, _++_}
 use mathlib.Core.Bool.{Bool, true, false}
 use native.Mathlib.Omega.{arith}
@@ -8,17 +8,20 @@ use lib.Dec.{ltb}
 use lib.ListN.{length, getD, drop, drop-of-length-le}
 use lib.Seq.{drop-cons}
 use borrow.Author.Tests.{ltb-true}
-use Rattle.lists.specs.Lists.{onto, keep, subset, range, upto}
+use Rattle.lists.specs.Lists.{onto, keep, subset, range, slice, upto}
 use Rattle.lists.proofs.Throughout.{all-weaken, subset-nil}
 use Rattle.lists.proofs.Filtering.{keep-all}
 use Rattle.lists.proofs.Ranges.{all-upto}
+use Rattle.lists.proofs.Slices.{slice-next, slice-past}
 use Rattle.sets.specs.Collections.{contained}
 use Rattle.join_spec.specs.Query.{Query}
 use Rattle.join_spec.specs.PairList.{ontoPair, rowFrom, pairsFrom}
 use Rattle.join_index.specs.Grouping.{leftAt, rightAt}
 use Rattle.join_index.specs.declared.Layout.{Layout}
+use Rattle.word_lists.specs.Words.{Word}
 use Rattle.join_check.specs.Asking.{LeftThere}
-use Rattle.join_pairs.specs.Containing.{pairsWith, containedAt, rowOf, rowAt}
+use Rattle.kept_rows.specs.Kept.{containedAt}
+use Rattle.join_pairs.specs.Containing.{pairsWith, rowOf, rowAt}
 
 pub length-pairs : (k : ℕ) (places : List ℕ) → length (pairsWith k places) ≡ 2 * length places
 unfolding pairsWith
@@ -38,6 +41,18 @@ row-next p k s places = made (p s)
 pub row-none : (p : ℕ → Bool) (k : ℕ) → pairsWith k (keep p []) ≡ []
 unfolding pairsWith keep
 row-none p k = refl
+
+-- the places of a part of the work list
+pub kept-next : {w : List ℕ} {i s : ℕ} (k : ℕ) → Word w i s → {to : ℕ} → i < to → to ≤ length w
+    → pairsWith k (slice i to w) ≡ ontoPair true k s [] ++ pairsWith k (slice (i + 1) to w)
+unfolding pairsWith
+kept-next {w} {i} {s} k word {to} more within =
+    ap (pairsWith k) (slice-next i to w more within)
+    ∙ ap (λ (x : ℕ). k ∷ x ∷ pairsWith k (slice (i + 1) to w)) (sym (word .is))
+
+pub kept-none : (k : ℕ) (w : List ℕ) (i to : ℕ) → to ≤ i → pairsWith k (slice i to w) ≡ []
+unfolding pairsWith
+kept-none k w i to past = ap (pairsWith k) (slice-past i to w past)
 
 pub all-next : (k s rights : ℕ) → s < rights
     → pairsWith k (range s (rights - s)) ≡ ontoPair true k s [] ++ pairsWith k (range (s + 1) (rights - (s + 1)))

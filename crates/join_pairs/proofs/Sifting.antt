@@ -116,7 +116,7 @@ module _ {lay : Layout} {q : Query} {w : List ℕ} {from to pivot : ℕ} (there 
                 omega (arith, sifting .high more, same-offset r (omega (arith, rank-is)));
           }
 
-      module _ {u : List ℕ} {s : Span} (met : RankMet lay v r pivot a b u s) (size : length u ≡ length v) where
+      module _ {u : List ℕ} {s : Span} (met : RankMet lay v r pivot a b u s) where
         part : slice (s .from) (s .to) u ≡ keep (λ (x : ℕ). memb r (rightAt q x)) (slice a b v)
         part = met .is q sifting-span
 
@@ -140,8 +140,8 @@ module _ {lay : Layout} {q : Query} {w : List ℕ} {from to pivot : ℕ} (there 
             record {
               places =
                   record {
-                    index = index-frame (met .frame) size (sifting .places .index);
-                    within = omega (arith, met .high, inverted-stored (sifting-span .rank) .room);
+                    index = index-frame (met .changed .low) (met .changed .size) (sifting .places .index);
+                    within = omega (arith, met .high, inverted-stored (sifting-span .rank) .room, met .changed .size);
                     below = ap (all (λ (x : ℕ). ltb x (length (q .rights)))) part
                         ∙ all-keep (λ (x : ℕ). ltb x (length (q .rights))) (λ (x : ℕ). memb r (rightAt q x)) (slice a b v)
                         (sifting .places .below);

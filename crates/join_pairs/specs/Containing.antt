@@ -3,7 +3,7 @@
 use Prim.Native.Nat.{ℕ, _≤_, _<_}
 use mathlib.Core.Path.{_≡_}
 use mathlib.Core.List.{List, [], _∷_}
-use mathlib.Core.Bool.{Bool, true}
+use mathlib.Core.Bool.{true}
 use lib.Dec.{ltb}
 use lib.ListN.{length, getD}
 use Rattle.lists.specs.Lists.{all, keep, subset, slice}
@@ -15,15 +15,12 @@ use Rattle.join_index.specs.Grouping.{rightAt}
 use Rattle.join_index.specs.declared.Layout.{Layout}
 use Rattle.join_check.specs.declared.checks.Probe.{Probe}
 use Rattle.join_check.specs.Asking.{Index, RightThere}
+use Rattle.kept_rows.specs.Kept.{containedAt}
 
 -- the pairs of left place k with each of the right places
 unfoldable pub pairsWith : ℕ → List ℕ → List ℕ
 pairsWith k [] = []
 pairsWith k (s ∷ places) = k ∷ s ∷ pairsWith k places
-
--- whether the left set k is contained in the right set s
-abbrev pub containedAt : Query → ℕ → ℕ → Bool
-containedAt q k s = contained (getD (q .lefts) k []) (getD (q .rights) s [])
 
 -- the pairs of the left set k with those of the right sets that contain it
 abbrev pub rowOf : Query → ℕ → List ℕ → List ℕ

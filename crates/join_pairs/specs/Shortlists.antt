@@ -5,8 +5,9 @@ use mathlib.Core.Path.{_≡_}
 use mathlib.Core.List.{List}
 use mathlib.Core.Bool.{true}
 use lib.Dec.{ltb}
-use lib.ListN.{length, getD, take}
+use lib.ListN.{length, getD}
 use Rattle.lists.specs.Lists.{all, keep, memb, subset, rising, slice, upto}
+use Rattle.lists.specs.Parts.{Changed}
 use Rattle.join_spec.specs.Query.{Query}
 use Rattle.join_index.specs.Grouping.{rightAt}
 use Rattle.join_index.specs.declared.Layout.{Layout}
@@ -31,7 +32,7 @@ pub record SpanThere (lay : Layout) (q : Query) (w : List ℕ) (r pivot from to 
 
 -- w became w′: the span has those of the places whose right sets hold the rank; it ends with the slot at the latest
 pub record RankMet (lay : Layout) (w : List ℕ) (r pivot from to : ℕ) (w′ : List ℕ) (s : Span) : Type 0 where
-  pub frame : take (lay .slots) w′ ≡ take (lay .slots) w
+  pub changed : Changed (lay .slots) (lay .«row_starts») w w′
   pub order : s .from ≤ s .to
   pub high : s .to ≤ lay .slots + getD w (lay .offsets + r + 1) 0
   pub is :
@@ -56,8 +57,8 @@ pub record ShortlistOf (lay : Layout) (q : Query) (w : List ℕ) (from to : ℕ)
       (s : ℕ) → memb s (slice (c .from) (c .to) w′) ≡ true
       → subset (slice (c .rest) to w) (rightAt q s) ≡ subset (slice from to w) (rightAt q s)
 
--- and so for every query, with the words below the slots as they were
+-- and so for every query, with all words but the slots as they were
 pub record Shortlisted (lay : Layout) (w : List ℕ) (from to pivot : ℕ) (w′ : List ℕ) (c : Shortlist) : Type 0 where
-  pub frame : take (lay .slots) w′ ≡ take (lay .slots) w
+  pub changed : Changed (lay .slots) (lay .«row_starts») w w′
   pub low : from ≤ c .rest
   pub is : (q : Query) → FindThere lay q w from to pivot → ShortlistOf lay q w from to w′ c

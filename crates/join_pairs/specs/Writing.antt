@@ -3,8 +3,9 @@ use Prim.Native.Nat.{ℕ, _+_, _*_, _≤_, _<_}
 use mathlib.Core.Path.{_≡_}
 use mathlib.Core.List.{List, []}
 use mathlib.Core.Bool.{Bool, true}
-use lib.ListN.{length, getD, take}
+use lib.ListN.{length, getD}
 use Rattle.lists.specs.Lists.{memb, subset, slice}
+use Rattle.lists.specs.Parts.{Changed}
 use Rattle.lists.specs.Writing.{Put}
 use Rattle.sets.specs.Limits.{maxSets}
 use Rattle.sets.specs.Signatures.{signature}
@@ -15,7 +16,9 @@ use Rattle.join_index.specs.declared.Layout.{Layout}
 use Rattle.join_check.specs.declared.checks.Probe.{Probe}
 use Rattle.join_check.specs.Asking.{Index, LeftThere, PlacesThere}
 use Rattle.word_lists.specs.Merges.{Rising}
-use Rattle.join_pairs.specs.Containing.{containedAt, rowOf, rowAt}
+use Rattle.word_lists.specs.Flags.{Below}
+use Rattle.kept_rows.specs.Kept.{containedAt, RowsKept}
+use Rattle.join_pairs.specs.Containing.{pairsWith, rowOf, rowAt}
 
 -- room for a pair, if it is one, of places that fit 16 bits
 pub record PushRoom (at k s : ℕ) (paired : Bool) (pairs : List ℕ) : Type 0 where
@@ -29,6 +32,12 @@ pub record AllRoom (at k rights : ℕ) (pairs : List ℕ) : Type 0 where
   pub right : rights ≤ maxSets
   pub room : at + 2 * rights ≤ length pairs
 
+-- room for the pairs of one left place with the right places that stand from one place up to another
+pub record KeptRoom (w : List ℕ) (from to k at : ℕ) (pairs : List ℕ) : Type 0 where
+  pub left : k < maxSets
+  pub right : Below maxSets from to w
+  pub room : at + length (pairsWith k (slice from to w)) ≤ length pairs
+
 -- p is the rest of the left set k, to be looked for in the right sets whose places stand from one place up to another, and
 -- there is room for their pairs
 pub record RowRoom (lay : Layout) (q : Query) (w : List ℕ) (p : Probe) (k from to at : ℕ) (pairs : List ℕ) : Type 0 where
@@ -40,20 +49,24 @@ pub record RowRoom (lay : Layout) (q : Query) (w : List ℕ) (p : Probe) (k from
       (s : ℕ) → memb s (slice from to w) ≡ true → subset (slice (p .from) (p .to) w) (rightAt q s) ≡ containedAt q k s
   pub room : at + length (rowOf q k (slice from to w)) ≤ length pairs
 
--- room for the pairs of the left set k
+-- rows are kept, and there is room for the pairs of the left set k
 pub record LeftRoom (lay : Layout) (q : Query) (w : List ℕ) (k rights at : ℕ) (pairs : List ℕ) : Type 0 where
   pub left : LeftThere lay q w k
+  pub top : ℕ
+  pub rows : RowsKept lay q w top
   pub rightCount : length (q .rights) ≡ rights
   pub room : at + length (rowAt q k) ≤ length pairs
 
 -- the pairs of the left set k were written, and of the work list only the slots changed
 pub record LeftWritten (lay : Layout) (w : List ℕ) (k rights at : ℕ) (pairs w′ pairs′ : List ℕ) (r : ℕ) : Type 0 where
-  pub frame : take (lay .slots) w′ ≡ take (lay .slots) w
+  pub changed : Changed (lay .slots) (lay .«row_starts») w w′
   pub wrote : (q : Query) → LeftRoom lay q w k rights at pairs → Put pairs at (rowAt q k) r pairs′
 
--- room for the pair list of a query with so many left sets and right sets
+-- rows are kept of a query with so many left sets and right sets, and there is room for its pair list
 pub record PairsRoom (lay : Layout) (q : Query) (w : List ℕ) (lefts rights : ℕ) (pairs : List ℕ) : Type 0 where
   pub index : Index lay q w
+  pub top : ℕ
+  pub rows : RowsKept lay q w top
   pub leftCount : length (q .lefts) ≡ lefts
   pub rightCount : length (q .rights) ≡ rights
   pub room : 2 * pairCount (q .lefts) (q .rights) ≤ length pairs

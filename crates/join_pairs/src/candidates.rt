@@ -2,8 +2,9 @@
 // other ranks while that costs less than to look at each.
 use crate::left::holders;
 use join_index::Layout;
-use word_lists::merge::intersect;
+use word_lists::flags::intersect;
 use word_lists::words::word_at;
+ghost use Rattle.word_lists.specs.Flags.{Clear};
 ghost use Rattle.join_check.specs.Asking.{Some};
 ghost use Rattle.join_pairs.specs.Containing.{RankThere};
 ghost use Rattle.join_pairs.specs.Shortlists.{Located, SpanThere, RankMet, FindThere, Shortlisted};
@@ -55,9 +56,19 @@ fn stops(work: &[u32], lay: Layout, r: usize, pivot: usize, n: usize, ranks: usi
 }
 
 // Cuts candidates that all hold the pivot down to those that hold the rank r, in the slot of r.
-fn meet(work: &mut [u32], lay: Layout, r: usize, pivot: usize, from: usize, to: usize) -> Span
+fn meet(
+    work: &mut [u32],
+    flags: &mut [u8],
+    lay: Layout,
+    r: usize,
+    pivot: usize,
+    from: usize,
+    to: usize,
+) -> Span
     requires { ⌜ Some (λ q. SpanThere lay q (now work) r pivot from to) ⌝ }
-    ensures { λ s. ⌜ RankMet lay (now (work .entry)) r pivot from to (now (work .exit)) s ⌝ }
+    requires { ⌜ Clear (now flags) ⌝ }
+    ensures met { λ s. ⌜ RankMet lay (now (work .entry)) r pivot from to (now (work .exit)) s ⌝ }
+    ensures clear { λ _. ⌜ Clear (now (flags .exit)) ⌝ }
 {
     if r == pivot {
         return Span { from: from, to: to };
@@ -66,20 +77,23 @@ fn meet(work: &mut [u32], lay: Layout, r: usize, pivot: usize, from: usize, to: 
     let slots = lay.slots;
     let list = list_of(work, lay, r);
     let out = slots + word_at(work, offsets + r);
-    let end = intersect(work, from, to, list.from, list.to, out);
+    let end = intersect(work, flags, from, to, list.from, list.to, out);
     Span { from: out, to: end }
 }
 
 // Candidates for the left set whose ranks stand from one place of the work list up to another, the pivot among them.
 pub fn find_candidates(
     work: &mut [u32],
+    flags: &mut [u8],
     lay: Layout,
     from: usize,
     to: usize,
     pivot: usize,
 ) -> Shortlist
     requires { ⌜ Some (λ q. FindThere lay q (now work) from to pivot) ⌝ }
-    ensures { λ c. ⌜ Shortlisted lay (now (work .entry)) from to pivot (now (work .exit)) c ⌝ }
+    requires { ⌜ Clear (now flags) ⌝ }
+    ensures listed { λ c. ⌜ Shortlisted lay (now (work .entry)) from to pivot (now (work .exit)) c ⌝ }
+    ensures clear { λ _. ⌜ Clear (now (flags .exit)) ⌝ }
 {
     let first = list_of(work, lay, pivot);
     let mut a = first.from;
@@ -94,7 +108,7 @@ pub fn find_candidates(
                 rest: i,
             };
         }
-        let s = meet(work, lay, r, pivot, a, b);
+        let s = meet(work, flags, lay, r, pivot, a, b);
         a = s.from;
         b = s.to;
         i += 1;

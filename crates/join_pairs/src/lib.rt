@@ -1,5 +1,5 @@
-// The pair list of a join, written from its index: left set by left set, and for each the right sets that contain it, by place.
-// No setting bears on it, and the walk is not asked.
+// The pair list of a join: left set by left set, and for each the right sets that contain it, by place. Rows that the walk kept
+// are copied, and the others are found in the index; which of them the walk kept has no bearing on the list.
 use crate::rows::write_left;
 use join_index::Layout;
 ghost use mathlib.Core.Path.{_≡_};
@@ -7,6 +7,7 @@ ghost use mathlib.Core.List.{_++_};
 ghost use lib.ListN.{length, drop};
 ghost use Rattle.join_spec.specs.Query.{Query};
 ghost use Rattle.join_spec.specs.PairList.{pairList};
+ghost use Rattle.word_lists.specs.Flags.{Clear};
 ghost use Rattle.join_check.specs.Asking.{Some};
 ghost use Rattle.join_pairs.specs.Writing.{PairsRoom};
 
@@ -15,8 +16,16 @@ mod left;
 mod rows;
 
 // Writes the pair list of the query whose index the work list holds. Candidates go into the slots of the work list.
-pub fn write_pairs(work: &mut [u32], lay: Layout, lefts: usize, rights: usize, pairs: &mut [u16])
+pub fn write_pairs(
+    work: &mut [u32],
+    flags: &mut [u8],
+    lay: Layout,
+    lefts: usize,
+    rights: usize,
+    pairs: &mut [u16],
+)
     requires { ⌜ Some (λ q. PairsRoom lay q (now work) lefts rights (now pairs)) ⌝ }
+    requires { ⌜ Clear (now flags) ⌝ }
     ensures { λ _. ⌜ ((q : Query) → PairsRoom lay q (now (work .entry)) lefts rights (now (pairs .entry))
         → now (pairs .exit)
         ≡ pairList (q .lefts) (q .rights) ++ drop (length (pairList (q .lefts) (q .rights))) (now (pairs .entry))) ⌝ }
@@ -24,7 +33,7 @@ pub fn write_pairs(work: &mut [u32], lay: Layout, lefts: usize, rights: usize, p
     let mut n: usize = 0;
     let mut k: usize = 0;
     while k < lefts {
-        n = write_left(work, lay, k, rights, pairs, n);
+        n = write_left(work, flags, lay, k, rights, pairs, n);
         k += 1;
     }
 }

@@ -12,9 +12,11 @@ ghost use Rattle.lists.specs.Lists.{upto, slice};
 ghost use Rattle.lists.specs.Writing.{Put};
 ghost use Rattle.join_spec.specs.Query.{Query};
 ghost use Rattle.join_spec.specs.PairList.{ontoPair};
+ghost use Rattle.word_lists.specs.Flags.{Clear};
 ghost use Rattle.join_check.specs.Asking.{Some};
 ghost use Rattle.join_pairs.specs.Containing.{rowOf, pairsWith};
-ghost use Rattle.join_pairs.specs.Writing.{PushRoom, AllRoom, RowRoom, LeftRoom, LeftWritten};
+ghost use Rattle.join_pairs.specs.Writing.{PushRoom, AllRoom, KeptRoom, RowRoom};
+ghost use Rattle.join_pairs.specs.Writing.{LeftRoom, LeftWritten};
 
 // Writes the pair of left place k and right place s where it is one.
 fn push(pairs: &mut [u16], at: usize, k: usize, s: usize, paired: bool) -> usize
@@ -39,6 +41,22 @@ fn write_all(pairs: &mut [u16], at: usize, k: usize, rights: usize) -> usize
     while s < rights {
         n = push(pairs, n, k, s, true);
         s += 1;
+    }
+    n
+}
+
+// Writes the pairs of the left set k with the right sets of a kept row: those whose places stand from one place of the work list
+// up to another.
+fn write_kept(work: &[u32], from: usize, to: usize, k: usize, pairs: &mut [u16], at: usize) -> usize
+    requires { ⌜ KeptRoom (now work) from to k at (now pairs) ⌝ }
+    ensures { λ r. ⌜ Put (now (pairs .entry)) at (pairsWith k (slice from to (now (work .entry)))) r (now (pairs .exit)) ⌝ }
+{
+    let mut n = at;
+    let mut place = from;
+    while place < to {
+        let s = word_at(work, place);
+        n = push(pairs, n, k, s, true);
+        place += 1;
     }
     n
 }
@@ -70,9 +88,10 @@ fn write_row(
     n
 }
 
-// Writes the pairs of the left set k.
-pub fn write_left(
+// Writes the pairs of the left set k with all right sets that contain it, which are looked for.
+fn search_left(
     work: &mut [u32],
+    flags: &mut [u8],
     lay: Layout,
     k: usize,
     rights: usize,
@@ -80,19 +99,47 @@ pub fn write_left(
     at: usize,
 ) -> usize
     requires { ⌜ Some (λ q. LeftRoom lay q (now work) k rights at (now pairs)) ⌝ }
-    ensures { λ r. ⌜ LeftWritten lay (now (work .entry)) k rights at (now (pairs .entry)) (now (work .exit))
+    requires { ⌜ Clear (now flags) ⌝ }
+    ensures wrote { λ r. ⌜ LeftWritten lay (now (work .entry)) k rights at (now (pairs .entry)) (now (work .exit))
         (now (pairs .exit)) r ⌝ }
+    ensures clear { λ _. ⌜ Clear (now (flags .exit)) ⌝ }
 {
     let p = probe_left(work, lay, k, 0);
     if p.to <= p.from {
         return write_all(pairs, at, k, rights);
     }
     let r = pivot(work, lay, p.from, p.to);
-    let c = find_candidates(work, lay, p.from, p.to, r);
+    let c = find_candidates(work, flags, lay, p.from, p.to, r);
     let rest = Probe {
         signature: p.signature,
         from: c.rest,
         to: p.to,
     };
     write_row(work, lay, rest, k, c.from, c.to, pairs, at)
+}
+
+// Writes the same pairs: those of its row where one is kept.
+pub fn write_left(
+    work: &mut [u32],
+    flags: &mut [u8],
+    lay: Layout,
+    k: usize,
+    rights: usize,
+    pairs: &mut [u16],
+    at: usize,
+) -> usize
+    requires { ⌜ Some (λ q. LeftRoom lay q (now work) k rights at (now pairs)) ⌝ }
+    requires { ⌜ Clear (now flags) ⌝ }
+    ensures wrote { λ r. ⌜ LeftWritten lay (now (work .entry)) k rights at (now (pairs .entry)) (now (work .exit))
+        (now (pairs .exit)) r ⌝ }
+    ensures clear { λ _. ⌜ Clear (now (flags .exit)) ⌝ }
+{
+    let starts = lay.row_starts;
+    let ends = lay.row_ends;
+    let from = word_at(work, starts + k);
+    if from == 0 {
+        return search_left(work, flags, lay, k, rights, pairs, at);
+    }
+    let to = word_at(work, ends + k);
+    write_kept(work, from, to, k, pairs, at)
 }

@@ -51,11 +51,11 @@ fn share_row(work: &mut [u32], lay: Layout, lo: usize, hi: usize, from: usize, t
     ensures { λ _. ⌜ Shared lay (now (work .entry)) lo hi from to (now (work .exit)) ⌝ }
 {
     let order = lay.order;
-    let mut i = lo;
-    while i < hi {
-        let k = word_at(work, order + i);
+    let mut j = lo;
+    while j < hi {
+        let k = word_at(work, order + j);
         keep_row(work, lay, k, from, to);
-        i += 1;
+        j += 1;
     }
 }
 

@@ -7,7 +7,9 @@ use Rattle.join_pairs.proofs.candidates.meet.Statement.{statement}
 use Rattle.join_pairs.proofs.candidates.meet.Tie as tie
 
 returns : tie.Need-returns
-returns c = met-same (c .before .before .pre .holds) (c .if1 .taken)
+returns c =
+    let start = c .before .before .before in
+    (met-same (start .pre .0 .holds) (c .if1 .taken), start .pre .1)
 
 list-of-requires : tie.Need-list-of-requires
 list-of-requires c κs = search needs
@@ -23,14 +25,16 @@ add-out c = search needs
 
 intersect-requires : tie.Need-intersect-requires
 intersect-requires c κs =
-    let there = c .before .before .before .before .before .before .before .pre .holds in
-    let list = c .before .before .before .list-of .ensures in (
+    let found = c .before .before .before .before in
+    let start = found .before .before .before .before .before in
+    let there = start .pre .0 .holds in
+    let list = found .list-of .ensures in (
       record { within = there .places .within; rise = there .rise },
       (
         list-rising list (there .rank),
         (
-          met-apart there list (c .before .word-at .ensures),
-          (places-below (there .places) (there .order), list-below list (there .rank)),
+          met-apart there list (c .before .before .word-at .ensures),
+          (places-below (there .places) (there .order), (list-below list (there .rank), start .pre .1)),
         ),
       ),
     )
@@ -38,11 +42,16 @@ intersect-requires c κs =
 same-length : tie.Need-same-length
 same-length c = search needs
 
+same-length-2 : tie.Need-same-length-2
+same-length-2 c = search needs
+
 returns-2 : tie.Need-returns-2
 returns-2 c =
-    let start = c .before .before .before .before .before .before .before .before .before .before in
-    met-other (start .pre .holds) (c .before .before .before .before .before .before .list-of .ensures)
-    (c .before .before .before .before .word-at .ensures) (c .before .before .intersect .ensures)
+    let met = c .before .before .before .before in
+    let read = met .before .before .before in
+    let found = read .before .before in
+    let start = found .before .before .before .before .before in
+    (met-other (start .pre .0 .holds) (found .list-of .ensures) (read .word-at .ensures) (met .intersect .ensures .0), met .intersect .ensures .1)
 
 pub meet-spec : {M : Type 1} → statement M
 meet-spec =
@@ -55,4 +64,5 @@ meet-spec =
     add-out
     intersect-requires
     same-length
+    same-length-2
     returns-2)

@@ -1,18 +1,19 @@
--- `join_pairs::rows::write_left` meets its contract: an empty left set pairs with every right set, any other with those of its
--- candidates that contain it.
-use mathlib.Core.Path.{refl}
-use Rattle.join_pairs.proofs.Finding.{ranks-there, find-there, empty-room, empty-put, shortlist-room, shortlist-put}
+-- `join_pairs::rows::write_left` meets its contract: a row that is kept has all right sets that contain the left set.
+use native.Mathlib.Omega.{arith}
+use Rattle.lists.proofs.Slices.{changed-none}
+use Rattle.join_pairs.proofs.Copying.{row-words, kept-room, kept-put}
 use borrow.Author.Needs.{needs}
 use Rattle.join_pairs.proofs.rows.write_left.Statement.{statement}
 use Rattle.join_pairs.proofs.rows.write_left.Tie as tie
 
-probe-left-requires : tie.Need-probe-left-requires
-probe-left-requires c κs = search needs
+add-word-at : tie.Need-add-word-at
+add-word-at c = omega (arith, row-words (c .before .before .before .before .pre .0 .holds) .0)
 
-write-all-requires : tie.Need-write-all-requires
-write-all-requires c κs =
-    let at-probe = c .before .before .before in
-    empty-room (at-probe .probe-left .ensures) (at-probe .before .before .before .before .pre .holds) (c .before .if1 .taken)
+word-at-requires : tie.Need-word-at-requires
+word-at-requires c κs = row-words (c .before .before .before .before .pre .0 .holds) .0
+
+search-left-requires : tie.Need-search-left-requires
+search-left-requires c κs = c .before .before .before .before .before .before .before .before .before .pre
 
 same-length : tie.Need-same-length
 same-length c = search needs
@@ -20,76 +21,61 @@ same-length c = search needs
 same-length-2 : tie.Need-same-length-2
 same-length-2 c = search needs
 
-returns : tie.Need-returns
-returns c =
-    let at-if1 = c .before .before .before .before in
-    let found = at-if1 .before .before .probe-left .ensures in
-    record { frame = refl; wrote = λ q there. empty-put found there (at-if1 .if1 .taken) (c .before .before .write-all .ensures) }
-
-pivot-requires : tie.Need-pivot-requires
-pivot-requires c κs =
-    let at-probe = c .before .before .before in
-    let asked = at-probe .before .before .before .before .pre in
-    record {
-      query = asked .query;
-      holds = ranks-there (at-probe .probe-left .ensures) (asked .holds .left) (c .before .if1 .left);
-    }
-
-find-candidates-requires : tie.Need-find-candidates-requires
-find-candidates-requires c κs =
-    let at-probe = c .before .before .before .before .before in
-    let asked = at-probe .before .before .before .before .pre in
-    record {
-      query = asked .query;
-      holds = find-there (at-probe .probe-left .ensures) (asked .holds .left) (c .before .pivot .ensures);
-    }
-
-write-row-requires : tie.Need-write-row-requires
-write-row-requires c κs =
-    let at-list = c .before .before .before .before in
-    let at-pivot = at-list .before .before in
-    let at-probe = at-pivot .before .before .before .before in
-    let asked = at-probe .before .before .before .before .pre in
-    let list = at-list .find-candidates in
-    record {
-      query = asked .query;
-      holds =
-          shortlist-room (at-probe .probe-left .ensures) (at-pivot .pivot .ensures) (list .ensures) (list .kept .0) (asked .holds);
-    }
-
 same-length-3 : tie.Need-same-length-3
 same-length-3 c = search needs
+
+returns : tie.Need-returns
+returns c = c .before .before .before .before .before .before .search-left .ensures
+
+add-word-at-2 : tie.Need-add-word-at-2
+add-word-at-2 c = omega (arith, row-words (c .before .before .before .before .before .before .before .pre .0 .holds) .1)
+
+word-at-requires-2 : tie.Need-word-at-requires-2
+word-at-requires-2 c κs = row-words (c .before .before .before .before .before .before .before .pre .0 .holds) .1
+
+write-kept-requires : tie.Need-write-kept-requires
+write-kept-requires c κs =
+    let second = c .before .before in
+    let test = second .before .before in
+    let there = test .before .before .before .before .before .before .pre .0 .holds in
+    kept-room there (test .before .word-at .ensures) (second .word-at2 .ensures) (omega (arith, test .if1 .left))
 
 same-length-4 : tie.Need-same-length-4
 same-length-4 c = search needs
 
+same-length-5 : tie.Need-same-length-5
+same-length-5 c = search needs
+
 returns-2 : tie.Need-returns-2
 returns-2 c =
-    let at-row = c .before .before in
-    let at-list = at-row .before .before .before .before .before in
-    let at-pivot = at-list .before .before in
-    let found = at-pivot .before .before .before .before .probe-left .ensures in
-    let pivot = at-pivot .pivot .ensures in
-    let list = at-list .find-candidates in
-    record {
-      frame = list .ensures .frame;
-      wrote = λ q there.
-          shortlist-put found pivot (list .ensures) (list .kept .0) there
-          (at-row .write-row .ensures q (shortlist-room found pivot (list .ensures) (list .kept .0) there));
-    }
+    let wrote = c .before .before in
+    let second = wrote .before .before .before in
+    let test = second .before .before in
+    let start = test .before .before .before .before .before .before in
+    let a = start .args in (
+      record {
+        changed = changed-none (a .lay .slots) (a .lay .«row_starts») (a .work .now);
+        wrote = λ q there.
+            kept-put there (test .before .word-at .ensures) (second .word-at2 .ensures) (omega (arith, test .if1 .left))
+            (wrote .write-kept .ensures);
+      },
+      start .pre .1,
+    )
 
 pub write-left-spec : {M : Type 1} → statement M
 write-left-spec =
     tie.close
     (tie.spec
-    probe-left-requires
-    write-all-requires
+    add-word-at
+    word-at-requires
+    search-left-requires
     same-length
     same-length-2
-    returns
-    pivot-requires
-    find-candidates-requires
-    write-row-requires
     same-length-3
+    returns
+    add-word-at-2
+    word-at-requires-2
+    write-kept-requires
     same-length-4
+    same-length-5
     returns-2)

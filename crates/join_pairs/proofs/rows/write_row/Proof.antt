@@ -15,7 +15,8 @@ use Rattle.join_index.specs.declared.Layout.{Layout}
 use Rattle.join_check.specs.declared.checks.Probe.{Probe}
 use Rattle.word_lists.specs.Words.{Word}
 use Rattle.join_check.proofs.Places.{place-right}
-use Rattle.join_pairs.specs.Containing.{containedAt, rowOf, CheckThere}
+use Rattle.kept_rows.specs.Kept.{containedAt}
+use Rattle.join_pairs.specs.Containing.{rowOf, CheckThere}
 use Rattle.join_pairs.specs.Writing.{PushRoom, RowRoom}
 use Rattle.join_pairs.proofs.RowPairs.{row-next, row-none}
 use Rattle.join_pairs.proofs.Inverted.{slice-memb}

@@ -9,10 +9,10 @@ use Rattle.kept_rows.proofs.rows.share_row.Statement.{statement}
 use Rattle.kept_rows.proofs.rows.share_row.Tie as tie
 
 abbrev Inv-loop : tie.InvT-loop
-Inv-loop work₀ lay lo hi from to order i₀ work i = Sharing lay work₀ lo hi from to work i
+Inv-loop work₀ lay lo hi from to order j₀ work j = Sharing lay work₀ lo hi from to work j
 
 abbrev μ-loop : tie.MeasureT-loop
-μ-loop work₀ lay lo hi from to order i₀ work i = hi - i
+μ-loop work₀ lay lo hi from to order j₀ work j = hi - j
 
 loop-holds : tie.Need-loop-holds Inv-loop μ-loop
 loop-holds c = sharing-start
@@ -33,8 +33,8 @@ keep-row-requires c κs =
     let at-loop = test .before in
     sharing-room (at-loop .loop .inv) (at-loop .before .before .pre .holds) (test .loop-test .taken) (c .before .word-at .ensures)
 
-add-i : tie.Need-add-i Inv-loop μ-loop
-add-i c = omega (arith, c .before .before .before .before .before .before .loop-test .taken)
+add-j : tie.Need-add-j Inv-loop μ-loop
+add-j c = omega (arith, c .before .before .before .before .before .before .loop-test .taken)
 
 loop-less : tie.Need-loop-less Inv-loop μ-loop
 loop-less c = omega (arith, c .before .before .before .before .before .before .loop-test .taken)
@@ -47,7 +47,7 @@ loop-again c =
     let at-loop = test .before in
     subst
     (λ (v : List ℕ). Sharing (at-loop .before .before .args .lay) (at-loop .before .before .args .work .now) (at-loop .before .before .args .lo)
-    (at-loop .before .before .args .hi) (at-loop .before .before .args .from) (at-loop .before .before .args .to) v (at-loop .loop .i + 1))
+    (at-loop .before .before .args .hi) (at-loop .before .before .args .from) (at-loop .before .before .args .to) v (at-loop .loop .j + 1))
     (sym (kept .keep-row .ensures))
     (sharing-step (at-loop .loop .inv) (at-loop .before .before .pre) (test .loop-test .taken) (read .word-at .ensures))
 
@@ -67,7 +67,7 @@ share-row-spec =
     add-word-at
     word-at-requires
     keep-row-requires
-    add-i
+    add-j
     loop-less
     loop-again
     same-length

@@ -1,0 +1,116 @@
+-- `join_pairs::rows::search_left` meets its contract: an empty left set pairs with every right set, any other with those of its
+-- candidates that contain it.
+use Rattle.lists.proofs.Slices.{changed-none}
+use Rattle.join_pairs.proofs.Finding.{ranks-there, find-there, empty-room, empty-put, shortlist-room, shortlist-put}
+use borrow.Author.Needs.{needs}
+use Rattle.join_pairs.proofs.rows.search_left.Statement.{statement}
+use Rattle.join_pairs.proofs.rows.search_left.Tie as tie
+
+-- the beginning, and the left set as it was found
+abbrev start : tie.After-probe-left → tie.Start
+start c = c .before .before .before .before .before
+
+probe-left-requires : tie.Need-probe-left-requires
+probe-left-requires c κs =
+    let asked = c .before .before .before .before .pre .0 in
+    record { query = asked .query; holds = asked .holds .left }
+
+write-all-requires : tie.Need-write-all-requires
+write-all-requires c κs =
+    let found = c .before .before .before in
+    empty-room (found .probe-left .ensures) (start found .pre .0 .holds) (c .before .if1 .taken)
+
+same-length : tie.Need-same-length
+same-length c = search needs
+
+same-length-2 : tie.Need-same-length-2
+same-length-2 c = search needs
+
+returns : tie.Need-returns
+returns c =
+    let test = c .before .before .before .before in
+    let found = test .before .before in
+    let a = start found .args in (
+      record {
+        changed = changed-none (a .lay .slots) (a .lay .«row_starts») (a .work .now);
+        wrote = λ q there.
+            empty-put (found .probe-left .ensures) there (test .if1 .taken) (c .before .before .write-all .ensures);
+      },
+      start found .pre .1,
+    )
+
+pivot-requires : tie.Need-pivot-requires
+pivot-requires c κs =
+    let found = c .before .before .before in
+    let asked = start found .pre .0 in
+    record {
+      query = asked .query;
+      holds = ranks-there (found .probe-left .ensures) (asked .holds .left) (c .before .if1 .left);
+    }
+
+find-candidates-requires : tie.Need-find-candidates-requires
+find-candidates-requires c κs =
+    let chosen = c .before .before in
+    let found = chosen .before .before .before .before in
+    let asked = start found .pre .0 in (
+      record {
+        query = asked .query;
+        holds = find-there (found .probe-left .ensures) (asked .holds .left) (chosen .pivot .ensures);
+      },
+      start found .pre .1,
+    )
+
+write-row-requires : tie.Need-write-row-requires
+write-row-requires c κs =
+    let listed = c .before .before .before .before .before .before in
+    let chosen = listed .before .before .before in
+    let found = chosen .before .before .before .before in
+    let asked = start found .pre .0 in
+    record {
+      query = asked .query;
+      holds =
+          shortlist-room (found .probe-left .ensures) (chosen .pivot .ensures) (listed .find-candidates .ensures .0)
+          (asked .holds);
+    }
+
+same-length-3 : tie.Need-same-length-3
+same-length-3 c = search needs
+
+same-length-4 : tie.Need-same-length-4
+same-length-4 c = search needs
+
+same-length-5 : tie.Need-same-length-5
+same-length-5 c = search needs
+
+returns-2 : tie.Need-returns-2
+returns-2 c =
+    let wrote = c .before .before in
+    let listed = wrote .before .before .before .before .before .before .before in
+    let chosen = listed .before .before .before in
+    let found = chosen .before .before .before .before .probe-left .ensures in
+    let list = listed .find-candidates .ensures in (
+      record {
+        changed = list .0 .changed;
+        wrote = λ q there.
+            shortlist-put found (chosen .pivot .ensures) (list .0) there
+            (wrote .write-row .ensures q (shortlist-room found (chosen .pivot .ensures) (list .0) there));
+      },
+      list .1,
+    )
+
+pub search-left-spec : {M : Type 1} → statement M
+search-left-spec =
+    tie.close
+    (tie.spec
+    probe-left-requires
+    write-all-requires
+    same-length
+    same-length-2
+    returns
+    pivot-requires
+    find-candidates-requires
+    write-row-requires
+    same-length-3
+    same-length-4
+    same-length-5
+    returns-2)
