@@ -1,11 +1,11 @@
--- Rows of the left sets of a node, added up: where the walk does not go on and at the limit they are the checks against a list of
--- candidates; of those that end at a node where it goes on they are the candidates after it, by path.
+-- Rows of the left sets of a node, added up: where the walk does not go on they are the checks against a list of candidates; of
+-- those that end at a node where it goes on they are the candidates after it, by path.
 use Prim.Native.Nat.{ℕ, suc, _+_, _-_, _≤_, _<_}
 use mathlib.Core.Path.{_≡_, refl, sym, ap, subst, _∙_}
 use mathlib.Core.List.{List, [], _∷_}
 use mathlib.Core.Bool.{Bool, true, false, not, cond, _&&_, and-not-self, and-false}
 use native.Mathlib.Omega.{arith}
-use borrow.Author.Tests.{leb-true, leb-false, ltb-true}
+use borrow.Author.Tests.{leb-true, leb-false}
 use lib.Dec.{eqb, leb, ltb, eqb·suc-zero}
 use lib.ListN.{length, take, getD}
 use lib.Seq.{take-take}
@@ -26,7 +26,7 @@ use Rattle.join_check.specs.Checks.{rowCount, runCount, holdFirst, RunsThere}
 use Rattle.join_walk.specs.Rows.{goes, row, pathPairs}
 use Rattle.join_walk.proofs.Prefixes.{prefix-take, prefix-length}
 use Rattle.join_walk.proofs.Narrowing.{candidate-path, candidate-holds, listing-same}
-use Rattle.join_walk.proofs.RowLaws.{MetOnly, row-stops, row-limit, row-merges}
+use Rattle.join_walk.proofs.RowLaws.{MetOnly, row-stops, row-merges}
 use Rattle.join_walk.proofs.PathLaws.{paths-many}
 
 -- every left set of a list begins with the path
@@ -128,19 +128,6 @@ module _ {q : Query} {path : List ℕ} {d : ℕ} {lefts : List ℕ} (rooted : Ro
         (λ k begins.
         row-stops q d k is met list (left-goes k false begins stop)
         (listing-left (d - 1) k list begins (omega arith) listing))
-
-    -- rows of longer left sets at the limit
-    pub rows-limit : goes q path ≡ true → all (λ k. ltb d (length (leftAt q k))) lefts ≡ true → q .limit ≡ d
-        → Listing (length (q .rights)) (λ s. isCandidate d path (rightAt q s)) list
-        → sum (row is q d) lefts ≡ runCount q is list lefts
-    rows-limit on longer last listing =
-        sum-same-where (λ k. prefix path (leftAt q k) && ltb d (length (leftAt q k))) (row is q d) (rowCount q is list) lefts
-        (all-and _ _ lefts (rooted .begin) longer)
-        (λ k both.
-        let begins = and-left (prefix path (leftAt q k)) (ltb d (length (leftAt q k))) both in
-        let more = and-right (prefix path (leftAt q k)) (ltb d (length (leftAt q k))) both in
-        row-limit q d k is met list (left-goes k true begins on) (ltb-true d (length (leftAt q k)) more) last
-        (listing-left d k list begins (omega arith) listing))
 
     -- rows of left sets that end where the walk goes on
     pub rows-merge : goes q path ≡ true → all (λ k. eqb (keyAt q d k) 0) lefts ≡ true

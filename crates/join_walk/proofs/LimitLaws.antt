@@ -1,4 +1,4 @@
--- The left sets at the limit, one by one: each adds its row, and the rest stays at the limit.
+-- The left sets at the limit, one by one: each adds its row, which is kept where there is room, and the rest stays at the limit.
 use Prim.Native.Nat.{ℕ, _+_, _-_, _*_, _≤_, _<_}
 use mathlib.Core.Path.{_≡_, refl, sym, ap, ap₂, subst, _∙_}
 use mathlib.Core.List.{List, [], _∷_}
@@ -137,7 +137,7 @@ module _ {lay : Layout} {st : Settings} {q : Query} {path w : List ℕ} {d i fro
   pub one-key : {r : ℕ} → ((q : Query) → LeftThere lay q w k → r ≡ keyAt q d k) → r ≡ keyAt q d k
   one-key read = read q (run-left (going-run (at .going) (omega arith)) i (omega arith) word)
 
-  pub one-left : run lay w i (i + 1) ≡ k ∷ []
+  one-left : run lay w i (i + 1) ≡ k ∷ []
   one-left = run-one (going-run (at .going) (omega arith)) refl ∙ ap (λ (n : ℕ). n ∷ []) (sym (word .is))
 
   begins : prefix path (leftAt q k) ≡ true

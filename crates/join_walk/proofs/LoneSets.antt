@@ -23,10 +23,9 @@ use Rattle.join_index.specs.Grouping.{leftAt, rightAt, keyAt}
 use Rattle.join_index.specs.Ground.{Listing}
 use Rattle.join_index.specs.declared.Layout.{Layout}
 use Rattle.word_lists.specs.Words.{Word}
-use Rattle.join_check.specs.Asking.{LeftThere, RunThere}
-use Rattle.join_check.specs.Runs.{run, leftIn}
+use Rattle.join_check.specs.Asking.{LeftThere}
+use Rattle.join_check.specs.Runs.{run}
 use Rattle.join_check.specs.declared.Tally.{Tally}
-use Rattle.join_check.proofs.Orders.{run-key}
 use Rattle.kept_rows.specs.Kept.{containedAt, containing}
 use Rattle.kept_rows.specs.Recording.{RecordThere, RowRecorded}
 use Rattle.kept_rows.specs.declared.record.Recorded.{Recorded}
@@ -55,13 +54,6 @@ key-within q e k none =
     (λ longer.
     let key : keyAt q e k ≡ suc (getD (leftAt q k) e 0) = rw longer refl in
     absurd (omega (arith, key, none)))
-
--- the first left set of a run is so, its key after the limit read
-pub lone-short : {lay : Layout} {w : List ℕ} {limit lo hi k r : ℕ} → Word w (lay .order + lo) k
-    → ((q : Query) → LeftThere lay q w k → r ≡ keyAt q limit k) → r ≡ 0 → (q : Query) → RunThere lay q w lo hi
-    → length (leftAt q (leftIn lay w lo)) ≤ limit
-lone-short {lay} {w} {limit} {lo} word read none q there =
-    key-within q limit (leftIn lay w lo) (sym (run-key there limit lo (there .some) word read) ∙ none)
 
 -- the right sets that contain a left set are at most all
 containing-few : (q : Query) (k : ℕ) → length (containing q k) ≤ length (q .rights)

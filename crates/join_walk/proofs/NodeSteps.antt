@@ -1,4 +1,4 @@
--- A node where the walk goes on: the candidates are narrowed, and at the limit its left sets are finished.
+-- A node where the walk goes on: the candidates are narrowed, rows are kept above them, and at the limit its left sets are finished.
 use Prim.Native.Nat.{ℕ, suc, _-_, _≤_}
 use mathlib.Core.Path.{_≡_, sym, subst, _∙_}
 use mathlib.Core.List.{List}
@@ -16,7 +16,7 @@ use Rattle.kept_rows.specs.Kept.{RowsKept}
 use Rattle.kept_rows.proofs.RowLaws.{rows-framed}
 use Rattle.join_walk.specs.Rows.{goes}
 use Rattle.join_walk.specs.Narrowing.{Candidates, Narrowed, candidateList, slotOf}
-use Rattle.join_walk.specs.Visiting.{OnPath, NodeAt, Node, NodeVisited, Visited}
+use Rattle.join_walk.specs.Visiting.{OnPath, Node, NodeVisited, Visited}
 use Rattle.join_walk.specs.Visiting.{Framed, RunVisited}
 use Rattle.join_walk.specs.Blocks.{Going, AtLimit}
 use Rattle.join_walk.specs.declared.narrow.Part.{Part}
@@ -74,7 +74,7 @@ module _ {lay : Layout} {st : Settings} {q : Query} {path w w′ : List ℕ} {d 
   pub index-after : Index lay q w′
   index-after = index-framed index (so .framed) low
 
-  pub part-below : part .to ≤ lay .«row_starts»
+  part-below : part .to ≤ lay .«row_starts»
   part-below = omega (arith, so .below, index .ground .slotWithin (lastOf path) (cands .last))
 
   part-inside : part .to ≤ length w′
@@ -89,7 +89,7 @@ module _ {lay : Layout} {st : Settings} {q : Query} {path w w′ : List ℕ} {d 
   same-run : run lay w′ lo hi ≡ run lay w lo hi
   same-run = run-framed index (so .framed) low lo hi (so .node .at .few)
 
-  pub onward-begin : Begin q path (run lay w′ lo hi)
+  onward-begin : Begin q path (run lay w′ lo hi)
   onward-begin = subst (λ (l : List ℕ). Begin q path l) (sym same-run) (node-rooted (so .node) .begin)
 
   -- some rows more are kept
@@ -106,17 +106,7 @@ module _ {lay : Layout} {st : Settings} {q : Query} {path w w′ : List ℕ} {d 
         rows = kept;
       }
 
-  -- the left sets were visited, the rows ending at top
-  pub onward-visited : {r : Walked} → r .at .top ≡ top → Visited q (st .budget) d (run lay w′ lo hi) (p .tally) r
-      → NodeVisited lay st q path w w′ d lo hi (p .tally) r
-  onward-visited {r} is done =
-      record {
-        framed = so .framed;
-        visited = subst (λ (l : List ℕ). Visited q (st .budget) d l (p .tally) r) same-run done;
-        rows = λ calm. subst (RowsKept lay q w′) (sym is) (so .rows);
-      }
-
-  -- they were visited while only rows changed
+  -- its left sets were visited while only rows changed
   pub limit-visited : {w″ : List ℕ} {r : Walked} → RunVisited lay q (st .budget) (lay .«row_starts») d w′ w″ lo hi (p .tally) r
       → NodeVisited lay st q path w w″ d lo hi (p .tally) r
   limit-visited {w″} {r} done =

@@ -6,12 +6,7 @@ use mathlib.Core.List.{List}
 use mathlib.Core.Bool.{Bool, true, false}
 use Rattle.lists.specs.Lists.{slice}
 use Rattle.join_spec.specs.Query.{Query}
-use Rattle.join_spec.specs.declared.Rule.{Rule}
-use Rattle.join_spec.specs.declared.Rule.the-variants.{Merge}
-use Rattle.join_index.specs.Grouping.{keyAt}
 use Rattle.join_index.specs.declared.Layout.{Layout}
-use Rattle.join_check.specs.Asking.{RunThere}
-use Rattle.join_check.specs.Runs.{leftIn}
 use Rattle.join_check.specs.Checks.{rowCount}
 use Rattle.join_check.specs.Counters.{checksIn, Tallied}
 use Rattle.join_check.specs.declared.Tally.{Tally}
