@@ -1,15 +1,14 @@
 -- A row that is kept while its left set is checked: the invariant of `record_row`, with its start, step and end. The index and the
 -- places that are read lie below the rows, so that each check finds what it would have found at first.
 use Prim.Native.Nat.{ℕ, _+_, _-_, _≤_, _<_}
-use mathlib.Core.Path.{_≡_, refl, sym, ap, subst, _∙_}
+use mathlib.Core.Path.{_≡_, sym, ap, subst, _∙_}
 use mathlib.Core.List.{List, []}
 use mathlib.Core.Bool.{cond}
 use native.Mathlib.Omega.{arith}
 use lib.ListN.{length, getD, set, take}
 use Rattle.lists.specs.Lists.{one, slice, rising, subset}
 use Rattle.lists.specs.Parts.{Changed}
-use Rattle.lists.proofs.Counting.{one-bound}
-use Rattle.lists.proofs.Slices.{frame-less, frame-at, frame-slice, length-slice, changed-none, changed-store}
+use Rattle.lists.proofs.Slices.{frame-less, frame-at, frame-slice, length-slice, changed-none}
 use Rattle.sets.specs.Signatures.{signature, drops}
 use Rattle.join_spec.specs.Query.{Query}
 use Rattle.join_spec.specs.Walk.{Outcome, dropped, falseDrop, confirmed}
