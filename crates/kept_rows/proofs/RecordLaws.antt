@@ -204,10 +204,11 @@ module _ {lay : Layout} {w₀ : List ℕ} {k e from to top : ℕ} {tally : Tally
             keeping = kept-step;
           }
 
-    pub recording-end : Some (λ q. RecordThere lay q w₀ k e from to top) → to ≤ i
-        → RowRecorded lay w₀ k e from to tally top (rowStored lay k top n w) (record { tally = r; top = n })
-    recording-end some past =
-        record {
+    pub recording-end : {v : List ℕ} → Some (λ q. RecordThere lay q w₀ k e from to top) → to ≤ i → v ≡ rowStored lay k top n w
+        → RowRecorded lay w₀ k e from to tally top v (record { tally = r; top = n })
+    recording-end {v} some past kept =
+        rw kept
+        (record {
           size =
               stored-size (recording-index (some .holds) .ground) k top n (some .holds .row .left .below)
               ∙ so .changed .size;
@@ -215,4 +216,4 @@ module _ {lay : Layout} {w₀ : List ℕ} {k e from to top : ℕ} {tally : Tally
           checked = row-end (so .checking) past;
           rows = λ q there. row-rows there past;
           past = λ q there. row-long there past;
-        }
+        })

@@ -82,18 +82,19 @@ module _ {lay : Layout} {w₀ : List ℕ} {lo hi from to : ℕ} where
         sharing-rows = rows-stored (sharing-index .ground) k from to below own (so .rows q there)
 
     -- one left set more
-    pub sharing-step : {k : ℕ} → Some (λ q. ShareThere lay q w₀ lo hi from to) → i < hi → Word w (lay .order + i) k
-        → Sharing lay w₀ lo hi from to (rowStored lay k from to w) (i + 1)
-    sharing-step {k} some more word =
+    pub sharing-step : {k : ℕ} {v : List ℕ} → Some (λ q. ShareThere lay q w₀ lo hi from to) → i < hi → Word w (lay .order + i) k
+        → v ≡ rowStored lay k from to w → Sharing lay w₀ lo hi from to v (i + 1)
+    sharing-step {k} some more word kept =
         let g = sharing-index (some .holds) more .ground in
         let here = below (some .holds) more word in
-        record {
+        rw kept
+        (record {
           size = stored-size g k from to here ∙ so .size;
           frame = stored-frame g k from to here ∙ so .frame;
           low = omega (arith, so .low);
           rows = λ q there. sharing-rows there more word;
           part = λ low. stored-slice g k from to here from to low ∙ so .part low;
-        }
+        })
 
     pub sharing-end : Shared lay w₀ lo hi from to w
     sharing-end = record { size = so .size; frame = so .frame; rows = so .rows }
