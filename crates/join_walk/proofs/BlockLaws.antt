@@ -91,7 +91,7 @@ module _ {q : Query} {path : List ℕ} {d : ℕ} {lefts : List ℕ} (rooted : Ro
   some = omega (arith, rooted .depth, rooted .deep)
 
   -- the candidates of the path are those of a left set that begins with it
-  listing-left : (e k : ℕ) (list : List ℕ) → prefix path (leftAt q k) ≡ true → e ≤ d
+  pub listing-left : (e k : ℕ) (list : List ℕ) → prefix path (leftAt q k) ≡ true → e ≤ d
       → Listing (length (q .rights)) (λ s. isCandidate e path (rightAt q s)) list
       → Listing (length (q .rights)) (λ s. isCandidate e (leftAt q k) (rightAt q s)) list
   listing-left e k list begins short listing =
@@ -99,7 +99,7 @@ module _ {q : Query} {path : List ℕ} {d : ℕ} {lefts : List ℕ} (rooted : Ro
       (λ s. isCandidate e (leftAt q k) (rightAt q s)) list
       (λ s. sym (candidate-path e path (leftAt q k) (rightAt q s) some begins (omega (arith, rooted .depth, short)))) listing
 
-  left-goes : (k : ℕ) (b : Bool) → prefix path (leftAt q k) ≡ true → goes q path ≡ b → goes q (take d (leftAt q k)) ≡ b
+  pub left-goes : (k : ℕ) (b : Bool) → prefix path (leftAt q k) ≡ true → goes q path ≡ b → goes q (take d (leftAt q k)) ≡ b
   left-goes k b begins is =
       subst (λ (n : ℕ). goes q (take n (leftAt q k)) ≡ b) (rooted .depth)
       (sym (ap (goes q) (prefix-take path (leftAt q k) begins)) ∙ is)

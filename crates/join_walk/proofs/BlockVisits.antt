@@ -24,6 +24,7 @@ use Rattle.join_check.proofs.Tallying.{tallied-same}
 use Rattle.join_walk.specs.Rows.{row, pathPairs}
 use Rattle.join_walk.specs.Visiting.{Added, Merged, Visited}
 use Rattle.join_walk.specs.Blocks.{Blocked}
+use Rattle.join_walk.specs.declared.visit.Progress.{Progress}
 use Rattle.join_walk.specs.declared.visit.Walked.{Walked}
 use Rattle.join_walk.proofs.RowLaws.{MetOnly}
 use Rattle.join_walk.proofs.PathLaws.{sum-const}
@@ -45,12 +46,12 @@ module _ (q : Query) (list lefts : List ℕ) where
       ∙ sum-const (length list) lefts
 
 -- a block of checks answers for its left sets where their rows are its checks
-pub block-visited : {lay : Layout} {q : Query} {w : List ℕ} {budget d e lo hi from to : ℕ} {tally : Tally} {r : Walked}
+pub block-visited : {lay : Layout} {q : Query} {w : List ℕ} {budget d e lo hi from to : ℕ} {p : Progress} {r : Walked}
     → RunsThere lay q w e lo hi from to → length (run lay w lo hi) ≡ hi - lo → length (slice from to w) ≡ to - from
     → ((is : Outcome → Bool) → MetOnly is
     → sum (row is q d) (run lay w lo hi) ≡ runCount q is (slice from to w) (run lay w lo hi))
-    → Blocked lay w budget e lo hi from to tally r → Visited q budget d (run lay w lo hi) tally r
-block-visited {lay} {q} {w} {budget} {d} {e} {lo} {hi} {from} {to} {tally} {r} there lefts rights rows block =
+    → Blocked lay w budget e lo hi from to p r → Visited q budget d (run lay w lo hi) (p .tally) r
+block-visited {lay} {q} {w} {budget} {d} {e} {lo} {hi} {from} {to} {p} {r} there lefts rights rows block =
     record {
       added = λ calm.
           record { tallied = tallied-same (λ kind. sym (rows (isOf kind) (kind-met kind))) (block .tallied calm q there) };

@@ -10,6 +10,7 @@ use Rattle.lists.specs.Lists.{keep, memb, rising, slice, upto}
 use Rattle.lists.proofs.Filtering.{all-keep}
 use Rattle.lists.proofs.Ranges.{all-upto}
 use Rattle.lists.proofs.Rising.{rising-keep, rising-range}
+use Rattle.lists.proofs.Slices.{rest-more}
 use Rattle.join_spec.specs.Query.{Query}
 use Rattle.join_spec.specs.Node.{lastOf}
 use Rattle.join_spec.specs.Walk.{isCandidate}
@@ -54,6 +55,7 @@ module _ {lay : Layout} {q : Query} {path w : List ℕ} {d lo hi : ℕ} (cands :
           frame = refl;
           rise = inverted-holds .rise;
           below = omega (arith, inverted-holds .within);
+          rest = refl;
           holds = inverted-holds .is ∙ listed path (cands .depth ∙ top) ∙ ap (candidateList q path) (sym top);
         }
       where
@@ -123,6 +125,10 @@ module _ {lay : Layout} {q : Query} {path w : List ℕ} {d lo hi : ℕ} (cands :
           frame = subst (λ (n : ℕ). take (lay .slots + n) w′ ≡ take (lay .slots + n) w) at-first (met .changed .low);
           rise = met .low;
           below = omega (arith, met .high, at-last, inverted-holds .rise);
+          rest =
+              rest-more (lay .slots + first + (lay .index + last - (lay .index + first))) (lay .«row_starts») w w′
+              (omega (arith, at-last, inverted-holds .rise, cands .index .ground .slotWithin (lastOf path) (cands .last)))
+              (met .changed .high);
           holds =
               met .is
               ∙ ap₂ (λ (a b : List ℕ). keep (λ s. memb s a) b) (inverted-holds .is) (cands .sorted deeper)

@@ -23,10 +23,10 @@ use Rattle.join_index.specs.declared.Layout.{Layout}
 use Rattle.join_index.proofs.GroundLaws.{offsets-rise}
 use Rattle.join_index.proofs.Ordering.{left-rising}
 use Rattle.join_check.specs.Runs.{run, leftIn, RunEnd}
-use Rattle.join_check.specs.declared.Tally.{Tally}
 use Rattle.join_walk.specs.Narrowing.{candidateList, slotOf}
 use Rattle.join_walk.specs.Visiting.{Node, Child, Children, After, ChildrenAt}
 use Rattle.join_walk.specs.Visiting.{Visited, Framed, NodeVisited}
+use Rattle.join_walk.specs.declared.visit.Progress.{Progress}
 use Rattle.join_walk.specs.declared.visit.Settings.{Settings}
 use Rattle.join_walk.specs.declared.visit.Walked.{Walked}
 use Rattle.join_walk.proofs.Prefixes.{prefix-take, prefix-length}
@@ -43,9 +43,9 @@ prefix-longer [] r = refl
 prefix-longer (p ∷ ps) r = and-both (eq-eqb p p refl) (prefix-longer ps r)
 
 -- the first child of a node, with the candidates after the node
-module _ {lay : Layout} {st : Settings} {q : Query} {path w : List ℕ} {d i hi from to : ℕ} {tally : Tally}
-    (at : ChildrenAt lay st q path w d i hi from to tally) (more : i < hi) {j : ℕ} (end : RunEnd lay w d i hi j) where
-  kids : Children lay st q path w d i hi tally
+module _ {lay : Layout} {st : Settings} {q : Query} {path w : List ℕ} {d i hi from to : ℕ} {p : Progress}
+    (at : ChildrenAt lay st q path w d i hi from to p) (more : i < hi) {j : ℕ} (end : RunEnd lay w d i hi j) where
+  kids : Children lay st q path w d i hi p
   kids = at .kids
 
   after : After lay q path w d from to
@@ -57,7 +57,7 @@ module _ {lay : Layout} {st : Settings} {q : Query} {path w : List ℕ} {d i hi 
   abbrev longer : List ℕ
   longer = childPath (at .kids) more
 
-  child : Child lay st q longer w (suc d) i j tally
+  child : Child lay st q longer w (suc d) i j p
   child = first-child (at .kids) more end
 
   -- the child's rank is greater than the parent's last
@@ -103,7 +103,7 @@ module _ {lay : Layout} {st : Settings} {q : Query} {path w : List ℕ} {d i hi 
       (upto (length (q .rights)))
       (λ s. sym (same-candidates s))
 
-  child-node : Node lay st q longer w (suc d) i j from to tally
+  child-node : Node lay st q longer w (suc d) i j from to p
   child-node =
       record {
         at = record {
@@ -126,29 +126,30 @@ module _ {lay : Layout} {st : Settings} {q : Query} {path w : List ℕ} {d i hi 
           lefts = child .lefts;
         };
         underway = child .underway;
+        rows = child .rows;
       }
 
   -- the child at its depth as the code writes it
-  pub next-node : Node lay st q longer w (d + 1) i j from to tally
-  next-node = subst (λ (e : ℕ). Node lay st q longer w e i j from to tally) (sym (add-one d)) child-node
+  pub next-node : Node lay st q longer w (d + 1) i j from to p
+  next-node = subst (λ (e : ℕ). Node lay st q longer w e i j from to p) (sym (add-one d)) child-node
 
   -- and its visit as that of a part of the children
-  child-done : {w′ : List ℕ} {one : Walked} → NodeVisited lay st q longer w w′ (d + 1) i j tally one
+  child-done : {w′ : List ℕ} {one : Walked} → NodeVisited lay st q longer w w′ (d + 1) i j (p .tally) one
       → PartDone lay (st .budget) (suc d) hi (λ path w. slotOf lay w (suc (lastOf path)))
-      (λ q path w i r. ChildrenAt lay st q path w d i hi from to r) q path w i tally w′ j one
+      (λ q path w i r. ChildrenAt lay st q path w d i hi from to r) q path w i p w′ j one
   child-done {w′} {one} done =
       let low : lay .slots ≤ slotOf lay w (suc (lastOf path)) = omega arith in
       let framed : Framed (slotOf lay w (suc (lastOf path))) w w′ = framed-lower slot-beyond (done .framed) in
-      let visited : Visited q (st .budget) (suc d) (run lay w i j) tally one =
-      subst (λ (e : ℕ). Visited q (st .budget) e (run lay w i j) tally one) (add-one d) (done .visited) in
+      let visited : Visited q (st .budget) (suc d) (run lay w i j) (p .tally) one =
+      subst (λ (e : ℕ). Visited q (st .budget) e (run lay w i j) (p .tally) one) (add-one d) (done .visited) in
       let same = slot-framed (kids .index) framed low (suc (lastOf path)) (after .last) in
       record {
         facts = record { index = kids .index; few = kids .few; slots = low };
-        visit = record { framed = framed; visited = visited };
+        visit = record { framed = framed; visited = visited; rows = done .rows };
         steady = same;
         next = λ calm.
             record {
-              kids = kids-next (at .kids) more end low (record { framed = framed; visited = visited }) calm;
+              kids = kids-next (at .kids) more end low (record { framed = framed; visited = visited; rows = done .rows }) calm;
               after = record {
                 deep = after .deep;
                 last = after .last;
@@ -161,11 +162,11 @@ module _ {lay : Layout} {st : Settings} {q : Query} {path w : List ℕ} {d i hi 
       }
 
 -- every child's visit so, from what the visit of a node promises
-pub children-done : {lay : Layout} {st : Settings} {w w′ : List ℕ} {d i j hi from to : ℕ} {tally : Tally} {one : Walked} → i < hi
+pub children-done : {lay : Layout} {st : Settings} {w w′ : List ℕ} {d i j hi from to : ℕ} {p : Progress} {one : Walked} → i < hi
     → RunEnd lay w d i hi j
-    → ((q : Query) (path : List ℕ) → Node lay st q path w (d + 1) i j from to tally
-    → NodeVisited lay st q path w w′ (d + 1) i j tally one)
-    → (q : Query) (path : List ℕ) → ChildrenAt lay st q path w d i hi from to tally
+    → ((q : Query) (path : List ℕ) → Node lay st q path w (d + 1) i j from to p
+    → NodeVisited lay st q path w w′ (d + 1) i j (p .tally) one)
+    → (q : Query) (path : List ℕ) → ChildrenAt lay st q path w d i hi from to p
     → PartDone lay (st .budget) (suc d) hi (λ path w. slotOf lay w (suc (lastOf path)))
-    (λ q path w i r. ChildrenAt lay st q path w d i hi from to r) q path w i tally w′ j one
+    (λ q path w i r. ChildrenAt lay st q path w d i hi from to r) q path w i p w′ j one
 children-done more end each q path at = child-done at more end (each q (childPath (at .kids) more) (next-node at more end))

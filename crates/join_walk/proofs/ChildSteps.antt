@@ -20,6 +20,7 @@ use Rattle.join_check.specs.Runs.{leftIn, RunEnd}
 use Rattle.join_check.specs.declared.Tally.{Tally}
 use Rattle.join_walk.specs.Visiting.{Underway, Child, Children, beginners}
 use Rattle.join_walk.specs.Visiting.{RunVisited}
+use Rattle.join_walk.specs.declared.visit.Progress.{Progress}
 use Rattle.join_walk.specs.declared.visit.Settings.{Settings}
 use Rattle.join_walk.specs.declared.visit.Walked.{Walked}
 use Rattle.join_walk.proofs.Groups.{FirstGroup}
@@ -47,8 +48,8 @@ underway-less {st} {q} {tally} {n} m less before =
       bounded = omega (arith, before .bounded, mul-le-mul-right (length (q .rights)) less);
     }
 
-module _ {lay : Layout} {st : Settings} {q : Query} {path w : List ℕ} {d i hi : ℕ} {tally : Tally}
-    (kids : Children lay st q path w d i hi tally) (more : i < hi) where
+module _ {lay : Layout} {st : Settings} {q : Query} {path w : List ℕ} {d i hi : ℕ} {p : Progress}
+    (kids : Children lay st q path w d i hi p) (more : i < hi) where
   abbrev rest : List ℕ
   rest = beginners q path (suc d)
 
@@ -80,11 +81,12 @@ module _ {lay : Layout} {st : Settings} {q : Query} {path w : List ℕ} {d i hi 
     parted = group-cut d (kids .least) (kids .span) rest kids-run (kids .lefts) end
 
     -- the first child
-    pub first-child : Child lay st q childPath w (suc d) i j tally
+    pub first-child : Child lay st q childPath w (suc d) i j p
     first-child =
         record {
           index = kids .index;
           underway = underway-less (j - i) (omega (arith, end .within)) (kids .underway);
+          rows = kids .rows;
           depth = omega (arith, length-append path (childRank ∷ []), kids .depth);
           within = kids .within;
           last = rw (last-longer path childRank) rank-low;
@@ -99,13 +101,14 @@ module _ {lay : Layout} {st : Settings} {q : Query} {path w : List ℕ} {d i hi 
 
     -- the children after it
     pub kids-next : {w′ : List ℕ} {slot : ℕ} {one : Walked} → lay .slots ≤ slot
-        → RunVisited lay q (st .budget) slot (suc d) w w′ i j tally one → one .spent ≡ false
-        → Children lay st q path w′ d j hi (one .tally)
+        → RunVisited lay q (st .budget) slot (suc d) w w′ i j (p .tally) one → one .spent ≡ false
+        → Children lay st q path w′ d j hi (one .at)
     kids-next low visit calm =
         record {
           index = index-framed (kids .index) (visit .framed) low;
           underway = underway-next (kids .underway) (visit .visited .added calm)
               (omega (arith, ap length (parted .front), parted .size, end .more, end .within)) (visit .visited .within calm);
+          rows = visit .rows calm;
           depth = kids .depth;
           within = kids .within;
           upto = end .within;

@@ -1,5 +1,5 @@
 -- What stays the same at a node while only slots from its last rank on change: the index, the offsets, and the order's runs.
-use Prim.Native.Nat.{ℕ, _+_, _≤_}
+use Prim.Native.Nat.{ℕ, _+_, _≤_, _<_}
 use mathlib.Core.Path.{_≡_, refl, ap, _∙_}
 use mathlib.Core.List.{List}
 use native.Mathlib.Omega.{arith}
@@ -13,6 +13,14 @@ use Rattle.join_check.specs.Runs.{run}
 use Rattle.join_check.proofs.Reading.{index-frame}
 use Rattle.join_walk.specs.Narrowing.{slotOf}
 use Rattle.join_walk.specs.Visiting.{Framed}
+
+-- the kept rows lie within the work list, and every slot below them
+pub rows-inside : {lay : Layout} {q : Query} {w : List ℕ} → Index lay q w → lay .«row_starts» ≤ length w
+rows-inside index =
+    let g = index .ground in omega (arith, g .rowStartsWithin, g .rowEndsWithin, g .rowsWithin, g .endWithin)
+
+pub slot-low : {lay : Layout} {q : Query} {w : List ℕ} {r : ℕ} → Index lay q w → r < q .T → slotOf lay w r ≤ lay .«row_starts»
+slot-low {r = r} index below = omega (arith, index .ground .slotWithin r below, index .ground .inverted r below .rise)
 
 module _ {lay : Layout} {q : Query} {w w′ : List ℕ} {slot : ℕ} (index : Index lay q w) (framed : Framed slot w w′)
     (low : lay .slots ≤ slot) where

@@ -14,11 +14,17 @@ pub mod BlockLaws
 pub mod BlockVisits
 pub mod FrameLaws
 pub mod PartLoop
+pub mod GoingLaws
+pub mod RowsOf
+pub mod NodeRows
 pub mod LimitLaws
 pub mod GroupSteps
 pub mod NodeStops
 pub mod NodeSteps
+pub mod EmptyNodes
+pub mod LoneSets
 pub mod NodeChildren
+pub mod NodeEntries
 pub mod ChildSteps
 pub mod ChildNodes
 pub mod PartitionSteps

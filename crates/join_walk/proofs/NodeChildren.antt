@@ -1,11 +1,10 @@
 -- A node where the walk goes on below the limit: the left sets that end there come first and pair by path, and the others are its
 -- children.
-use Prim.Native.Nat.{ℕ, suc, _+_, _-_, _*_, _≤_, _<_}
+use Prim.Native.Nat.{ℕ, suc, _+_, _-_, _≤_, _<_}
 use mathlib.Core.Path.{_≡_, refl, sym, ap, ap₂, subst, _∙_}
 use mathlib.Core.List.{List, _++_}
 use mathlib.Core.Bool.{Bool, true, false, _&&_, not}
 use native.Mathlib.Omega.{arith}
-use native.Mathlib.Nat.{mul-le-mul}
 use borrow.Author.Tests.{not-true}
 use lib.Dec.{eqb}
 use lib.ListN.{length, take}
@@ -14,11 +13,9 @@ use Rattle.lists.proofs.Bools.{and-left, and-right, true-false}
 use Rattle.lists.proofs.Throughout.{all-back}
 use Rattle.lists.proofs.Filtering.{all-kept, all-keep}
 use Rattle.lists.proofs.Summing.{sum-same-where}
-use Rattle.sets.specs.Limits.{maxPairs}
 use Rattle.join_spec.specs.Query.{Query}
 use Rattle.join_spec.specs.Node.{lastOf}
 use Rattle.join_spec.specs.Walk.{Outcome, isCandidate}
-use Rattle.join_spec.specs.Counting.{isByPath}
 use Rattle.join_index.specs.Grouping.{leftAt, rightAt, keyAt, orderFrom}
 use Rattle.join_index.specs.Ground.{Listing}
 use Rattle.join_index.specs.declared.Layout.{Layout}
@@ -33,6 +30,7 @@ use Rattle.join_walk.specs.Visiting.{ChildrenAt, NodeVisited, ChildrenVi
 use Rattle.join_walk.specs.Visiting.{Framed, beginners}
 use Rattle.join_walk.specs.Blocks.{MergedEnd}
 use Rattle.join_walk.specs.declared.narrow.Part.{Part}
+use Rattle.join_walk.specs.declared.visit.Progress.{Progress}
 use Rattle.join_walk.specs.declared.visit.Settings.{Settings}
 use Rattle.join_walk.specs.declared.visit.Walked.{Walked}
 use Rattle.join_walk.proofs.RunLaws.{Cut, run-length, run-split}
@@ -41,15 +39,15 @@ use Rattle.join_walk.proofs.Narrowing.{listing-kept}
 use Rattle.join_walk.proofs.Prefixes.{prefix-take}
 use Rattle.join_walk.proofs.RowLaws.{row-deeper}
 use Rattle.join_walk.proofs.BlockLaws.{Begin, Rooted, rows-merge, key-longer, all-and}
-use Rattle.join_walk.proofs.PathLaws.{paths-all, merged-checks}
+use Rattle.join_walk.proofs.PathLaws.{merged-checks}
 use Rattle.join_walk.proofs.BlockVisits.{merged-added}
 use Rattle.join_walk.proofs.VisitLaws.{visited-then, visited-rows, underway-next}
 use Rattle.join_walk.proofs.FrameLaws.{slot-framed, run-framed, framed-then}
-use Rattle.join_walk.proofs.NodeSteps.{Onward, onward-framed, index-after, after-length, after-few, node-run}
+use Rattle.join_walk.proofs.NodeSteps.{Onward, index-after, after-length, node-run}
 use Rattle.join_walk.proofs.NodeStops.{node-rooted}
 
-module _ {lay : Layout} {st : Settings} {q : Query} {path w w′ : List ℕ} {d lo hi from to : ℕ} {tally : Tally} {part : Part}
-    (so : Onward lay st q path w w′ d lo hi from to tally part) (deeper : d < st .limit) where
+module _ {lay : Layout} {st : Settings} {q : Query} {path w w′ : List ℕ} {d lo hi from to : ℕ} {p : Progress} {part : Part}
+    {top : ℕ} (so : Onward lay st q path w w′ d lo hi from to p part top) (deeper : d < st .limit) where
   cands : Candidates lay q path w d from to
   cands = so .node .at .candidates
 
@@ -57,7 +55,7 @@ module _ {lay : Layout} {st : Settings} {q : Query} {path w w′ : List ℕ} {d 
   index = cands .index
 
   framed : Framed (slotOf lay w (lastOf path)) w w′
-  framed = onward-framed so
+  framed = so .framed
 
   low : lay .slots ≤ slotOf lay w (lastOf path)
   low = omega arith
@@ -82,13 +80,6 @@ module _ {lay : Layout} {st : Settings} {q : Query} {path w w′ : List ℕ} {d 
     front-length : length (run lay w lo mid) ≡ mid - lo
     front-length = run-length lay q w lo mid index (omega (arith, end .high, so .node .at .few))
 
-    pub merged-room : tally .«by_path» + pathPairs (mid - lo) (part .to - part .«from») isByPath ≤ maxPairs
-    unfolding sum
-    merged-room =
-        let product : (mid - lo) * (part .to - part .«from») ≤ (hi - lo) * length (q .rights) =
-        mul-le-mul {n₁ = mid - lo} {n₂ = hi - lo} (omega (arith, end .high)) (after-few so) in
-        omega (arith, so .node .underway .bounded, product, paths-all (mid - lo) (part .to - part .«from»))
-
     ended-rooted : Rooted q path d (run lay w lo mid)
     unfolding rest
     ended-rooted =
@@ -107,11 +98,11 @@ module _ {lay : Layout} {st : Settings} {q : Query} {path w w′ : List ℕ} {d 
     after-listing : Listing (length (q .rights)) (λ s. isCandidate d path (rightAt q s)) (slice (part .«from») (part .to) w′)
     after-listing =
         subst (λ (l : List ℕ). Listing (length (q .rights)) (λ s. isCandidate d path (rightAt q s)) l)
-        (sym (so .narrowed .holds))
+        (sym (so .holds))
         (listing-kept (length (q .rights)) (λ s. isCandidate d path (rightAt q s)))
 
-    module _ {m : Tally} (merged : Merged (mid - lo) (part .to - part .«from») tally m) where
-      pub merged-lefts : Added q d (run lay w lo mid) tally m
+    module _ {m : Tally} (merged : Merged (mid - lo) (part .to - part .«from») (p .tally) m) where
+      pub merged-lefts : Added q d (run lay w lo mid) (p .tally) m
       merged-lefts =
           merged-added (run lay w lo mid)
           (λ is met.
@@ -123,26 +114,30 @@ module _ {lay : Layout} {st : Settings} {q : Query} {path w w′ : List ℕ} {d 
       merged-budget = omega (arith, merged-checks merged, so .node .underway .budget)
 
       -- no left set goes on
-      pub all-merged : hi ≤ mid → NodeVisited lay st q path w w′ d lo hi tally (record { tally = m; spent = false })
+      pub all-merged : hi ≤ mid
+          → NodeVisited lay st q path w w′ d lo hi (p .tally) (record { at = record { tally = m; top = top }; spent = false })
       all-merged past =
           let same : mid ≡ hi = omega (arith, end .high) in
           record {
             framed = framed;
             visited = record {
-              added = λ calm. subst (λ (n : ℕ). Added q d (run lay w lo n) tally m) same merged-lefts;
+              added = λ calm. subst (λ (n : ℕ). Added q d (run lay w lo n) (p .tally) m) same merged-lefts;
               within = λ calm. merged-budget;
               beyond = λ spent. true-false spent refl;
             };
+            rows = λ calm. so .rows;
           }
 
       -- the others are the node's children
-      pub node-children : mid < hi → ChildrenAt lay st q path w′ d mid hi (part .«from») (part .to) m
+      pub node-children : mid < hi → ChildrenAt lay st q path w′ d mid hi (part .«from») (part .to)
+          (record { tally = m; top = top })
       unfolding rest
       node-children some =
           record {
             kids = record {
               index = index-after so;
               underway = underway-next (so .node .underway) merged-lefts (omega (arith, front-length, end .low)) merged-budget;
+              rows = so .rows;
               depth = cands .depth;
               within = omega (arith, so .node .underway .limit);
               upto = omega arith;
@@ -156,9 +151,9 @@ module _ {lay : Layout} {st : Settings} {q : Query} {path w w′ : List ℕ} {d 
             after = record {
               deep = cands .deep;
               last = cands .last;
-              rise = so .narrowed .rise;
-              below = omega (arith, so .narrowed .below, slot-framed index framed low (suc (lastOf path)) (cands .last));
-              holds = so .narrowed .holds;
+              rise = so .rise;
+              below = omega (arith, so .below, slot-framed index framed low (suc (lastOf path)) (cands .last));
+              holds = so .holds;
             };
           }
 
@@ -188,7 +183,7 @@ module _ {lay : Layout} {st : Settings} {q : Query} {path w w′ : List ℕ} {d 
 
       -- and their visit makes the node's
       pub children-visited : {w″ : List ℕ} {r : Walked} → ChildrenVisited lay st q path w′ w″ d mid hi m r
-          → NodeVisited lay st q path w w″ d lo hi tally r
+          → NodeVisited lay st q path w w″ d lo hi (p .tally) r
       children-visited {w″} {r} done =
           record {
             framed = framed-then (omega (
@@ -197,11 +192,12 @@ module _ {lay : Layout} {st : Settings} {q : Query} {path w w′ : List ℕ} {d 
               offsets-rise lay q w (index .ground) (lastOf path) (suc (lastOf path)) (omega arith) (cands .last),
             )) framed (done .framed);
             visited =
-                subst (λ (l : List ℕ). Visited q (st .budget) d l tally r)
+                subst (λ (l : List ℕ). Visited q (st .budget) d l (p .tally) r)
                 (sym (run-split lay q w lo mid hi index (end .low) (end .high) (so .node .at .few)))
                 (visited-then merged-lefts
                 (visited-rows (run lay w mid hi) rows-deeper
                 (subst (λ (l : List ℕ). Visited q (st .budget) (suc d) l m r)
                 (run-framed index framed low mid hi (so .node .at .few))
                 (done .visited))));
+            rows = done .rows;
           }

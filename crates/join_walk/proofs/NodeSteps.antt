@@ -1,109 +1,154 @@
 -- A node where the walk goes on: the candidates are narrowed, and at the limit its left sets are finished.
-use Prim.Native.Nat.{ℕ, _-_, _≤_}
-use mathlib.Core.Path.{_≡_, sym, ap, subst}
+use Prim.Native.Nat.{ℕ, suc, _-_, _≤_}
+use mathlib.Core.Path.{_≡_, sym, subst, _∙_}
 use mathlib.Core.List.{List}
-use mathlib.Core.Bool.{Bool, true, false, not}
+use mathlib.Core.Bool.{true}
 use native.Mathlib.Omega.{arith}
 use lib.ListN.{length, getD}
 use Rattle.lists.specs.Lists.{slice}
-use Rattle.lists.proofs.Slices.{length-slice}
+use Rattle.lists.proofs.Slices.{length-slice, frame-slice}
 use Rattle.join_spec.specs.Query.{Query}
 use Rattle.join_spec.specs.Node.{lastOf}
 use Rattle.join_index.specs.declared.Layout.{Layout}
-use Rattle.join_index.proofs.GroundLaws.{slot-bound}
 use Rattle.join_check.specs.Asking.{Index, RunThere}
 use Rattle.join_check.specs.Runs.{run}
-use Rattle.join_check.specs.declared.Tally.{Tally}
+use Rattle.kept_rows.specs.Kept.{RowsKept}
+use Rattle.kept_rows.proofs.RowLaws.{rows-framed}
 use Rattle.join_walk.specs.Rows.{goes}
-use Rattle.join_walk.specs.Narrowing.{Candidates, Narrowed, slotOf}
+use Rattle.join_walk.specs.Narrowing.{Candidates, Narrowed, candidateList, slotOf}
 use Rattle.join_walk.specs.Visiting.{OnPath, NodeAt, Node, NodeVisited, Visited}
-use Rattle.join_walk.specs.Visiting.{Framed}
-use Rattle.join_walk.specs.Blocks.{AtLimit}
+use Rattle.join_walk.specs.Visiting.{Framed, RunVisited}
+use Rattle.join_walk.specs.Blocks.{Going, AtLimit}
 use Rattle.join_walk.specs.declared.narrow.Part.{Part}
+use Rattle.join_walk.specs.declared.visit.Progress.{Progress}
 use Rattle.join_walk.specs.declared.visit.Settings.{Settings}
 use Rattle.join_walk.specs.declared.visit.Walked.{Walked}
 use Rattle.join_walk.proofs.NodeFacts.{last-read}
 use Rattle.join_walk.proofs.BlockLaws.{Begin}
-use Rattle.join_walk.proofs.LimitLaws.{candidates-most}
-use Rattle.join_walk.proofs.FrameLaws.{index-framed, run-framed}
-use Rattle.join_walk.proofs.NodeStops.{goes-on, node-rooted}
+use Rattle.join_walk.proofs.FrameLaws.{index-framed, run-framed, framed-then, rows-inside, slot-low}
+use Rattle.join_walk.proofs.NodeStops.{node-rooted}
 
--- a node where the walk goes on, its candidates narrowed to a part of the work list, which became w′
-pub record Onward (lay : Layout) (st : Settings) (q : Query) (path w w′ : List ℕ) (d lo hi from to : ℕ) (tally : Tally)
-    (part : Part) : Type 0 where
-  pub node : Node lay st q path w d lo hi from to tally
-  pub narrowed : Narrowed lay q path d w w′ part
+-- a node where the walk goes on, its candidates narrowed to a part of the work list, which became w′; its rows end at top
+pub record Onward (lay : Layout) (st : Settings) (q : Query) (path w w′ : List ℕ) (d lo hi from to : ℕ) (p : Progress)
+    (part : Part) (top : ℕ) : Type 0 where
+  pub node : Node lay st q path w d lo hi from to p
+  pub framed : Framed (slotOf lay w (lastOf path)) w w′
+  pub rise : part .«from» ≤ part .to
+  pub below : part .to ≤ slotOf lay w (suc (lastOf path))
+  pub holds : slice (part .«from») (part .to) w′ ≡ candidateList q path d
   pub on : true ≡ goes q path
+  pub rows : RowsKept lay q w′ top
 
--- as the decision was answered, the path's last rank read, and the candidates narrowed by it
-pub onward-read : {lay : Layout} {st : Settings} {q : Query} {path w w′ : List ℕ} {d lo hi from to : ℕ} {tally : Tally}
-    {part : Part} {b : Bool} {rank : ℕ} → Node lay st q path w d lo hi from to tally
-    → ((q : Query) (path : List ℕ) → NodeAt lay q path w d lo hi from to → q .rule ≡ st .rule → b ≡ goes q path) → not b ≡ false
+-- as the path's last rank was read, and the candidates narrowed by it
+pub onward-read : {lay : Layout} {st : Settings} {q : Query} {path w w′ : List ℕ} {d lo hi from to : ℕ} {p : Progress}
+    {part : Part} {rank : ℕ} → Node lay st q path w d lo hi from to p → true ≡ goes q path
     → ((q : Query) (path : List ℕ) → OnPath lay q path w lo (d - 1) → rank ≡ getD path (d - 1) 0)
     → ((q : Query) (path : List ℕ) → Candidates lay q path w d from to → rank ≡ lastOf path → Narrowed lay q path d w w′ part)
-    → Onward lay st q path w w′ d lo hi from to tally part
-onward-read {q = q} {path = path} node decided test read narrowed =
+    → Onward lay st q path w w′ d lo hi from to p part (p .top)
+onward-read {q = q} {path = path} node on read narrow =
+    let narrowed = narrow q path (node .at .candidates) (last-read (node .at) read) in
     record {
       node = node;
-      narrowed = narrowed q path (node .at .candidates) (last-read (node .at) read);
-      on = goes-on node decided test;
+      framed = record { size = narrowed .size; frame = narrowed .frame };
+      rise = narrowed .rise;
+      below = narrowed .below;
+      holds = narrowed .holds;
+      on = on;
+      rows = rows-framed (node .at .candidates .index .ground) (narrowed .rest) (node .rows);
     }
 
-module _ {lay : Layout} {st : Settings} {q : Query} {path w w′ : List ℕ} {d lo hi from to : ℕ} {tally : Tally} {part : Part}
-    (so : Onward lay st q path w w′ d lo hi from to tally part) where
+module _ {lay : Layout} {st : Settings} {q : Query} {path w w′ : List ℕ} {d lo hi from to : ℕ} {p : Progress} {part : Part}
+    {top : ℕ} (so : Onward lay st q path w w′ d lo hi from to p part top) where
   cands : Candidates lay q path w d from to
   cands = so .node .at .candidates
 
   index : Index lay q w
   index = cands .index
 
-  pub onward-framed : Framed (slotOf lay w (lastOf path)) w w′
-  onward-framed = record { size = so .narrowed .size; frame = so .narrowed .frame }
-
   low : lay .slots ≤ slotOf lay w (lastOf path)
   low = omega arith
 
+  slot-below : slotOf lay w (lastOf path) ≤ lay .«row_starts»
+  slot-below = slot-low index (cands .last)
+
   pub index-after : Index lay q w′
-  index-after = index-framed index onward-framed low
+  index-after = index-framed index (so .framed) low
+
+  pub part-below : part .to ≤ lay .«row_starts»
+  part-below = omega (arith, so .below, index .ground .slotWithin (lastOf path) (cands .last))
 
   part-inside : part .to ≤ length w′
-  part-inside = omega (arith, so .narrowed .below, slot-bound (index .ground) (lastOf path) (cands .last), so .narrowed .size)
+  part-inside = omega (arith, part-below, rows-inside index-after)
 
   pub after-length : length (slice (part .«from») (part .to) w′) ≡ part .to - part .«from»
   after-length = length-slice (part .«from») (part .to) w′ part-inside
 
-  pub after-few : part .to - part .«from» ≤ length (q .rights)
-  after-few = omega (arith, after-length, ap length (so .narrowed .holds), candidates-most q path d)
-
-  -- at the limit
-  pub node-limit : st .limit ≤ d → AtLimit lay st q path w′ d lo hi (part .«from») (part .to) tally
-  node-limit deepest =
-      record {
-        index = index-after;
-        underway = so .node .underway;
-        depth = cands .depth;
-        deep = cands .deep;
-        limit = omega (arith, so .node .underway .limit, so .node .at .within);
-        on = sym (so .on);
-        upto = omega (arith, so .node .at .some);
-        few = so .node .at .few;
-        begins =
-            subst (λ (l : List ℕ). Begin q path l) (sym (run-framed index onward-framed low lo hi (so .node .at .few)))
-            (node-rooted (so .node) .begin);
-        rise = so .narrowed .rise;
-        within = part-inside;
-        holds = so .narrowed .holds;
-      }
-
-  pub limit-visited : {r : Walked} → Visited q (st .budget) d (run lay w′ lo hi) tally r
-      → NodeVisited lay st q path w w′ d lo hi tally r
-  limit-visited {r} done =
-      record {
-        framed = onward-framed;
-        visited =
-            subst (λ (l : List ℕ). Visited q (st .budget) d l tally r) (run-framed index onward-framed low lo hi (so .node .at .few))
-            done;
-      }
-
   pub node-run : RunThere lay q w′ lo hi
   node-run = record { index = index-after; some = so .node .at .some; within = so .node .at .few }
+
+  same-run : run lay w′ lo hi ≡ run lay w lo hi
+  same-run = run-framed index (so .framed) low lo hi (so .node .at .few)
+
+  pub onward-begin : Begin q path (run lay w′ lo hi)
+  onward-begin = subst (λ (l : List ℕ). Begin q path l) (sym same-run) (node-rooted (so .node) .begin)
+
+  -- some rows more are kept
+  pub onward-kept : {w″ : List ℕ} {more : ℕ} → Framed (lay .«row_starts») w′ w″ → RowsKept lay q w″ more
+      → Onward lay st q path w w″ d lo hi from to p part more
+  onward-kept {w″} {more} above kept =
+      record {
+        node = so .node;
+        framed = framed-then slot-below (so .framed) above;
+        rise = so .rise;
+        below = so .below;
+        holds = frame-slice (part .«from») (part .to) (lay .«row_starts») w′ w″ part-below (above .frame) ∙ so .holds;
+        on = so .on;
+        rows = kept;
+      }
+
+  -- the left sets were visited, the rows ending at top
+  pub onward-visited : {r : Walked} → r .at .top ≡ top → Visited q (st .budget) d (run lay w′ lo hi) (p .tally) r
+      → NodeVisited lay st q path w w′ d lo hi (p .tally) r
+  onward-visited {r} is done =
+      record {
+        framed = so .framed;
+        visited = subst (λ (l : List ℕ). Visited q (st .budget) d l (p .tally) r) same-run done;
+        rows = λ calm. subst (RowsKept lay q w′) (sym is) (so .rows);
+      }
+
+  -- they were visited while only rows changed
+  pub limit-visited : {w″ : List ℕ} {r : Walked} → RunVisited lay q (st .budget) (lay .«row_starts») d w′ w″ lo hi (p .tally) r
+      → NodeVisited lay st q path w w″ d lo hi (p .tally) r
+  limit-visited {w″} {r} done =
+      record {
+        framed = framed-then slot-below (so .framed) (done .framed);
+        visited = subst (λ (l : List ℕ). Visited q (st .budget) d l (p .tally) r) same-run (done .visited);
+        rows = done .rows;
+      }
+
+-- the left sets of a node, its candidates narrowed
+pub onward-going : {lay : Layout} {st : Settings} {q : Query} {path w w′ : List ℕ} {d lo hi from to : ℕ} {p : Progress}
+    {part : Part} → Onward lay st q path w w′ d lo hi from to p part (p .top)
+    → Going lay st q path w′ d lo hi (part .«from») (part .to) p
+onward-going so =
+    record {
+      index = index-after so;
+      underway = so .node .underway;
+      rows = so .rows;
+      depth = so .node .at .candidates .depth;
+      deep = so .node .at .candidates .deep;
+      on = sym (so .on);
+      upto = omega (arith, so .node .at .some);
+      few = so .node .at .few;
+      begins = onward-begin so;
+      rise = so .rise;
+      below = part-below so;
+      holds = so .holds;
+    }
+
+-- at the limit
+pub node-limit : {lay : Layout} {st : Settings} {q : Query} {path w w′ : List ℕ} {d lo hi from to : ℕ} {p : Progress} {part : Part}
+    → Onward lay st q path w w′ d lo hi from to p part (p .top) → st .limit ≤ d
+    → AtLimit lay st q path w′ d lo hi (part .«from») (part .to) p
+node-limit so deepest =
+    record { going = onward-going so; limit = omega (arith, so .node .underway .limit, so .node .at .within) }

@@ -19,11 +19,12 @@ use Rattle.join_index.proofs.GroundLaws.{slot-bound}
 use Rattle.join_check.specs.Asking.{Index}
 use Rattle.join_check.specs.Runs.{run}
 use Rattle.join_check.specs.Checks.{RunsThere}
-use Rattle.join_check.specs.declared.Tally.{Tally}
+use Rattle.kept_rows.specs.Kept.{RowsKept}
 use Rattle.join_walk.specs.Rows.{goes}
 use Rattle.join_walk.specs.Narrowing.{Candidates, slotOf}
 use Rattle.join_walk.specs.Visiting.{Node, NodeAt, NodeVisited}
 use Rattle.join_walk.specs.Blocks.{Small, Blocked}
+use Rattle.join_walk.specs.declared.visit.Progress.{Progress}
 use Rattle.join_walk.specs.declared.visit.Settings.{Settings}
 use Rattle.join_walk.specs.declared.visit.Walked.{Walked}
 use Rattle.join_walk.proofs.RunLaws.{run-length}
@@ -32,8 +33,8 @@ use Rattle.join_walk.proofs.BlockLaws.{Begin, Rooted, runs-there, rows-
 use Rattle.join_walk.proofs.BlockVisits.{block-visited}
 use Rattle.join_walk.proofs.FrameLaws.{framed-none}
 
-module _ {lay : Layout} {st : Settings} {q : Query} {path w : List ℕ} {d lo hi from to : ℕ} {tally : Tally}
-    (node : Node lay st q path w d lo hi from to tally) where
+module _ {lay : Layout} {st : Settings} {q : Query} {path w : List ℕ} {d lo hi from to : ℕ} {p : Progress}
+    (node : Node lay st q path w d lo hi from to p) where
   cands : Candidates lay q path w d from to
   cands = node .at .candidates
 
@@ -78,7 +79,7 @@ module _ {lay : Layout} {st : Settings} {q : Query} {path w : List ℕ} {d lo hi
   pub stop-there : RunsThere lay q w (d - 1) lo hi from to
   stop-there = runs-there node-rooted index part-within (node .at .few) (cands .listing) (omega arith)
 
-  pub stop-small : Small (st .budget) lo hi from to tally
+  pub stop-small : Small (st .budget) lo hi from to (p .tally)
   stop-small =
       record {
         lefts = lefts-few;
@@ -88,11 +89,12 @@ module _ {lay : Layout} {st : Settings} {q : Query} {path w : List ℕ} {d lo hi
         covered = node .underway .budget;
       }
 
-  pub stop-visited : {r : Walked} → false ≡ goes q path → Blocked lay w (st .budget) (d - 1) lo hi from to tally r
-      → NodeVisited lay st q path w w d lo hi tally r
+  pub stop-visited : {r : Walked} → false ≡ goes q path → Blocked lay w (st .budget) (d - 1) lo hi from to p r
+      → NodeVisited lay st q path w w d lo hi (p .tally) r
   stop-visited {r} stop block =
       record {
         framed = framed-none (slotOf lay w (lastOf path)) w;
         visited = block-visited stop-there (run-length lay q w lo hi index (node .at .few)) (length-slice from to w part-within)
             (λ is met. rows-stop node-rooted (slice from to w) is met (sym stop) (cands .listing)) block;
+        rows = λ calm. subst (RowsKept lay q w) (sym (block .top)) (node .rows);
       }

@@ -13,19 +13,20 @@ use Rattle.join_index.specs.declared.Layout.{Layout}
 use Rattle.join_check.specs.Asking.{Index}
 use Rattle.join_check.specs.Runs.{run}
 use Rattle.join_check.specs.Counters.{checksIn}
-use Rattle.join_check.specs.declared.Tally.{Tally}
+use Rattle.kept_rows.specs.Kept.{RowsKept}
 use Rattle.join_check.proofs.Orders.{run-none}
 use Rattle.join_walk.specs.Narrowing.{SomePath}
 use Rattle.join_walk.specs.Visiting.{Visited, RunVisited}
+use Rattle.join_walk.specs.declared.visit.Progress.{Progress}
 use Rattle.join_walk.specs.declared.visit.Walked.{Walked}
 use Rattle.join_walk.proofs.RunLaws.{run-split}
 use Rattle.join_walk.proofs.VisitLaws.{added-none, visited-then, visited-early}
 use Rattle.join_walk.proofs.FrameLaws.{run-framed, framed-none, framed-then}
 
--- what remains to be visited, at depth d and up to place hi: with the words w, from place i on, the counters being r. Only words
--- from a path's slot on change
+-- what remains to be visited, at depth d and up to place hi: with the words w, from place i on, the walk being at p. Only words from
+-- a path's slot on change
 module _ (lay : Layout) (budget d hi : ℕ) (slot : List ℕ → List ℕ → ℕ)
-    (Rest : Query → List ℕ → List ℕ → ℕ → Tally → Type 0) where
+    (Rest : Query → List ℕ → List ℕ → ℕ → Progress → Type 0) where
   -- what each loop knows of the words
   pub record Facts (q : Query) (path w : List ℕ) : Type 0 where
     pub index : Index lay q w
@@ -33,32 +34,33 @@ module _ (lay : Layout) (budget d hi : ℕ) (slot : List ℕ → List ℕ → �
     pub slots : lay .slots ≤ slot path w
 
   -- the part up to place j was visited, and the words became w′
-  pub record PartDone (q : Query) (path w : List ℕ) (i : ℕ) (r : Tally) (w′ : List ℕ) (j : ℕ) (one : Walked) : Type 0 where
+  pub record PartDone (q : Query) (path w : List ℕ) (i : ℕ) (p : Progress) (w′ : List ℕ) (j : ℕ) (one : Walked) : Type 0 where
     pub facts : Facts q path w
-    pub visit : RunVisited lay q budget (slot path w) d w w′ i j r one
+    pub visit : RunVisited lay q budget (slot path w) d w w′ i j (p .tally) one
     pub steady : slot path w′ ≡ slot path w
-    pub next : one .spent ≡ false → Rest q path w′ j (one .tally)
+    pub next : one .spent ≡ false → Rest q path w′ j (one .at)
 
-  pub record Continuing (w₀ : List ℕ) (lo : ℕ) (tally : Tally) (w : List ℕ) (i : ℕ) (r : Tally) : Type 0 where
-    pub some : SomePath (λ q path. Rest q path w i r)
+  pub record Continuing (w₀ : List ℕ) (lo : ℕ) (p₀ : Progress) (w : List ℕ) (i : ℕ) (p : Progress) : Type 0 where
+    pub some : SomePath (λ q path. Rest q path w i p)
     pub size : length w ≡ length w₀
-    pub rest : (q : Query) (path : List ℕ) → Rest q path w₀ lo tally → Rest q path w i r
-    pub whole : (q : Query) (path : List ℕ) → Rest q path w₀ lo tally → (w′ : List ℕ) (one : Walked)
-        → RunVisited lay q budget (slot path w) d w w′ i hi r one → RunVisited lay q budget (slot path w₀) d w₀ w′ lo hi tally one
+    pub rest : (q : Query) (path : List ℕ) → Rest q path w₀ lo p₀ → Rest q path w i p
+    pub whole : (q : Query) (path : List ℕ) → Rest q path w₀ lo p₀ → (w′ : List ℕ) (one : Walked)
+        → RunVisited lay q budget (slot path w) d w w′ i hi (p .tally) one
+        → RunVisited lay q budget (slot path w₀) d w₀ w′ lo hi (p₀ .tally) one
 
-  pub continuing-start : {w : List ℕ} {lo : ℕ} {tally : Tally} → SomePath (λ q path. Rest q path w lo tally)
-      → Continuing w lo tally w lo tally
+  pub continuing-start : {w : List ℕ} {lo : ℕ} {p : Progress} → SomePath (λ q path. Rest q path w lo p)
+      → Continuing w lo p w lo p
   continuing-start some =
       record { some = some; size = refl; rest = λ q path left. left; whole = λ q path left w′ one done. done }
 
-module _ {lay : Layout} {budget d hi : ℕ} {slot : List ℕ → List ℕ → ℕ} {Rest : Query → List ℕ → List ℕ → ℕ → Tally → Type 0}
-    {w₀ : List ℕ} {lo : ℕ} {tally : Tally} {w : List ℕ} {i : ℕ} {r : Tally}
-    (so : Continuing lay budget d hi slot Rest w₀ lo tally w i r) where
+module _ {lay : Layout} {budget d hi : ℕ} {slot : List ℕ → List ℕ → ℕ} {Rest : Query → List ℕ → List ℕ → ℕ → Progress → Type 0}
+    {w₀ : List ℕ} {lo : ℕ} {p₀ : Progress} {w : List ℕ} {i : ℕ} {p : Progress}
+    (so : Continuing lay budget d hi slot Rest w₀ lo p₀ w i p) where
   -- a part, up to place j
   module _ {w′ : List ℕ} {j : ℕ} {one : Walked} (low : i ≤ j) (high : j ≤ hi)
-      (each : (q : Query) (path : List ℕ) → Rest q path w i r → PartDone lay budget d hi slot Rest q path w i r w′ j one) where
+      (each : (q : Query) (path : List ℕ) → Rest q path w i p → PartDone lay budget d hi slot Rest q path w i p w′ j one) where
     pub continuing-step : length w′ ≡ length w → one .spent ≡ false
-        → Continuing lay budget d hi slot Rest w₀ lo tally w′ j (one .tally)
+        → Continuing lay budget d hi slot Rest w₀ lo p₀ w′ j (one .at)
     continuing-step same calm =
         record {
           some = record {
@@ -75,16 +77,17 @@ module _ {lay : Layout} {budget d hi : ℕ} {slot : List ℕ → List ℕ → �
               (record {
                 framed = framed-then (omega (arith, part .steady)) (part .visit .framed) (done .framed);
                 visited =
-                    subst (λ (l : List ℕ). Visited q budget d l r two)
+                    subst (λ (l : List ℕ). Visited q budget d l (p .tally) two)
                     (sym (run-split lay q w i j hi (known .index) low high (known .few)))
                     (visited-then (part .visit .visited .added calm)
-                    (subst (λ (l : List ℕ). Visited q budget d l (one .tally) two)
+                    (subst (λ (l : List ℕ). Visited q budget d l (one .at .tally) two)
                     (run-framed (known .index) (part .visit .framed) (known .slots) j hi (known .few)) (done .visited)));
+                rows = done .rows;
               });
         }
 
-    pub continuing-spent : one .spent ≡ true → (q : Query) (path : List ℕ) → Rest q path w₀ lo tally
-        → RunVisited lay q budget (slot path w₀) d w₀ w′ lo hi tally one
+    pub continuing-spent : one .spent ≡ true → (q : Query) (path : List ℕ) → Rest q path w₀ lo p₀
+        → RunVisited lay q budget (slot path w₀) d w₀ w′ lo hi (p₀ .tally) one
     continuing-spent spent q path first =
         let part = each q path (so .rest q path first) in
         let known = part .facts in
@@ -92,16 +95,19 @@ module _ {lay : Layout} {budget d hi : ℕ} {slot : List ℕ → List ℕ → �
         (record {
           framed = part .visit .framed;
           visited =
-              subst (λ (l : List ℕ). Visited q budget d l r one)
+              subst (λ (l : List ℕ). Visited q budget d l (p .tally) one)
               (sym (run-split lay q w i j hi (known .index) low high (known .few)))
               (visited-early (run lay w j hi) spent (part .visit .visited));
+          rows = part .visit .rows;
         })
 
   -- no part remains
-  pub continuing-end : hi ≤ i → checksIn r ≤ budget → (q : Query) (path : List ℕ) → Rest q path w₀ lo tally
-      → RunVisited lay q budget (slot path w₀) d w₀ w lo hi tally (record { tally = r; spent = false })
-  continuing-end past covered q path first =
-      so .whole q path first w (record { tally = r; spent = false })
+  pub continuing-end : hi ≤ i → checksIn (p .tally) ≤ budget
+      → ((q : Query) (path : List ℕ) → Rest q path w i p → RowsKept lay q w (p .top)) → (q : Query) (path : List ℕ)
+      → Rest q path w₀ lo p₀
+      → RunVisited lay q budget (slot path w₀) d w₀ w lo hi (p₀ .tally) (record { at = p; spent = false })
+  continuing-end past covered kept q path first =
+      so .whole q path first w (record { at = p; spent = false })
       (record {
         framed = framed-none (slot path w) w;
         visited = record {
@@ -109,4 +115,5 @@ module _ {lay : Layout} {budget d hi : ℕ} {slot : List ℕ → List ℕ → �
           within = λ calm. covered;
           beyond = λ spent. true-false spent refl;
         };
+        rows = λ calm. kept q path (so .rest q path first);
       })

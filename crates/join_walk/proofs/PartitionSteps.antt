@@ -20,6 +20,7 @@ use Rattle.join_check.specs.declared.Tally.{Tally}
 use Rattle.join_check.proofs.Orders.{run-key}
 use Rattle.join_walk.specs.Visiting.{Node, NodeVisited, PartVisited}
 use Rattle.join_walk.specs.Partitions.{Partitions, Partition}
+use Rattle.join_walk.specs.declared.visit.Progress.{Progress}
 use Rattle.join_walk.specs.declared.visit.Settings.{Settings}
 use Rattle.join_walk.specs.declared.visit.Walked.{Walked}
 use Rattle.join_walk.proofs.Narrowing.{listing-same}
@@ -30,8 +31,8 @@ use Rattle.join_walk.proofs.ChildSteps.{childRank, first-child, kids-ne
 use Rattle.join_walk.proofs.FrameLaws.{framed-lower}
 
 -- a partition as a node of depth 1
-module _ {lay : Layout} {st : Settings} {q : Query} {w : List ℕ} {lo hi : ℕ} {tally : Tally} {r : ℕ}
-    (part : Partition lay st q w lo hi tally r) where
+module _ {lay : Layout} {st : Settings} {q : Query} {w : List ℕ} {lo hi : ℕ} {p : Progress} {r : ℕ}
+    (part : Partition lay st q w lo hi p r) where
   pub partition-run : RunThere lay q w lo hi
   partition-run = record { index = part .index; some = part .some; within = part .few }
 
@@ -54,7 +55,7 @@ module _ {lay : Layout} {st : Settings} {q : Query} {w : List ℕ} {lo hi : ℕ}
   seen-word is word = word .is ∙ ap (λ (n : ℕ). getD w (lay .«least_offsets» + n) 0) is
 
   pub partition-node : {seen : ℕ} → seen ≡ seenCount lay w r
-      → Node lay st q (r ∷ []) w 1 lo hi (lay .«by_least») (lay .«by_least» + seen) tally
+      → Node lay st q (r ∷ []) w 1 lo hi (lay .«by_least») (lay .«by_least» + seen) p
   unfolding isCandidate all
   partition-node {seen = count} is =
       record {
@@ -81,20 +82,21 @@ module _ {lay : Layout} {st : Settings} {q : Query} {w : List ℕ} {lo hi : ℕ}
           lefts = part .lefts;
         };
         underway = part .underway;
+        rows = part .rows;
       }
 
 -- its visit as that of a partition
 pub partition-visited : {lay : Layout} (st : Settings) {q : Query} (r : ℕ) {w w′ : List ℕ} {lo hi : ℕ} {tally : Tally}
     {one : Walked}
     → NodeVisited lay st q (r ∷ []) w w′ 1 lo hi tally one → PartVisited lay st q w w′ lo hi tally one
-partition-visited st r done = record { framed = framed-lower (omega arith) (done .framed); visited = done .visited }
+partition-visited st r done = record { framed = framed-lower (omega arith) (done .framed); visited = done .visited; rows = done .rows }
 
 -- the first of the partitions, visited, as a part of them
-pub partitions-done : {lay : Layout} {st : Settings} {w w′ : List ℕ} {i j hi : ℕ} {tally : Tally} {one : Walked} → i < hi
+pub partitions-done : {lay : Layout} {st : Settings} {w w′ : List ℕ} {i j hi : ℕ} {p : Progress} {one : Walked} → i < hi
     → RunEnd lay w 0 i hi j
-    → ((q : Query) (r : ℕ) → Partition lay st q w i j tally r → PartVisited lay st q w w′ i j tally one)
-    → (q : Query) (path : List ℕ) → Partitions lay st q w i hi tally
-    → PartDone lay (st .budget) 1 hi (λ path w. lay .slots) (λ q path w i r. Partitions lay st q w i hi r) q path w i tally w′
+    → ((q : Query) (r : ℕ) → Partition lay st q w i j p r → PartVisited lay st q w w′ i j (p .tally) one)
+    → (q : Query) (path : List ℕ) → Partitions lay st q w i hi p
+    → PartDone lay (st .budget) 1 hi (λ path w. lay .slots) (λ q path w i r. Partitions lay st q w i hi r) q path w i p w′
     j one
 partitions-done more end each q path parts =
     let visit = each q (childRank parts more) (first-child parts more end) in

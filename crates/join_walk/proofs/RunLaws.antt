@@ -1,5 +1,5 @@
--- Runs of left sets in the order: how many there are, their two parts, where a run is cut by a test, and that a node's left
--- sets begin with its path.
+-- Runs of left sets in the order: how many there are, their two parts, a run of one, where a run is cut by a test, and that a
+-- node's left sets begin with its path.
 use Prim.Native.Nat.{ℕ, suc, _+_, _-_, _≤_}
 use mathlib.Core.Path.{_≡_, sym, ap, subst, _∙_}
 use mathlib.Core.List.{List, [], _∷_, _++_}
@@ -17,7 +17,7 @@ use Rattle.join_index.specs.Grouping.{leftAt, orderFrom}
 use Rattle.join_index.specs.declared.Layout.{Layout}
 use Rattle.join_check.specs.Asking.{Index, RunThere}
 use Rattle.join_check.specs.Runs.{run, lead, leftIn}
-use Rattle.join_check.proofs.Orders.{order-within, run-split as run-split-within, run-first, lead-pass, lead-fail, lead-nil}
+use Rattle.join_check.proofs.Orders.{order-within, run-split as run-split-within, run-first, run-none, lead-pass, lead-fail, lead-nil}
 use Rattle.join_walk.specs.Visiting.{beginners}
 use Rattle.join_walk.proofs.Groups.{first-of}
 
@@ -33,6 +33,12 @@ pub run-split : (lay : Layout) (q : Query) (w : List ℕ) (lo mid hi : ℕ) → 
     → run lay w lo hi ≡ run lay w lo mid ++ run lay w mid hi
 run-split lay q w lo mid hi index low high few =
     run-split-within lay w lo mid hi low high (omega (arith, order-within index))
+
+-- a run of one left set
+pub run-one : {lay : Layout} {q : Query} {w : List ℕ} {lo hi : ℕ} → RunThere lay q w lo hi → hi ≡ lo + 1
+    → run lay w lo hi ≡ leftIn lay w lo ∷ []
+run-one {lay} {q} {w} {lo} {hi} there one =
+    run-first there ∙ ap (λ (l : List ℕ). leftIn lay w lo ∷ l) (run-none lay w (lo + 1) hi (omega arith))
 
 -- the first of the left sets that begin with a path begins with it
 pub begins-first : {lay : Layout} {q : Query} {w : List ℕ} {lo hi : ℕ} (path : List ℕ) (d : ℕ) → RunThere lay q w lo hi

@@ -11,6 +11,7 @@ use lib.Dec.{eqb}
 use lib.ListN.{length}
 use Rattle.lists.specs.Lists.{keep, prefix, range, slice, sum, upto}
 use Rattle.lists.proofs.Bools.{true-false}
+use Rattle.lists.proofs.Slices.{frame-less}
 use Rattle.lists.proofs.Summing.{sum-same, sum-append, sum-same-where}
 use Rattle.sets.specs.Limits.{maxSets, maxPairs}
 use Rattle.join_spec.specs.Query.{Query}
@@ -24,6 +25,9 @@ use Rattle.join_check.specs.Asking.{Index, RunThere}
 use Rattle.join_check.specs.Runs.{run}
 use Rattle.join_check.specs.Counters.{counter, checksIn}
 use Rattle.join_check.specs.declared.Tally.{Tally}
+use Rattle.kept_rows.specs.Kept.{RowsKept}
+use Rattle.kept_rows.specs.Keeping.{Cleared}
+use Rattle.kept_rows.proofs.RowLaws.{index-kept}
 use Rattle.join_walk.specs.Rows.{row, pathPairs}
 use Rattle.join_walk.specs.Visiting.{Merged, PartVisited, beginners}
 use Rattle.join_walk.specs.Blocks.{MergedEnd}
@@ -46,9 +50,9 @@ keep-every q (x ∷ xs) = ap (λ (l : List ℕ). x ∷ l) (keep-every q xs)
 -- a walk over no left sets
 pub walk-none : {lay : Layout} {st : Settings} {q : Query} {w : List ℕ} {lefts rights : ℕ} → WalkReady lay st q w lefts rights
     → lefts ≡ 0
-    → {none : Tally} → ((kind : Kind) → counter kind none ≡ 0)
-    → WalkDone lay q (st .budget) w w (record { tally = none; spent = false })
-walk-none {lay} {st} {q} {w} ready gone zero =
+    → {none : Tally} {top : ℕ} → ((kind : Kind) → counter kind none ≡ 0) → RowsKept lay q w top
+    → WalkDone lay q (st .budget) w w (record { at = record { tally = none; top = top }; spent = false })
+walk-none {lay} {st} {q} {w} ready gone zero kept =
     let nothing : (is : Outcome → Bool) → total is q ≡ 0 = λ is. total-nil is (ready .leftCount ∙ gone) in
     record {
       framed = framed-none (lay .slots) w;
@@ -57,6 +61,7 @@ walk-none {lay} {st} {q} {w} ready gone zero =
         within = λ calm. omega (arith, nothing isCheck);
         beyond = λ spent. true-false spent refl;
       };
+      rows = λ calm. kept;
     }
   where
     total-nil : (is : Outcome → Bool) → length (q .lefts) ≡ 0 → total is q ≡ 0
@@ -115,8 +120,8 @@ module _ {lay : Layout} {st : Settings} {q : Query} {w : List ℕ} {lefts rights
       no-checks : checksIn m ≡ 0
       no-checks = merged-checks merged ∙ no-pairs checkKinds
 
-      pub walk-partitions : Partitions lay st q w mid lefts m
-      walk-partitions =
+      pub walk-partitions : {top : ℕ} → RowsKept lay q w top → Partitions lay st q w mid lefts (record { tally = m; top = top })
+      walk-partitions kept =
           record {
             index = index;
             underway = record {
@@ -138,6 +143,7 @@ module _ {lay : Layout} {st : Settings} {q : Query} {w : List ℕ} {lefts rights
                         (omega (arith, few, index .ground .leftFew, ready .leftCount)) (index .ground .rightFew),
                   );
             };
+            rows = kept;
             depth = refl;
             within = ready .some;
             upto = end .high;
@@ -182,4 +188,36 @@ module _ {lay : Layout} {st : Settings} {q : Query} {w : List ℕ} {lefts rights
                   omega (arith, part .visited .within calm, checks-added (part .visited .added calm), no-checks, checks);
               beyond = λ spent. omega (arith, part .visited .beyond spent, no-checks, checks);
             };
+            rows = part .rows;
           }
+
+-- no row is kept before it
+module _ {lay : Layout} {st : Settings} {q : Query} {w w′ : List ℕ} {lefts rights : ℕ} (ready : WalkReady lay st q w lefts rights)
+    (cleared : Cleared lay w lefts w′) where
+  pub ready-cleared : WalkReady lay st q w′ lefts rights
+  ready-cleared =
+      record {
+        index = index-kept (cleared .frame) (cleared .size) (ready .index);
+        limit = ready .limit;
+        shallow = ready .shallow;
+        rule = ready .rule;
+        some = ready .some;
+        leftCount = ready .leftCount;
+        rightCount = ready .rightCount;
+      }
+
+  pub rows-cleared : RowsKept lay q w′ (lay .rows)
+  rows-cleared = cleared .rows q (record { index = ready .index; leftCount = ready .leftCount })
+
+  pub done-cleared : {budget : ℕ} {w″ : List ℕ} {r : Walked} → WalkDone lay q budget w′ w″ r → WalkDone lay q budget w w″ r
+  done-cleared {w″ = w″} done =
+      record {
+        framed = record {
+          size = done .framed .size ∙ cleared .size;
+          frame =
+              done .framed .frame
+              ∙ frame-less (lay .slots) (lay .«row_starts») w w′ (ready .index .ground .slotsBelow) (cleared .frame);
+        };
+        counted = done .counted;
+        rows = done .rows;
+      }

@@ -3,4 +3,5 @@ pub mod Rows
 pub mod Narrowing
 pub mod Visiting
 pub mod Blocks
+pub mod Entering
 pub mod Partitions

@@ -3,7 +3,7 @@
 use Prim.Native.Nat.{ℕ, suc, _+_, _-_, _≤_, _<_}
 use mathlib.Core.Path.{_≡_}
 use mathlib.Core.List.{List}
-use lib.ListN.{length, take}
+use lib.ListN.{length, take, drop}
 use Rattle.lists.specs.Lists.{keep, upto, slice}
 use Rattle.join_spec.specs.Query.{Query}
 use Rattle.join_spec.specs.Node.{lastOf}
@@ -40,10 +40,11 @@ pub record Candidates (lay : Layout) (q : Query) (path w : List ℕ) (d lo hi : 
   pub listing : Listing (length (q .rights)) (λ s. isCandidate (d - 1) path (rightAt q s)) (slice lo hi w)
   pub sorted : 1 < d → slice lo hi w ≡ candidateList q path (d - 1)
 
--- the candidates after the node: its path's last rank is rank, and w became w′
+-- the candidates after the node, and w became w′: the kept rows are as they were
 pub record Narrowed (lay : Layout) (q : Query) (path : List ℕ) (d : ℕ) (w w′ : List ℕ) (part : Part) : Type 0 where
   pub size : length w′ ≡ length w
   pub frame : take (slotOf lay w (lastOf path)) w′ ≡ take (slotOf lay w (lastOf path)) w
   pub rise : part .«from» ≤ part .to
   pub below : part .to ≤ slotOf lay w (suc (lastOf path))
+  pub rest : drop (lay .«row_starts») w′ ≡ drop (lay .«row_starts») w
   pub holds : slice (part .«from») (part .to) w′ ≡ candidateList q path d

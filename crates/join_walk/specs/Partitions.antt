@@ -12,14 +12,15 @@ use Rattle.join_spec.specs.Kinds.{Kind, isOf}
 use Rattle.join_index.specs.declared.Layout.{Layout}
 use Rattle.join_check.specs.Asking.{Index}
 use Rattle.join_check.specs.Counters.{counter}
-use Rattle.join_check.specs.declared.Tally.{Tally}
+use Rattle.kept_rows.specs.Kept.{RowsKept}
 use Rattle.join_walk.specs.Visiting.{Child, Children, Framed}
+use Rattle.join_walk.specs.declared.visit.Progress.{Progress}
 use Rattle.join_walk.specs.declared.visit.Settings.{Settings}
 use Rattle.join_walk.specs.declared.visit.Walked.{Walked}
 
 -- one partition: the left sets at the places lo up to hi of the order are those with a first rank r
-abbrev pub Partition : Layout → Settings → Query → List ℕ → ℕ → ℕ → Tally → ℕ → Type 0
-Partition lay st q w lo hi tally r = Child lay st q (r ∷ []) w 1 lo hi tally
+abbrev pub Partition : Layout → Settings → Query → List ℕ → ℕ → ℕ → Progress → ℕ → Type 0
+Partition lay st q w lo hi p r = Child lay st q (r ∷ []) w 1 lo hi p
 
 -- there are a query and a rank of which it holds
 pub record SomeRank (P : Query → ℕ → Type 0) : Type 0 where
@@ -28,8 +29,8 @@ pub record SomeRank (P : Query → ℕ → Type 0) : Type 0 where
   pub holds : P query rank
 
 -- partitions: the children of the path without ranks
-abbrev pub Partitions : Layout → Settings → Query → List ℕ → ℕ → ℕ → Tally → Type 0
-Partitions lay st q w lo hi tally = Children lay st q [] w 0 lo hi tally
+abbrev pub Partitions : Layout → Settings → Query → List ℕ → ℕ → ℕ → Progress → Type 0
+Partitions lay st q w lo hi p = Children lay st q [] w 0 lo hi p
 
 -- the walk can begin
 pub record WalkReady (lay : Layout) (st : Settings) (q : Query) (w : List ℕ) (lefts rights : ℕ) : Type 0 where
@@ -43,7 +44,7 @@ pub record WalkReady (lay : Layout) (st : Settings) (q : Query) (w : List ℕ) (
 
 -- the counter of each kind is the query's count, within the budget; or the checks of the whole walk pass it
 pub record QueryCounted (q : Query) (budget : ℕ) (r : Walked) : Type 0 where
-  pub counts : r .spent ≡ false → (kind : Kind) → counter kind (r .tally) ≡ total (isOf kind) q
+  pub counts : r .spent ≡ false → (kind : Kind) → counter kind (r .at .tally) ≡ total (isOf kind) q
   pub within : r .spent ≡ false → total isCheck q ≤ budget
   pub beyond : r .spent ≡ true → budget < total isCheck q
 
@@ -51,3 +52,4 @@ pub record QueryCounted (q : Query) (budget : ℕ) (r : Walked) : Type 0 where
 pub record WalkDone (lay : Layout) (q : Query) (budget : ℕ) (w w′ : List ℕ) (r : Walked) : Type 0 where
   pub framed : Framed (lay .slots) w w′
   pub counted : QueryCounted q budget r
+  pub rows : r .spent ≡ false → RowsKept lay q w′ (r .at .top)

@@ -1,5 +1,5 @@
 -- Inner: what is known at a node when it is visited, and what a visit answers: the counters with the rows of the node's left sets
--- added, or that the checks would pass the budget.
+-- added, and the rows that are kept, or that the checks would pass the budget.
 use Prim.Native.Nat.{ℕ, suc, _+_, _-_, _*_, _≤_, _<_}
 use mathlib.Core.Path.{_≡_}
 use mathlib.Core.List.{List}
@@ -17,8 +17,10 @@ use Rattle.join_check.specs.Asking.{Index}
 use Rattle.join_check.specs.Runs.{run, leftIn}
 use Rattle.join_check.specs.Counters.{checksIn, pairsIn, Tallied}
 use Rattle.join_check.specs.declared.Tally.{Tally}
+use Rattle.kept_rows.specs.Kept.{RowsKept}
 use Rattle.join_walk.specs.Rows.{row, pathPairs}
 use Rattle.join_walk.specs.Narrowing.{Candidates, candidateList, slotOf}
+use Rattle.join_walk.specs.declared.visit.Progress.{Progress}
 use Rattle.join_walk.specs.declared.visit.Settings.{Settings}
 use Rattle.join_walk.specs.declared.visit.Walked.{Walked}
 
@@ -50,14 +52,16 @@ pub record NodeAt (lay : Layout) (q : Query) (path w : List ℕ) (d lo hi from t
   pub lefts : run lay w lo hi ≡ beginners q path d
 
 -- a node that is to be visited
-pub record Node (lay : Layout) (st : Settings) (q : Query) (path w : List ℕ) (d lo hi from to : ℕ) (tally : Tally) : Type 0 where
+pub record Node (lay : Layout) (st : Settings) (q : Query) (path w : List ℕ) (d lo hi from to : ℕ) (p : Progress) : Type 0 where
   pub at : NodeAt lay q path w d lo hi from to
-  pub underway : Underway st q tally (hi - lo)
+  pub underway : Underway st q (p .tally) (hi - lo)
+  pub rows : RowsKept lay q w (p .top)
 
 -- the left sets at the places lo up to hi begin with a path of d ranks: those of a child, or of a partition
-pub record Child (lay : Layout) (st : Settings) (q : Query) (path w : List ℕ) (d lo hi : ℕ) (tally : Tally) : Type 0 where
+pub record Child (lay : Layout) (st : Settings) (q : Query) (path w : List ℕ) (d lo hi : ℕ) (p : Progress) : Type 0 where
   pub index : Index lay q w
-  pub underway : Underway st q tally (hi - lo)
+  pub underway : Underway st q (p .tally) (hi - lo)
+  pub rows : RowsKept lay q w (p .top)
   pub depth : length path ≡ d
   pub within : d ≤ q .limit
   pub last : lastOf path < q .T
@@ -67,9 +71,10 @@ pub record Child (lay : Layout) (st : Settings) (q : Query) (path w : List ℕ) 
 
 -- the left sets at the places lo up to hi go on after a path of d ranks and stand by their next rank, from the least key on; the
 -- partitions are the children of the path without ranks
-pub record Children (lay : Layout) (st : Settings) (q : Query) (path w : List ℕ) (d lo hi : ℕ) (tally : Tally) : Type 0 where
+pub record Children (lay : Layout) (st : Settings) (q : Query) (path w : List ℕ) (d lo hi : ℕ) (p : Progress) : Type 0 where
   pub index : Index lay q w
-  pub underway : Underway st q tally (hi - lo)
+  pub underway : Underway st q (p .tally) (hi - lo)
+  pub rows : RowsKept lay q w (p .top)
   pub depth : length path ≡ d
   pub within : d < q .limit
   pub upto : lo ≤ hi
@@ -90,8 +95,8 @@ pub record After (lay : Layout) (q : Query) (path w : List ℕ) (d from to : ℕ
 
 -- the children of a node that are to be visited
 pub record ChildrenAt (lay : Layout) (st : Settings) (q : Query) (path w : List ℕ) (d lo hi from to : ℕ)
-    (tally : Tally) : Type 0 where
-  pub kids : Children lay st q path w d lo hi tally
+    (p : Progress) : Type 0 where
+  pub kids : Children lay st q path w d lo hi p
   pub after : After lay q path w d from to
 
 -- the counters became r with the rows of the left sets, their walk being at depth d
@@ -104,8 +109,8 @@ pub record Merged (m c : ℕ) (tally r : Tally) : Type 0 where
 
 -- the answer of a visit of these left sets: all their rows were added within the budget, or their checks pass it
 pub record Visited (q : Query) (budget d : ℕ) (lefts : List ℕ) (tally : Tally) (r : Walked) : Type 0 where
-  pub added : r .spent ≡ false → Added q d lefts tally (r .tally)
-  pub within : r .spent ≡ false → checksIn (r .tally) ≤ budget
+  pub added : r .spent ≡ false → Added q d lefts tally (r .at .tally)
+  pub within : r .spent ≡ false → checksIn (r .at .tally) ≤ budget
   pub beyond : r .spent ≡ true → budget < checksIn tally + sum (row isCheck q d) lefts
 
 -- w became w′: only words from a slot on may differ
@@ -113,11 +118,13 @@ pub record Framed (slot : ℕ) (w w′ : List ℕ) : Type 0 where
   pub size : length w′ ≡ length w
   pub frame : take slot w′ ≡ take slot w
 
--- the left sets at the places lo up to hi were visited at depth d: only words from a slot on changed, and their rows were added
+-- the left sets at the places lo up to hi were visited at depth d: only words from a slot on changed, their rows were added, and the
+-- rows that are kept end at the new top
 pub record RunVisited (lay : Layout) (q : Query) (budget slot d : ℕ) (w w′ : List ℕ) (lo hi : ℕ) (tally : Tally)
     (r : Walked) : Type 0 where
   pub framed : Framed slot w w′
   pub visited : Visited q budget d (run lay w lo hi) tally r
+  pub rows : r .spent ≡ false → RowsKept lay q w′ (r .at .top)
 
 -- a node was visited: only slots of its last rank and beyond changed
 abbrev pub NodeVisited : Layout → Settings → Query → List ℕ → List ℕ → List ℕ → ℕ → ℕ → ℕ → Tally → Walked → Type 0

@@ -1,12 +1,8 @@
 // The visit of a node and of its children: node visit calls the child loop, which calls node visit, and the limit less the
 // depth falls.
-use crate::blocks::add_paths;
 use crate::blocks::check_block;
-use crate::blocks::finish;
-use crate::blocks::merged_end;
 use crate::decide::decide;
-use crate::decide::rank_on;
-use crate::narrow::narrow;
+use crate::enter::enter_node;
 use join_check::Tally;
 use join_check::keys::run_end;
 use join_index::Layout;
@@ -25,9 +21,15 @@ pub struct Settings {
     pub budget: u32,
 }
 
-// The counters after a part of the walk, and whether it stopped because the next checks would have passed the budget.
-pub struct Walked {
+// How far the walk has come: its counters, and where the rows end that it has kept.
+pub struct Progress {
     pub tally: Tally,
+    pub top: usize,
+}
+
+// How far the walk has come after a part of it, and whether it stopped because the next checks would have passed the budget.
+pub struct Walked {
+    pub at: Progress,
     pub spent: bool,
 }
 
@@ -43,35 +45,30 @@ pub fn visit_node(
     hi: usize,
     from: usize,
     to: usize,
-    tally: Tally,
+    p: Progress,
 ) -> Walked
-    requires { ⌜ SomePath (λ q path. Node lay st q path (now work) d lo hi from to tally) ⌝ }
+    requires { ⌜ SomePath (λ q path. Node lay st q path (now work) d lo hi from to p) ⌝ }
     requires { ⌜ Clear (now flags) ⌝ }
-    ensures visited { λ r. ⌜ ((q : Query) (path : List ℕ) → Node lay st q path (now (work .entry)) d lo hi from to tally
-        → NodeVisited lay st q path (now (work .entry)) (now (work .exit)) d lo hi tally r) ⌝ }
+    ensures visited { λ r. ⌜ ((q : Query) (path : List ℕ) → Node lay st q path (now (work .entry)) d lo hi from to p
+        → NodeVisited lay st q path (now (work .entry)) (now (work .exit)) d lo hi (p .tally) r) ⌝ }
     ensures clear { λ _. ⌜ Clear (now (flags .exit)) ⌝ }
 {
-    let limit = st.limit;
     let rule = st.rule;
     if !decide(work, lay, rule, d, lo, hi, from, to) {
-        return check_block(work, lay, st, d, d - 1, lo, hi, from, to, tally);
+        return check_block(work, lay, st, d, d - 1, lo, hi, from, to, p);
     }
-    let rank = rank_on(work, lay, lo, d - 1);
-    let part = narrow(work, flags, lay, d, rank, from, to);
-    let first = part.from;
-    let last = part.to;
-    if limit <= d {
-        return finish(work, lay, st, d, lo, hi, first, last, tally);
-    }
-    let mid = merged_end(work, lay, d, lo, hi);
-    let merged = add_paths(tally, mid - lo, last - first);
+    let on = enter_node(work, flags, lay, st, d, lo, hi, from, to, p);
+    let at = on.at;
+    let mid = on.mid;
+    let first = on.from;
+    let last = on.to;
     if hi <= mid {
         return Walked {
-            tally: merged,
-            spent: false,
+            at: at,
+            spent: on.spent,
         };
     }
-    visit_children(work, flags, lay, st, d, mid, hi, first, last, merged)
+    visit_children(work, flags, lay, st, d, mid, hi, first, last, at)
 }
 
 // Visits the children of a node of d ranks: the left sets at the places lo up to hi go on after its path, and the words
@@ -86,15 +83,15 @@ pub fn visit_children(
     hi: usize,
     from: usize,
     to: usize,
-    tally: Tally,
+    p: Progress,
 ) -> Walked
-    requires { ⌜ SomePath (λ q path. ChildrenAt lay st q path (now work) d lo hi from to tally) ⌝ }
+    requires { ⌜ SomePath (λ q path. ChildrenAt lay st q path (now work) d lo hi from to p) ⌝ }
     requires { ⌜ Clear (now flags) ⌝ }
-    ensures visited { λ r. ⌜ ((q : Query) (path : List ℕ) → ChildrenAt lay st q path (now (work .entry)) d lo hi from to tally
-        → ChildrenVisited lay st q path (now (work .entry)) (now (work .exit)) d lo hi tally r) ⌝ }
+    ensures visited { λ r. ⌜ ((q : Query) (path : List ℕ) → ChildrenAt lay st q path (now (work .entry)) d lo hi from to p
+        → ChildrenVisited lay st q path (now (work .entry)) (now (work .exit)) d lo hi (p .tally) r) ⌝ }
     ensures clear { λ _. ⌜ Clear (now (flags .exit)) ⌝ }
 {
-    let mut r = tally;
+    let mut r = p;
     let mut i = lo;
     while i < hi {
         let j = run_end(work, lay, d, i, hi);
@@ -102,11 +99,11 @@ pub fn visit_children(
         if one.spent {
             return one;
         }
-        r = one.tally;
+        r = one.at;
         i = j;
     }
     Walked {
-        tally: r,
+        at: r,
         spent: false,
     }
 }

@@ -1,6 +1,7 @@
 // The whole walk: partition by partition in rank order, each with the right sets seen at its rank.
 use crate::blocks::add_paths;
 use crate::blocks::merged_end;
+use crate::visit::Progress;
 use crate::visit::Settings;
 use crate::visit::Walked;
 use crate::visit::visit_node;
@@ -8,6 +9,7 @@ use join_check::Tally;
 use join_check::keys::key_at;
 use join_check::keys::run_end;
 use join_index::Layout;
+use kept_rows::rows::clear_rows;
 use word_lists::words::word_at;
 ghost use Prim.Native.Nat.{ℕ};
 ghost use Rattle.join_spec.specs.Query.{Query};
@@ -25,12 +27,12 @@ fn visit_partition(
     st: Settings,
     lo: usize,
     hi: usize,
-    tally: Tally,
+    p: Progress,
 ) -> Walked
-    requires { ⌜ SomeRank (λ q r. Partition lay st q (now work) lo hi tally r) ⌝ }
+    requires { ⌜ SomeRank (λ q r. Partition lay st q (now work) lo hi p r) ⌝ }
     requires { ⌜ Clear (now flags) ⌝ }
-    ensures visited { λ one. ⌜ ((q : Query) (r : ℕ) → Partition lay st q (now (work .entry)) lo hi tally r
-        → PartVisited lay st q (now (work .entry)) (now (work .exit)) lo hi tally one) ⌝ }
+    ensures visited { λ one. ⌜ ((q : Query) (r : ℕ) → Partition lay st q (now (work .entry)) lo hi p r
+        → PartVisited lay st q (now (work .entry)) (now (work .exit)) lo hi (p .tally) one) ⌝ }
     ensures clear { λ _. ⌜ Clear (now (flags .exit)) ⌝ }
 {
     let order = lay.order;
@@ -39,7 +41,7 @@ fn visit_partition(
     let k = word_at(work, order + lo);
     let key = key_at(work, lay, k, 0);
     let seen = word_at(work, offsets + key);
-    visit_node(work, flags, lay, st, 1, lo, hi, first, first + seen, tally)
+    visit_node(work, flags, lay, st, 1, lo, hi, first, first + seen, p)
 }
 
 // Visits the partitions of the left sets at the places lo up to hi of the order.
@@ -50,15 +52,15 @@ fn visit_partitions(
     st: Settings,
     lo: usize,
     hi: usize,
-    tally: Tally,
+    p: Progress,
 ) -> Walked
-    requires { ⌜ Some (λ q. Partitions lay st q (now work) lo hi tally) ⌝ }
+    requires { ⌜ Some (λ q. Partitions lay st q (now work) lo hi p) ⌝ }
     requires { ⌜ Clear (now flags) ⌝ }
-    ensures visited { λ r. ⌜ ((q : Query) → Partitions lay st q (now (work .entry)) lo hi tally
-        → PartVisited lay st q (now (work .entry)) (now (work .exit)) lo hi tally r) ⌝ }
+    ensures visited { λ r. ⌜ ((q : Query) → Partitions lay st q (now (work .entry)) lo hi p
+        → PartVisited lay st q (now (work .entry)) (now (work .exit)) lo hi (p .tally) r) ⌝ }
     ensures clear { λ _. ⌜ Clear (now (flags .exit)) ⌝ }
 {
-    let mut r = tally;
+    let mut r = p;
     let mut i = lo;
     while i < hi {
         let j = run_end(work, lay, 0, i, hi);
@@ -66,11 +68,11 @@ fn visit_partitions(
         if one.spent {
             return one;
         }
-        r = one.tally;
+        r = one.at;
         i = j;
     }
     Walked {
-        tally: r,
+        at: r,
         spent: false,
     }
 }
@@ -96,13 +98,22 @@ pub fn walk(
         dropped: 0,
         false_drops: 0,
     };
+    clear_rows(work, lay, lefts);
+    let top = lay.rows;
     if lefts == 0 {
         return Walked {
-            tally: none,
+            at: Progress {
+                tally: none,
+                top: top,
+            },
             spent: false,
         };
     }
     let mid = merged_end(work, lay, 0, 0, lefts);
     let merged = add_paths(none, mid, rights);
-    visit_partitions(work, flags, lay, st, mid, lefts, merged)
+    let begun = Progress {
+        tally: merged,
+        top: top,
+    };
+    visit_partitions(work, flags, lay, st, mid, lefts, begun)
 }

@@ -1,6 +1,6 @@
 -- Node visit and child loop meet their contracts together. The measures: twice the limit less the depth for the child loop, and
 -- one more for the node visit, so that each call of the other falls. The loop is one of part after part. What each step shows
--- stands in NodeStops, NodeSteps, NodeChildren, ChildSteps and ChildNodes.
+-- stands in NodeStops, ChildSteps and ChildNodes, and in the contract of `enter_node`.
 use Prim.Native.Nat.{ℕ, suc, _-_, _*_, _+_, _<_}
 use mathlib.Core.Path.{sym, _∙_}
 use mathlib.Core.List.{List}
@@ -13,22 +13,16 @@ use Rattle.join_spec.specs.Node.{lastOf}
 use Rattle.word_lists.specs.Flags.{Clear}
 use Rattle.join_walk.specs.Narrowing.{slotOf}
 use Rattle.join_walk.specs.Visiting.{Node, ChildrenAt}
-use Rattle.join_walk.proofs.NodeFacts.{node-path, last-read}
+use Rattle.join_walk.specs.Entering.{NodeEntered}
 use Rattle.join_walk.proofs.Asked.{some-path, some-query}
-use Rattle.join_walk.proofs.NodeStops.{goes-not, stop-there, stop-small, stop-visited}
-use Rattle.join_walk.proofs.NodeSteps.{Onward, onward-read, node-limit, limit-visited, node-run}
-use Rattle.join_walk.proofs.NodeChildren.{merged-room, all-merged, node-children, children-visited}
+use Rattle.join_walk.proofs.NodeStops.{goes-on, goes-not, stop-there, stop-small, stop-visited}
 use Rattle.join_walk.proofs.PartLoop.{Continuing, continuing-start, continuing-step, continuing-spent, continuing-end}
 use Rattle.join_walk.proofs.ChildSteps.{kids-run, childPath}
 use Rattle.join_walk.proofs.ChildNodes.{next-node, children-done}
 use Rattle.join_check.proofs.keys.run_end.Reads as run-end
-use Rattle.join_walk.proofs.blocks.add_paths.Reads as add-paths
 use Rattle.join_walk.proofs.blocks.check_block.Reads as check-block
-use Rattle.join_walk.proofs.blocks.finish.Reads as finish
-use Rattle.join_walk.proofs.blocks.merged_end.Reads as merged-end
 use Rattle.join_walk.proofs.decide.decide.Reads as decide
-use Rattle.join_walk.proofs.decide.rank_on.Reads as rank-on
-use Rattle.join_walk.proofs.narrow.narrow.Reads as narrow
+use Rattle.join_walk.proofs.enter.enter_node.Reads as enter-node
 use Rattle.join_walk.proofs.visit.visit_children.Reads as visit-children
 use Rattle.join_walk.proofs.visit.visit_children.Kinds as children-kinds
 use Rattle.join_walk.proofs.visit.visit_node.Reads as visit-node
@@ -68,16 +62,8 @@ node-callees t = (
   decide.Learnt,
   check-block.Asked,
   check-block.Learnt,
-  rank-on.Asked,
-  rank-on.Learnt,
-  narrow.Asked,
-  narrow.Learnt,
-  finish.Asked,
-  finish.Learnt,
-  merged-end.Asked,
-  merged-end.Learnt,
-  add-paths.Asked,
-  add-paths.Learnt,
+  enter-node.Asked,
+  enter-node.Learnt,
   children-below t,
   visit-children.Post,
 )
@@ -177,8 +163,11 @@ module _ (t : ℕ) where
 
   children-returns-2 : children-lts.Need-returns-2 (children-callees t) (children-at t) visit-children.Post Inv-loop μ-loop
   children-returns-2 c =
-      let inv = c .before .loop .inv in
-      (continuing-end (inv .0) (c .loop-test .left) (inv .0 .some .holds .kids .underway .budget), inv .1)
+      let inv = c .before .loop .inv in (
+        continuing-end (inv .0) (c .loop-test .left) (inv .0 .some .holds .kids .underway .budget)
+            (λ q path at. at .kids .rows),
+        inv .1,
+      )
 
   -- the node visit, where the walk does not go on
   decide-requires : node-lts.Need-decide-requires (node-callees t) (node-at t) visit-node.Post
@@ -205,155 +194,78 @@ module _ (t : ℕ) where
         stop .before .before .before .before .before .pre .1 .1,
       )
 
-  -- where it goes on
-  sub-rank-on : node-lts.Need-sub-rank-on (node-callees t) (node-at t) visit-node.Post
-  sub-rank-on c =
-      let some = c .before .before .before .before .before .before .pre .1 .0 in
-      omega (arith, some .holds .at .candidates .deep)
-
-  rank-on-requires : node-lts.Need-rank-on-requires (node-callees t) (node-at t) visit-node.Post
-  rank-on-requires c κs =
-      let start = c .before .before .before .before .before .before in
-      some-path (start .pre .1 .0)
-      (λ q path node. node-path (node .at) (start .args .d - 1) (omega (arith, node .at .candidates .deep)))
-
-  narrow-requires : node-lts.Need-narrow-requires (node-callees t) (node-at t) visit-node.Post
-  narrow-requires c κs =
-      let ranked = c .before .before in
-      let asked = ranked .before .before .before .before .before .before .before .pre .1 in
-      let some = asked .0 in
-      let node = some .holds .at in (
-        record {
-          query = some .query;
-          path = some .path;
-          holds = (node .candidates, last-read node (ranked .rank-on .ensures));
-        },
-        asked .1,
-      )
-
-  -- the start as it is seen after the candidates were narrowed, and the node then
-  abbrev begun : node-lts.After-narrow (node-callees t) (node-at t) visit-node.Post
+  -- where it goes on, the node was entered
+  abbrev begun : node-lts.After-enter-node (node-callees t) (node-at t) visit-node.Post
       → node-lts.Start (node-callees t) (node-at t) visit-node.Post
-  begun c = c .before .before .before .before .before .before .before .before .before .before
+  begun c = c .before .before .before .before .before .before .before .before
 
   abbrev Begun : node-lts.Start (node-callees t) (node-at t) visit-node.Post → Query → List ℕ → Type 0
   Begun s q path =
       let a = s .args in
-      Node (a .lay) (a .st) q path (a .work .now) (a .d) (a .lo) (a .hi) (a .from) (a .to) (a .tally)
+      Node (a .lay) (a .st) q path (a .work .now) (a .d) (a .lo) (a .hi) (a .from) (a .to) (a .p)
 
-  onward : (c : node-lts.After-narrow (node-callees t) (node-at t) visit-node.Post) (q : Query) (path : List ℕ)
+  enter-node-requires : node-lts.Need-enter-node-requires (node-callees t) (node-at t) visit-node.Post
+  enter-node-requires c κs =
+      let on = c .before .before in
+      let asked = on .before .before .before .before .before .pre .1 in (
+        some-path (asked .0)
+            (λ q path node. record { node = node; on = goes-on node (on .before .decide .ensures) (on .if1 .left) }),
+        asked .1,
+      )
+
+  entered : (c : node-lts.After-enter-node (node-callees t) (node-at t) visit-node.Post) (q : Query) (path : List ℕ)
       → Begun (begun c) q path
       → let a = begun c .args in
-      Onward (a .lay) (a .st) q path (a .work .now) (c .narrow .last .0) (a .d) (a .lo) (a .hi) (a .from) (a .to) (a .tally)
-      (c .narrow .result)
-  onward c q path node =
-      let ranked = c .before .before .before in
-      let on = ranked .before .before in
-      onward-read node (on .before .decide .ensures) (on .if1 .left) (ranked .rank-on .ensures) (c .narrow .ensures .0)
+      NodeEntered (a .lay) (a .st) q path (a .work .now) (c .enter-node .last .0) (a .d) (a .lo) (a .hi) (a .p)
+      (c .enter-node .result)
+  entered c q path node =
+      let on = c .before .before .before in
+      c .enter-node .ensures .0 q path
+      (record { node = node; on = goes-on node (on .before .decide .ensures) (on .if1 .left) })
 
-  finish-requires : node-lts.Need-finish-requires (node-callees t) (node-at t) visit-node.Post
-  finish-requires c κs =
-      let deep = c .before in
-      let part = deep .before .before .before .before .before in
-      some-path (begun part .pre .1 .0) (λ q path node. node-limit (onward part q path node) (deep .if2 .taken))
-
+  -- its visit is over
   node-same-length-2 : node-lts.Need-same-length-2 (node-callees t) (node-at t) visit-node.Post
-  node-same-length-2 c = c .before .before .before .before .before .before .before .narrow .kept .0
+  node-same-length-2 c = c .before .before .before .before .before .before .enter-node .kept .0
 
   node-same-length-3 : node-lts.Need-same-length-3 (node-callees t) (node-at t) visit-node.Post
-  node-same-length-3 c = c .before .before .before .before .before .before .before .narrow .kept .1 .0
+  node-same-length-3 c = c .before .before .before .before .before .before .enter-node .kept .1 .0
 
   node-returns-2 : node-lts.Need-returns-2 (node-callees t) (node-at t) visit-node.Post
   node-returns-2 c =
-      let deep = c .before .before in
-      let part = deep .before .before .before .before .before in (
-        λ q path node.
-            let so = onward part q path node in
-            limit-visited so (c .finish .ensures q path (node-limit so (deep .if2 .taken))),
-        part .narrow .ensures .1,
+      let inside = c .before .before .before .before .before .before in
+      (λ q path node. entered inside q path node .over (c .if2 .taken), inside .enter-node .ensures .1)
+
+  -- its children are left
+  visit-children-requires : node-lts.Need-visit-children-requires (node-callees t) (node-at t) visit-node.Post
+  visit-children-requires c κs =
+      let more = c .before .before in
+      let inside = more .before .before .before .before .before .before in
+      let start = begun inside in (
+        omega (arith, start .pre .0),
+        (
+          some-path (start .pre .1 .0) (λ q path node. entered inside q path node .kids (more .if2 .left)),
+          inside .enter-node .ensures .1,
+        ),
       )
 
-  merged-end-requires : node-lts.Need-merged-end-requires (node-callees t) (node-at t) visit-node.Post
-  merged-end-requires c κs =
-      let part = c .before .before .before .before .before .before in
-      some-query (begun part .pre .1 .0) (λ q path node. node-run (onward part q path node))
-
-  sub-add-paths : node-lts.Need-sub-add-paths (node-callees t) (node-at t) visit-node.Post
-  sub-add-paths c = c .merged-end .ensures .low
-
-  sub-add-paths-2 : node-lts.Need-sub-add-paths-2 (node-callees t) (node-at t) visit-node.Post
-  sub-add-paths-2 c =
-      let part = c .before .before .before .before .before .before .before in
-      let some = begun part .pre .1 .0 in
-      onward part (some .query) (some .path) (some .holds) .narrowed .rise
-
-  add-paths-requires : node-lts.Need-add-paths-requires (node-callees t) (node-at t) visit-node.Post
-  add-paths-requires c κs =
-      let above = c .before .before in
-      let part = above .before .before .before .before .before in
-      let some = begun part .pre .1 .0 in
-      merged-room (onward part (some .query) (some .path) (some .holds)) (above .if2 .left) (c .merged-end .ensures)
-
   node-same-length-4 : node-lts.Need-same-length-4 (node-callees t) (node-at t) visit-node.Post
-  node-same-length-4 c = c .before .before .before .before .before .before .before .before .before .narrow .kept .0
+  node-same-length-4 c =
+      let visited = c .before .before .before .before in
+      visited .visit-children .kept .0 ∙ visited .before .before .before .before .before .before .before .before .before .enter-node .kept .0
 
   node-same-length-5 : node-lts.Need-same-length-5 (node-callees t) (node-at t) visit-node.Post
-  node-same-length-5 c = c .before .before .before .before .before .before .before .before .before .narrow .kept .1 .0
+  node-same-length-5 c =
+      let visited = c .before .before .before .before in
+      visited .visit-children .kept .1 .0 ∙ visited .before .before .before .before .before .before .before .before .before .enter-node .kept .1 .0
 
   node-returns-3 : node-lts.Need-returns-3 (node-callees t) (node-at t) visit-node.Post
   node-returns-3 c =
-      let merged = c .before in
-      let end = merged .before in
-      let above = end .before .before in
-      let part = above .before .before .before .before .before in (
-        λ q path node.
-            all-merged (onward part q path node) (above .if2 .left) (end .merged-end .ensures) (merged .add-paths .ensures)
-            (c .if3 .taken),
-        part .narrow .ensures .1,
-      )
-
-  -- the children of a node, its own left sets merged
-  children : (c : node-lts.Else3 (node-callees t) (node-at t) visit-node.Post) (q : Query) (path : List ℕ)
-      → let part = c .before .before .before .before .before .before .before .before .before in
-      Begun (begun part) q path
-      → let a = begun part .args in
-      ChildrenAt (a .lay) (a .st) q path (part .narrow .last .0) (a .d) (c .before .before .merged-end .result) (a .hi)
-      (part .narrow .result .from) (part .narrow .result .to) (c .before .add-paths .result)
-  children c q path node =
-      let merged = c .before in
-      let end = merged .before in
-      let above = end .before .before in
-      node-children (onward (above .before .before .before .before .before) q path node) (above .if2 .left) (end .merged-end .ensures)
-      (merged .add-paths .ensures) (c .if3 .left)
-
-  visit-children-requires : node-lts.Need-visit-children-requires (node-callees t) (node-at t) visit-node.Post
-  visit-children-requires c κs =
-      let part = c .before .before .before .before .before .before .before .before .before .before .before in
-      let start = begun part in
-      (omega (arith, start .pre .0), (some-path (start .pre .1 .0) (children (c .before .before)), part .narrow .ensures .1))
-
-  node-same-length-6 : node-lts.Need-same-length-6 (node-callees t) (node-at t) visit-node.Post
-  node-same-length-6 c =
-      let visited = c .before .before .before .before in
-      let part = visited .before .before .before .before .before .before .before .before .before .before .before .before in
-      visited .visit-children .kept .0 ∙ part .narrow .kept .0
-
-  node-same-length-7 : node-lts.Need-same-length-7 (node-callees t) (node-at t) visit-node.Post
-  node-same-length-7 c =
-      let visited = c .before .before .before .before in
-      let part = visited .before .before .before .before .before .before .before .before .before .before .before .before in
-      visited .visit-children .kept .1 .0 ∙ part .narrow .kept .1 .0
-
-  node-returns-4 : node-lts.Need-returns-4 (node-callees t) (node-at t) visit-node.Post
-  node-returns-4 c =
       let visited = c .before .before .before .before in
       let more = visited .before .before .before in
-      let merged = more .before in
-      let end = merged .before in
-      let above = end .before .before in (
+      let inside = more .before .before .before .before .before .before in (
         λ q path node.
-            children-visited (onward (above .before .before .before .before .before) q path node) (above .if2 .left) (end .merged-end .ensures)
-            (merged .add-paths .ensures) (visited .visit-children .ensures .0 q path (children more q path node)),
+            let so = entered inside q path node in
+            so .rest (more .if2 .left) _ _ (visited .visit-children .ensures .0 q path (so .kids (more .if2 .left))),
         visited .visit-children .ensures .1,
       )
 
@@ -381,21 +293,11 @@ pub +visit-children+visit-node-spec : {M : Type 1} → statement M
     (check-block-requires t)
     (node-same-length t)
     (node-returns t)
-    (sub-rank-on t)
-    (rank-on-requires t)
-    (narrow-requires t)
-    (finish-requires t)
+    (enter-node-requires t)
     (node-same-length-2 t)
     (node-same-length-3 t)
     (node-returns-2 t)
-    (merged-end-requires t)
-    (sub-add-paths t)
-    (sub-add-paths-2 t)
-    (add-paths-requires t)
+    (visit-children-requires t)
     (node-same-length-4 t)
     (node-same-length-5 t)
     (node-returns-3 t)
-    (visit-children-requires t)
-    (node-same-length-6 t)
-    (node-same-length-7 t)
-    (node-returns-4 t)

@@ -32,12 +32,12 @@ key-at-requires c κs =
 -- the key that was read, one more than the partition's rank, and the right sets seen at it
 key-is : (c : tie.After-key-at) (q : Query) (r : ℕ)
     → let a = c .before .before .before .before .before .before .args in
-    Partition (a .lay) (a .st) q (a .work .now) (a .lo) (a .hi) (a .tally) r → c .key-at .result ≡ suc r
+    Partition (a .lay) (a .st) q (a .work .now) (a .lo) (a .hi) (a .p) r → c .key-at .result ≡ suc r
 key-is c q r part = partition-key part (c .before .before .word-at .ensures) (c .key-at .ensures)
 
 seen-is : (c : tie.After-word-at2) (q : Query) (r : ℕ)
     → let a = c .before .before .before .before .before .before .before .before .args in
-    Partition (a .lay) (a .st) q (a .work .now) (a .lo) (a .hi) (a .tally) r
+    Partition (a .lay) (a .st) q (a .work .now) (a .lo) (a .hi) (a .p) r
     → c .word-at2 .result ≡ seenCount (a .lay) (a .work .now) r
 seen-is c q r part = seen-word part (key-is (c .before .before) q r part) (c .word-at2 .ensures)
 

@@ -94,8 +94,11 @@ same-length-4 c = c .before .loop .inv .1 .size ∙ sym (c .before .before .befo
 
 returns-2 : tie.Need-returns-2 Inv-loop μ-loop
 returns-2 c =
-    let inv = c .before .loop .inv in
-    (λ q first. continuing-end (inv .0) (c .loop-test .left) (inv .0 .some .holds .underway .budget) q [] first, inv .1)
+    let inv = c .before .loop .inv in (
+      λ q first.
+          continuing-end (inv .0) (c .loop-test .left) (inv .0 .some .holds .underway .budget) (λ q path at. at .rows) q [] first,
+      inv .1,
+    )
 
 pub visit-partitions-spec : {M : Type 1} → statement M
 visit-partitions-spec =

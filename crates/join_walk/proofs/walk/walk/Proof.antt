@@ -1,10 +1,12 @@
--- `walk` meets its contract: no left set, nothing to count; else the empty left sets stand first, and the partitions follow.
-use mathlib.Core.Path.{_≡_, refl}
+-- `walk` meets its contract: no row is kept at first. No left set, nothing to count; else the empty left sets stand first, and the
+-- partitions follow.
+use mathlib.Core.Path.{_≡_, refl, _∙_}
 use native.Mathlib.Omega.{arith}
 use borrow.Author.Needs.{needs}
 use Rattle.join_spec.specs.Kinds.{Kind, pathPair, confirmedCheck, droppedCheck, falseCheck}
 use Rattle.join_check.specs.Counters.{counter}
 use Rattle.join_walk.proofs.WalkSteps.{walk-none, walk-run, paths-room, walk-partitions, walk-done}
+use Rattle.join_walk.proofs.WalkSteps.{ready-cleared, rows-cleared, done-cleared}
 use Rattle.join_walk.proofs.walk.walk.Statement.{statement}
 use Rattle.join_walk.proofs.walk.walk.Tie as tie
 
@@ -15,53 +17,86 @@ none-zero confirmedCheck = refl
 none-zero droppedCheck = refl
 none-zero falseCheck = refl
 
+clear-rows-requires : tie.Need-clear-rows-requires
+clear-rows-requires c κs =
+    let some = c .before .before .before .pre .0 in
+    record { query = some .query; holds = record { index = some .holds .index; leftCount = some .holds .leftCount } }
+
+same-length : tie.Need-same-length
+same-length c = c .before .before .before .clear-rows .kept .0
+
 returns : tie.Need-returns
-returns c = (λ q ready. walk-none ready (c .if1 .taken) none-zero, c .before .before .before .pre .1)
+returns c =
+    let cleared = c .before .before .before in (
+      λ q ready.
+          let so = ready-cleared ready (cleared .clear-rows .ensures) in
+          done-cleared ready (cleared .clear-rows .ensures)
+          (walk-none so (c .if1 .taken) none-zero (rows-cleared ready (cleared .clear-rows .ensures))),
+      cleared .before .before .before .before .pre .1,
+    )
+
+-- the start as it is seen after the rows were cleared, and the walk then
+abbrev begun : tie.After-clear-rows → tie.Start
+begun c = c .before .before .before .before
 
 merged-end-requires : tie.Need-merged-end-requires
 merged-end-requires c κs =
     let some = c .before in
-    let start = some .before .before .before in
-    record { query = start .pre .0 .query; holds = walk-run (start .pre .0 .holds) (omega (arith, some .if1 .left)) }
+    let cleared = some .before .before .before in
+    let asked = begun cleared .pre .0 in
+    record {
+      query = asked .query;
+      holds = walk-run (ready-cleared (asked .holds) (cleared .clear-rows .ensures)) (omega (arith, some .if1 .left));
+    }
 
 add-paths-requires : tie.Need-add-paths-requires
 add-paths-requires c κs =
     let some = c .before .before in
-    let start = some .before .before .before in
-    paths-room (start .pre .0 .holds) (omega (arith, some .if1 .left)) (c .merged-end .ensures)
+    let cleared = some .before .before .before in
+    let asked = begun cleared .pre .0 in
+    paths-room (ready-cleared (asked .holds) (cleared .clear-rows .ensures)) (omega (arith, some .if1 .left))
+    (c .merged-end .ensures)
 
 visit-partitions-requires : tie.Need-visit-partitions-requires
 visit-partitions-requires c κs =
     let merged = c .before .before in
     let end = merged .before in
     let some = end .before .before in
-    let asked = some .before .before .before .pre in (
+    let cleared = some .before .before .before in
+    let rows = cleared .clear-rows .ensures in
+    let asked = begun cleared .pre in (
       record {
         query = asked .0 .query;
         holds =
-            walk-partitions (asked .0 .holds) (omega (arith, some .if1 .left)) (end .merged-end .ensures) none-zero
-            (merged .add-paths .ensures);
+            walk-partitions (ready-cleared (asked .0 .holds) rows) (omega (arith, some .if1 .left)) (end .merged-end .ensures)
+            none-zero (merged .add-paths .ensures) (rows-cleared (asked .0 .holds) rows);
       },
       asked .1,
     )
 
-same-length : tie.Need-same-length
-same-length c = search needs
-
 same-length-2 : tie.Need-same-length-2
-same-length-2 c = search needs
+same-length-2 c =
+    let visited = c .before .before .before .before in
+    visited .visit-partitions .kept .0 ∙ visited .before .before .before .before .before .before .before .before .before .clear-rows .kept .0
+
+same-length-3 : tie.Need-same-length-3
+same-length-3 c = search needs
 
 returns-2 : tie.Need-returns-2
 returns-2 c =
     let visited = c .before .before .before .before in
     let merged = visited .before .before .before in
     let end = merged .before in
-    let some = end .before .before in (
+    let some = end .before .before in
+    let rows = some .before .before .before .clear-rows .ensures in (
       λ q ready.
+          let so = ready-cleared ready rows in
           let parts =
-          walk-partitions ready (omega (arith, some .if1 .left)) (end .merged-end .ensures) none-zero (merged .add-paths .ensures) in
-          walk-done ready (omega (arith, some .if1 .left)) (end .merged-end .ensures) none-zero (merged .add-paths .ensures)
-          (visited .visit-partitions .ensures .0 q parts),
+          walk-partitions so (omega (arith, some .if1 .left)) (end .merged-end .ensures) none-zero (merged .add-paths .ensures)
+          (rows-cleared ready rows) in
+          done-cleared ready rows
+          (walk-done so (omega (arith, some .if1 .left)) (end .merged-end .ensures) none-zero (merged .add-paths .ensures)
+          (visited .visit-partitions .ensures .0 q parts)),
       visited .visit-partitions .ensures .1,
     )
 
@@ -69,10 +104,12 @@ pub walk-spec : {M : Type 1} → statement M
 walk-spec =
     tie.close
     (tie.spec
+    clear-rows-requires
+    same-length
     returns
     merged-end-requires
     add-paths-requires
     visit-partitions-requires
-    same-length
     same-length-2
+    same-length-3
     returns-2)
