@@ -141,8 +141,3 @@ memb-keep p (y ∷ ys) x =
 pub keep-memb : (p : ℕ → Bool) (xs : List ℕ) → keep (λ x. memb x (keep p xs)) xs ≡ keep p xs
 keep-memb p xs =
     keep-agree (λ x. memb x (keep p xs)) p xs (λ x m. memb-keep p xs x ∙ ap (λ (b : Bool). b && p x) m)
-
--- no number is in an empty list
-pub keep-empty : (xs : List ℕ) → keep (λ (s : ℕ). memb s []) xs ≡ []
-unfolding memb
-keep-empty xs = keep-none (λ (s : ℕ). memb s []) xs (λ x. refl)

@@ -1,14 +1,14 @@
--- Merges of two rising lists: what one comparison of their first numbers decides of containment and of what they share, for two
--- lists and for two parts of one.
+-- Merges of two rising lists: what one comparison of their first numbers decides of containment, for two lists and for two parts
+-- of one.
 use Prim.Native.Nat.{ℕ, _+_, _≤_, _<_}
-use mathlib.Core.Path.{_≡_, refl, ap, ap₂}
+use mathlib.Core.Path.{_≡_, refl, ap₂}
 use mathlib.Core.List.{List, [], _∷_}
 use mathlib.Core.Bool.{Bool, true, false, _&&_}
 use native.Mathlib.Omega.{arith}
 use lib.Dec.{ltb}
 use lib.ListN.{length, getD}
 use borrow.Author.Tests.{lt-ltb, ltb-true, eq-eqb, ne-eqb}
-use Rattle.lists.specs.Lists.{onto, keep, all, memb, subset, slice, risingAfter, rising}
+use Rattle.lists.specs.Lists.{all, memb, subset, slice, risingAfter, rising}
 use Rattle.lists.proofs.Bools.{and-left, and-right, and-both, refuted}
 use Rattle.lists.proofs.Throughout.{subset-none}
 use Rattle.lists.proofs.Slices.{slice-past, slice-next}
@@ -23,7 +23,7 @@ pub memb-high : (x y : ℕ) (ys : List ℕ) → y < x → memb x (y ∷ ys) ≡ 
 unfolding memb
 memb-high x y ys h = rw (ne-eqb x y (λ e. omega arith))
 
--- a lower number in front does not bear on containment of rising numbers, nor on which of them are shared
+-- a lower number in front does not bear on containment of rising numbers
 module _ (y : ℕ) (ys : List ℕ) where
   pub subset-past : (xs : List ℕ) → risingAfter y xs ≡ true → subset xs (y ∷ ys) ≡ subset xs ys
   unfolding all risingAfter
@@ -32,14 +32,6 @@ module _ (y : ℕ) (ys : List ℕ) where
       let above : y < x = ltb-true y x (and-left (ltb y x) (risingAfter x xs) r) in
       let later = risingAfter-lower y x xs (omega arith) (and-right (ltb y x) (risingAfter x xs) r) in
       ap₂ (λ (a b : Bool). a && b) (memb-high x y ys above) (subset-past xs later)
-
-  pub keep-past : (xs : List ℕ) → risingAfter y xs ≡ true → keep (λ (s : ℕ). memb s (y ∷ ys)) xs ≡ keep (λ (s : ℕ). memb s ys) xs
-  unfolding keep risingAfter
-  keep-past [] r = refl
-  keep-past (x ∷ xs) r =
-      let above : y < x = ltb-true y x (and-left (ltb y x) (risingAfter x xs) r) in
-      let later = risingAfter-lower y x xs (omega arith) (and-right (ltb y x) (risingAfter x xs) r) in
-      ap₂ (λ (b : Bool) (l : List ℕ). onto b x l) (memb-high x y ys above) (keep-past xs later)
 
 after-lower : (y x : ℕ) (xs : List ℕ) → y < x → rising (x ∷ xs) ≡ true → risingAfter y (x ∷ xs) ≡ true
 unfolding risingAfter rising
@@ -57,20 +49,6 @@ module _ (x : ℕ) (xs : List ℕ) (y : ℕ) (ys : List ℕ) where
 
   pub subset-high : y < x → rising (x ∷ xs) ≡ true → subset (x ∷ xs) (y ∷ ys) ≡ subset (x ∷ xs) ys
   subset-high h r = subset-past y ys (x ∷ xs) (after-lower y x xs h r)
-
-  pub keep-low : x < y → rising (y ∷ ys) ≡ true
-      → keep (λ (s : ℕ). memb s (y ∷ ys)) (x ∷ xs) ≡ keep (λ (s : ℕ). memb s (y ∷ ys)) xs
-  unfolding keep
-  keep-low h r = rw (memb-low x y ys h r)
-
-  pub keep-shared : x ≡ y → rising (x ∷ xs) ≡ true
-      → keep (λ (s : ℕ). memb s (y ∷ ys)) (x ∷ xs) ≡ x ∷ keep (λ (s : ℕ). memb s ys) xs
-  unfolding keep memb rising
-  keep-shared e r = rw (eq-eqb x y e) (ap (λ (l : List ℕ). x ∷ l) (keep-past y ys xs (rw e at r)))
-
-  pub keep-high : y < x → rising (x ∷ xs) ≡ true
-      → keep (λ (s : ℕ). memb s (y ∷ ys)) (x ∷ xs) ≡ keep (λ (s : ℕ). memb s ys) (x ∷ xs)
-  keep-high h r = keep-past y ys (x ∷ xs) (after-lower y x xs h r)
 
 -- what is left of a rising part rises
 pub rising-next : (f t : ℕ) (l : List ℕ) → f < t → t ≤ length l → rising (slice f t l) ≡ true → rising (slice (f + 1) t l) ≡ true
@@ -102,22 +80,3 @@ module _ (w : List ℕ) (i b j e : ℕ) (leftIn : b ≤ length w) (rightIn : e �
     merge-high h =
         rw (slice-next i b w more leftIn, slice-next j e w other rightIn)
         (subset-high (getD w i 0) (slice (i + 1) b w) (getD w j 0) (slice (j + 1) e w) h head)
-
-    pub share-low : getD w i 0 < getD w j 0
-        → keep (λ (s : ℕ). memb s (slice j e w)) (slice i b w) ≡ keep (λ (s : ℕ). memb s (slice j e w)) (slice (i + 1) b w)
-    share-low h =
-        rw (slice-next i b w more leftIn, slice-next j e w other rightIn)
-        (keep-low (getD w i 0) (slice (i + 1) b w) (getD w j 0) (slice (j + 1) e w) h heads)
-
-    pub share-same : getD w i 0 ≡ getD w j 0
-        → keep (λ (s : ℕ). memb s (slice j e w)) (slice i b w)
-        ≡ getD w i 0 ∷ keep (λ (s : ℕ). memb s (slice (j + 1) e w)) (slice (i + 1) b w)
-    share-same h =
-        rw (slice-next i b w more leftIn, slice-next j e w other rightIn)
-        (keep-shared (getD w i 0) (slice (i + 1) b w) (getD w j 0) (slice (j + 1) e w) h head)
-
-    pub share-high : getD w j 0 < getD w i 0
-        → keep (λ (s : ℕ). memb s (slice j e w)) (slice i b w) ≡ keep (λ (s : ℕ). memb s (slice (j + 1) e w)) (slice i b w)
-    share-high h =
-        rw (slice-next i b w more leftIn, slice-next j e w other rightIn)
-        (keep-high (getD w i 0) (slice (i + 1) b w) (getD w j 0) (slice (j + 1) e w) h head)

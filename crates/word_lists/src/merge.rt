@@ -1,22 +1,12 @@
-// Two rising parts of a list of words: whether the second has every word of the first, and the words that both have. For each
-// there are two ways, and how long the parts are decides which is taken.
-use crate::flags::flag_words;
-use crate::flags::keep_flagged;
-use crate::words::number;
+// Whether the second of two rising parts of a list of words has every word of the first. There are two ways, and how long the first
+// part is decides which is taken.
 ghost use mathlib.Core.Path.{_≡_};
 ghost use Prim.Native.Nat.{_<_};
 ghost use Rattle.lists.specs.Lists.{subset, slice};
-ghost use Rattle.word_lists.specs.Merges.{Rising, Skipped, Apart, Intersected};
-ghost use Rattle.word_lists.specs.Flags.{flagRoom, Below};
+ghost use Rattle.word_lists.specs.Merges.{Rising, Skipped};
 
 // From so many words in the first part on, a merge of both parts takes less time than to look for each word.
 const MANY_WORDS: usize = 16;
-
-// Below so many words in both parts together it is not worth while to clear a table of flags.
-const FEW_WORDS: usize = 64;
-
-// How many flags a table has.
-const FLAG_ROOM: usize = 4096;
 
 // Goes back in the second part to the last word that is not above the last word of the first part, and returns the place after it.
 fn skip_higher(work: &[u32], a: usize, b: usize, c: usize, e: usize) -> usize
@@ -97,59 +87,4 @@ pub fn subset_words(work: &[u32], a: usize, b: usize, c: usize, e: usize) -> boo
         return skip_words(work, a, b, c, e);
     }
     merge_words(work, a, b, c, e)
-}
-
-// Writes from out on the words of the first part that are among those of the second, and returns where they end. Every word is
-// stored, and the place moves on only past those that are shared: no branch depends on the words.
-fn merge_shared(work: &mut [u32], a: usize, b: usize, c: usize, e: usize, out: usize) -> usize
-    requires { ⌜ Rising a b (now work) ⌝ }
-    requires { ⌜ Rising c e (now work) ⌝ }
-    requires { ⌜ Apart b c e out (now work) ⌝ }
-    ensures { λ r. ⌜ Intersected a b c e out (now (work .entry)) (now (work .exit)) r ⌝ }
-{
-    let mut i = a;
-    let mut j = c;
-    let mut n = out;
-    while i < b {
-        if e <= j {
-            return n;
-        }
-        let x = work[i];
-        let y = work[j];
-        work[n] = x;
-        n += number(x == y);
-        i += number(x <= y);
-        j += number(y <= x);
-    }
-    n
-}
-
-// The same, for words that have a flag each, by a table of flags: the words of the first part are flagged, and those of the
-// second that are flagged are written.
-fn flag_shared(work: &mut [u32], a: usize, b: usize, c: usize, e: usize, out: usize) -> usize
-    requires { ⌜ Rising a b (now work) ⌝ }
-    requires { ⌜ Rising c e (now work) ⌝ }
-    requires { ⌜ Apart b c e out (now work) ⌝ }
-    requires { ⌜ Below flagRoom a b (now work) ⌝ }
-    requires { ⌜ Below flagRoom c e (now work) ⌝ }
-    ensures { λ r. ⌜ Intersected a b c e out (now (work .entry)) (now (work .exit)) r ⌝ }
-{
-    let mut flags = [0u8; FLAG_ROOM];
-    flag_words(work, a, b, &mut flags);
-    keep_flagged(work, c, e, out, &flags)
-}
-
-// The same, for such words, by whichever of the two takes less time.
-pub fn intersect(work: &mut [u32], a: usize, b: usize, c: usize, e: usize, out: usize) -> usize
-    requires { ⌜ Rising a b (now work) ⌝ }
-    requires { ⌜ Rising c e (now work) ⌝ }
-    requires { ⌜ Apart b c e out (now work) ⌝ }
-    requires { ⌜ Below flagRoom a b (now work) ⌝ }
-    requires { ⌜ Below flagRoom c e (now work) ⌝ }
-    ensures { λ r. ⌜ Intersected a b c e out (now (work .entry)) (now (work .exit)) r ⌝ }
-{
-    if (b - a) + (e - c) < FEW_WORDS {
-        return merge_shared(work, a, b, c, e, out);
-    }
-    flag_shared(work, a, b, c, e, out)
 }
