@@ -1,13 +1,12 @@
--- The places of the pair list lie within the two collections, and one step through such a list.
-use Prim.Native.Nat.{ℕ, zero, suc, _+_, _*_, _<_, _≤_}
+-- The pair list of an accepted run: it lies within the lent one, and its places within the two collections.
+use Prim.Native.Nat.{ℕ, suc, _+_, _*_, _<_, _≤_}
 use mathlib.Core.Path.{_≡_, refl, sym, subst, _∙_}
 use mathlib.Core.List.{List, [], _∷_, _++_}
-use mathlib.Core.Bool.{Bool, true, false, _&&_}
+use mathlib.Core.Bool.{Bool, true, false}
 use native.Mathlib.Omega.{arith}
-use lib.Dec.{ltb}
-use lib.ListN.{length, getD, drop, take}
-use borrow.Author.Tests.{ltb-true, lt-ltb}
-use Rattle.lists.proofs.Bools.{and-left, and-right, and-both}
+use lib.ListN.{length, take}
+use borrow.Author.Tests.{lt-ltb}
+use Rattle.lists.proofs.Bools.{and-both}
 use Rattle.sets.specs.Collections.{contained}
 use Rattle.inputs.specs.Input.{Input, leftSets, rightSets}
 use Rattle.sets.proofs.Between.{length-sets}
@@ -20,7 +19,7 @@ use Rattle.join_spec.specs.Answer.{roomOf, RunCall}
 use Rattle.join_spec.proofs.Accepted.{accepted}
 use Rattle.join_spec.proofs.AcceptedRuns.{pairs-counted}
 use Rattle.join_spec.proofs.Calls.{call-filled}
-use Rattle.kitlist.specs.Places.{pairsWithin}
+use Rattle.text_lines.specs.Room.{pairsWithin}
 
 module _ (m n : ℕ) where
   row-within : (l r : ℕ) (test : List ℕ → Bool) (rights : List (List ℕ)) (rest : List ℕ) → l < m → r + length rights ≤ n
@@ -60,33 +59,3 @@ module _ (i : Input) (s : Settings) {work before work′ after : List ℕ} {answ
       (pairs-within m n 0 (leftSets i) (rightSets i)
       (omega (arith, length-sets 0 (i .left .ends) (i .left .items)))
       (omega (arith, length-sets 0 (i .right .ends) (i .right .items))))
-
--- a pair of places at the front of what is left, and the rest
-pub record PairAt (m n : ℕ) (pairs : List ℕ) (i : ℕ) : Type 0 where
-  pub whole : i + 1 < length pairs
-  pub left : getD pairs i 0 < m
-  pub right : getD pairs (i + 1) 0 < n
-  pub rest : pairsWithin m n (drop (i + 2) pairs) ≡ true
-
-pub pair-at : (m n : ℕ) (pairs : List ℕ) (i : ℕ) → pairsWithin m n (drop i pairs) ≡ true → i < length pairs → PairAt m n pairs i
-unfolding pairsWithin
-pair-at m n (x ∷ []) zero e in-list = let z : _≡_ {A = ℕ} 0 1 = cc in absurd (omega arith)
-pair-at m n (x ∷ y ∷ rest) zero e in-list =
-    let both = and-left (ltb x m && ltb y n) (pairsWithin m n rest) e in
-    record {
-      whole = omega arith;
-      left = ltb-true x m (and-left (ltb x m) (ltb y n) both);
-      right = ltb-true y n (and-right (ltb x m) (ltb y n) both);
-      rest = and-right (ltb x m && ltb y n) (pairsWithin m n rest) e;
-    }
-pair-at m n (x ∷ pairs) (suc i) e in-list =
-    let p = pair-at m n pairs i e (omega arith) in
-    let next : suc (i + 1) ≡ suc i + 1 = omega arith in
-    let after : suc (i + 2) ≡ suc i + 2 = omega arith in
-    record {
-      whole = omega (arith, p .whole);
-      left = p .left;
-      right = subst (λ (k : ℕ). getD (x ∷ pairs) k 0 < n) next (p .right);
-      rest = subst (λ (k : ℕ). pairsWithin m n (drop k (x ∷ pairs)) ≡ true) after (p .rest);
-    }
-pair-at m n [] i e in-list = absurd (omega arith)

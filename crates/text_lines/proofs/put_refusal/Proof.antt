@@ -1,0 +1,27 @@
+-- `text_lines::put_refusal` meets its contract: number and detail are the refusal table's.
+use mathlib.Core.Path.{_≡_, subst}
+use Prim.Native.Nat.{ℕ}
+use mathlib.Core.List.{List}
+use borrow.Author.Needs.{needs}
+use Rattle.lists.specs.Writing.{Put}
+use Rattle.text_lines.specs.Lines.{refusedLine}
+use Rattle.text_lines.proofs.put_refusal.Statement.{statement}
+use Rattle.text_lines.proofs.put_refusal.Tie as tie
+
+head-of-requires : tie.Need-head-of-requires
+head-of-requires c κs = search needs
+
+put-refused-requires : tie.Need-put-refused-requires
+put-refused-requires c κs = search needs
+
+same-length : tie.Need-same-length
+same-length c = search needs
+
+returns : tie.Need-returns
+returns c =
+    let call = c .before .before .put-refused in
+    let head = c .before .before .before .before .head-of in
+    (rw (head .ensures .0, head .ensures .1) at (call .ensures .0), call .ensures .1)
+
+pub put-refusal-spec : {M : Type 1} → statement M
+put-refusal-spec = tie.close (tie.spec head-of-requires put-refused-requires same-length returns)
