@@ -1,6 +1,5 @@
 // The program kitlist (document 01): reads a tag file from standard input and writes the text that the crate `listing` makes of it,
-// every kit that a stack contains or why there is no list. It holds 165 KB of arrays itself, and no call below it holds more than
-// 420 KB.
+// every kit that a stack contains or why there is no list. With all calls below it, it takes less than half a megabyte of stack.
 use listing::MAX_FILE;
 use listing::TEXT_ROOM;
 

@@ -13,11 +13,11 @@ use Rattle.join_spec.specs.declared.JoinAnswer.{JoinAnswer}
 use Rattle.join_spec.specs.declared.JoinAnswer.the-variants.{Joined, Refused}
 use Rattle.join_spec.specs.PairList.{pairList}
 use Rattle.join_spec.specs.Query.{Settings}
-use Rattle.join_spec.specs.Answer.{Room, roomOf, joinAnswer, RunCall}
+use Rattle.join_spec.specs.Answer.{joinAnswer, RunCall}
 use Rattle.join_spec.proofs.Calls.{call-filled}
 use Rattle.text_lines.specs.Lines.{refusalLine, countsLine, pairLines}
 use Rattle.text_lines.specs.Room.{lineRoom, PairsRoom}
-use Rattle.listing.specs.Listing.{workWords, pairPlaces, programRoom, answerText, joinText}
+use Rattle.listing.specs.Listing.{workWords, pairPlaces, answerText, joinText}
 use Rattle.listing.specs.Inner.{textRoom}
 use Rattle.listing.proofs.PairPlaces.{places-enough, places-within}
 

@@ -1,12 +1,11 @@
 -- The program's lists hold every file of at most 65,536 bytes that has no record at fault, so that a load is never refused with
 -- 4: its records cover the file, and each collapsed entry stands for twelve bytes of it.
-use Prim.Native.Nat.{ℕ, _+_, _*_, _≤_}
+use Prim.Native.Nat.{ℕ, _*_, _≤_}
 use mathlib.Core.Path.{_≡_}
 use mathlib.Core.List.{List, [], _∷_}
 use mathlib.Core.Bool.{Bool, true, false}
 use native.Mathlib.Omega.{arith}
 use borrow.Author.Tests.{le-leb}
-use lib.Dec.{leb}
 use lib.ListN.{length}
 use Rattle.lists.specs.Lists.{onto, keep, sum}
 use Rattle.lists.proofs.Bools.{and-both}

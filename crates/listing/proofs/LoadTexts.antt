@@ -3,7 +3,6 @@
 use Prim.Native.Nat.{ℕ, _≤_}
 use mathlib.Core.Path.{_≡_, refl, sym, ap, ap₂, subst, _∙_}
 use mathlib.Core.List.{List}
-use mathlib.Core.Bool.{true}
 use native.Mathlib.Omega.{arith}
 use lib.ListN.{length}
 use Rattle.sets.specs.Limits.{maxItems}
@@ -15,15 +14,22 @@ use Rattle.sets.specs.declared.Tested.the-variants.{Passed, Failed}
 use Rattle.tag_file.specs.declared.Loaded.{Loaded}
 use Rattle.tag_file.specs.declared.LoadAnswer.{LoadAnswer}
 use Rattle.tag_file.specs.declared.LoadAnswer.the-variants as load
-use Rattle.tag_file.specs.Records.{records, tagTable}
+use Rattle.tag_file.specs.Records.{records}
 use Rattle.tag_file.specs.Loading.{Lists, fileFault, filled, loadAnswer, LoadCall}
 use Rattle.tag_file.proofs.ItemCount.{length-numbersOf, length-endsOf, length-joinedItems}
 use Rattle.tag_file.proofs.AnswerLaws.{accepted, accepts, refuses-fault, room-each}
 use Rattle.tag_containment.proofs.LoadedLists.{load-counts, load-filled}
 use Rattle.text_lines.specs.Lines.{refusalLine}
-use Rattle.listing.specs.Listing.{maxFile, listsText, recordsText}
+use Rattle.inputs.specs.Input.{inputOf}
+use Rattle.listing.specs.Listing.{maxFile, programSettings, joinText, recordsText}
 use Rattle.listing.specs.Inner.{textRoom, Within, cutText}
 use Rattle.listing.proofs.LoadRoom.{ProgramLists, fault-free, never-short}
+
+-- the text of T items and seven lists as a load fills them
+abbrev listsText : ℕ → Lists → List ℕ
+listsText T l =
+    let i = inputOf T (l .leftEnds) (l .leftItems) (l .rightEnds) (l .rightItems) in
+    joinText (l .leftNumbers) (l .rightNumbers) i (programSettings i)
 
 -- the text of a file by its first fault
 abbrev shortText : List ℕ → List ℕ

@@ -3,10 +3,10 @@
 use Prim.Native.Nat.{ℕ}
 use mathlib.Core.Path.{_≡_, refl, sym, ap, _∙_}
 use mathlib.Core.List.{List}
-use mathlib.Core.Bool.{Bool, true, false, not, _||_}
+use mathlib.Core.Bool.{Bool, true, false, _||_}
 use native.Mathlib.Omega.{arith}
 use borrow.Author.Tests.{eq-eqb}
-use lib.Dec.{eqb, ltb}
+use lib.Dec.{ltb}
 use lib.ListN.{length}
 use Rattle.sets.specs.Limits.{maxItems}
 use Rattle.sets.specs.Refusals.{refuseIf, unless}
@@ -22,7 +22,7 @@ use Rattle.item_order.specs.Order.{rankTable, orderTest, orderAnswer, orderRank
 use Rattle.item_order.proofs.Ranks.{ranks-permutation}
 use Rattle.join_spec.specs.declared.JoinAnswer.the-variants.{Refused}
 use Rattle.join_spec.specs.PairList.{pairList}
-use Rattle.join_spec.specs.Answer.{Room, badSettings, joinTests, joinAnswer}
+use Rattle.join_spec.specs.Answer.{badSettings, joinTests}
 use Rattle.join_spec.proofs.Accepted.{answer-refused}
 use Rattle.text_lines.specs.Lines.{refusalLine}
 use Rattle.listing.specs.Listing.{programRoom, workWords, programSettings, answerText, joinText}

@@ -1,22 +1,18 @@
 -- A text that was put at the beginning of a lent list fills it; and the text of a file by its length.
-use Prim.Native.Nat.{ℕ, _+_, _≤_, _<_}
-use mathlib.Core.Path.{_≡_, refl, sym, ap, subst, _∙_}
+use Prim.Native.Nat.{ℕ, _≤_, _<_}
+use mathlib.Core.Path.{_≡_, ap, subst}
 use mathlib.Core.List.{List}
-use mathlib.Core.Bool.{Bool, true, false}
 use native.Mathlib.Omega.{arith}
-use borrow.Author.Tests.{ltb-true, ltb-false, lt-ltb, le-ltb}
-use lib.ListN.{length, drop, take, length-append}
-use lib.Seq.{length-take-le, take-all}
-use lib.Dec.{ltb}
+use borrow.Author.Tests.{lt-ltb, le-ltb}
+use lib.ListN.{length, drop, length-append}
 use Rattle.lists.specs.Writing.{Put}
 use Rattle.lists.proofs.Writing.{written-whole}
-use Rattle.sets.specs.Refusals.{refuseIf, unless}
+use Rattle.sets.specs.Refusals.{unless}
 use Rattle.sets.specs.declared.Refusal.the-variants.{ShortWork}
 use Rattle.tag_file.specs.Records.{records}
 use Rattle.tag_file.specs.Loading.{fileFault}
 use Rattle.text_lines.specs.Lines.{refusalLine}
-use Rattle.listing.specs.Listing.{maxFile, recordsText, listing}
-use Rattle.listing.specs.Inner.{Fills}
+use Rattle.listing.specs.Listing.{maxFile, recordsText, listing, Fills}
 
 pub put-fills : {text was : List ℕ} {r : ℕ} {is : List ℕ} → Put was 0 text r is → r ≤ length was → Fills text was r is
 put-fills put room =
@@ -43,16 +39,3 @@ module _ (file : List ℕ) where
   pub listing-short : length file ≤ maxFile → listing file ≡ unless refusalLine (fileFault file) (recordsText (records file))
   unfolding listing
   listing-short short = rw (le-ltb maxFile (length file) short)
-
--- what follows one byte more than the longest file makes no difference: the program reads no further
-pub listing-read : (file : List ℕ) → listing (take (maxFile + 1) file) ≡ listing file
-listing-read file = by-size (ltb maxFile (length file)) refl
-  where
-    by-size : (b : Bool) → ltb maxFile (length file) ≡ b → listing (take (maxFile + 1) file) ≡ listing file
-    by-size false e =
-        let few = ltb-false maxFile (length file) e in
-        ap listing (take-all (maxFile + 1) file (omega arith))
-    by-size true e =
-        let long = ltb-true maxFile (length file) e in
-        listing-long (take (maxFile + 1) file) (omega (arith, length-take-le (maxFile + 1) file (omega arith)))
-        ∙ sym (listing-long file long)

@@ -1,16 +1,15 @@
--- Inner: what the functions of the listing ask and promise each other: text that fills a lent list from its beginning, numbers
--- for each set, and room for what was loaded.
+-- Inner: what the functions of the listing ask and promise each other: numbers for each set, and room for what was loaded and
+-- for its text.
 use Prim.Native.Nat.{ℕ, _+_, _*_, _/_, _≤_}
 use mathlib.Core.Path.{_≡_}
 use mathlib.Core.List.{List}
 use lib.ListN.{length, take}
 use Rattle.sets.specs.Limits.{maxItems}
-use Rattle.sets.specs.Lent.{filledOver}
 use Rattle.inputs.specs.Input.{inputOf}
 use Rattle.tag_file.specs.Format.{tagLength}
 use Rattle.tag_file.specs.declared.Loaded.{Loaded}
 use Rattle.text_lines.specs.Room.{lineRoom, pairRoom}
-use Rattle.listing.specs.Listing.{maxFile, pairPlaces, joinText, programSettings}
+use Rattle.listing.specs.Listing.{maxFile, joinText, programSettings}
 
 -- the bytes of the longest text: the counts, and a line for each of 8,192 pairs
 abbrev pub textRoom : ℕ
@@ -22,12 +21,6 @@ tableBytes = tagLength * maxItems
 
 abbrev pub sideItems : ℕ
 sideItems = maxFile / tagLength
-
--- a text fills a lent list from its beginning, and the list is as before beyond; r is its length
-pub record Fills (text was : List ℕ) (r : ℕ) (is : List ℕ) : Type 0 where
-  pub long : r ≡ length text
-  pub room : r ≤ length was
-  pub list : is ≡ filledOver text was
 
 -- numbers for each set of both sides, and room for the text
 pub record Numbered (leftNumbers leftEnds rightNumbers rightEnds text : List ℕ) : Type 0 where

@@ -14,19 +14,17 @@ use text_lines::put_counts;
 use text_lines::put_pairs;
 use text_lines::put_refusal;
 ghost use mathlib.Core.Path.{_≡_};
-ghost use mathlib.Core.Bool.{false};
-ghost use Prim.Native.Nat.{_-_, _≤_};
+ghost use Prim.Native.Nat.{_≤_};
 ghost use lib.ListN.{length};
-ghost use Rattle.sets.specs.Limits.{maxSets, fullWords};
+ghost use Rattle.sets.specs.Limits.{maxSets};
 ghost use Rattle.sets.specs.Refusals.{unless};
 ghost use Rattle.inputs.specs.Input.{inputOf};
-ghost use Rattle.join_spec.specs.declared.Rule.the-variants.{Merge};
-ghost use Rattle.join_spec.specs.Query.{settingsOf};
 ghost use Rattle.tag_file.specs.Records.{records};
 ghost use Rattle.tag_file.specs.Loading.{fileFault};
 ghost use Rattle.text_lines.specs.Lines.{refusalLine};
-ghost use Rattle.listing.specs.Listing.{maxFile, workWords, pairPlaces, joinText, programSettings, recordsText, listing};
-ghost use Rattle.listing.specs.Inner.{textRoom, tableBytes, sideItems, Fills, Numbered, Within, cutText};
+ghost use Rattle.listing.specs.Listing.{maxFile, workWords, pairPlaces, settingsUnder, programSettings};
+ghost use Rattle.listing.specs.Listing.{joinText, recordsText, listing, Fills};
+ghost use Rattle.listing.specs.Inner.{textRoom, tableBytes, sideItems, Numbered, Within, cutText};
 
 // The longest file that is read.
 pub const MAX_FILE: usize = 65536;
@@ -74,7 +72,7 @@ fn list_ordered(
     requires { ⌜ Numbered (now «left_numbers») (now «left_ends») (now «right_numbers») (now «right_ends») (now text) ⌝ }
     ensures { λ r. ⌜ Fills (joinText (now («left_numbers» .entry)) (now («right_numbers» .entry))
         (inputOf t (now («left_ends» .entry)) (now («left_items» .entry)) (now («right_ends» .entry)) (now («right_items» .entry)))
-        (settingsOf 2 (now (ranks .entry)) (fullWords - 1) Merge)) (now (text .entry)) r (now (text .exit)) ⌝ }
+        (settingsUnder (now (ranks .entry)))) (now (text .entry)) r (now (text .exit)) ⌝ }
 {
     let mut work = new_work();
     let mut pairs = new_pairs();

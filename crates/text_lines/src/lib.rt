@@ -3,8 +3,6 @@
 use join_spec::Counts;
 use sets::Refusal;
 use sets::head_of;
-ghost use mathlib.Core.Path.{_≡_};
-ghost use mathlib.Core.Bool.{true};
 ghost use Prim.Native.Nat.{_+_, _*_, _≤_};
 ghost use lib.ListN.{length};
 ghost use Rattle.lists.specs.Writing.{Room, Put};

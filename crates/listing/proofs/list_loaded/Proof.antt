@@ -1,14 +1,11 @@
 -- `listing::list_loaded` meets its contract: an accepted order fills the program's rank table, and what it refuses the join would
 -- refuse for the same cause.
-use mathlib.Core.Path.{_≡_, ap, ap₂}
-use Prim.Native.Nat.{ℕ, _-_}
+use mathlib.Core.Path.{ap}
+use Prim.Native.Nat.{ℕ}
 use mathlib.Core.List.{List}
 use native.Mathlib.Omega.{arith}
-use Rattle.sets.specs.Limits.{fullWords}
 use Rattle.inputs.specs.Input.{Input, inputOf}
-use Rattle.join_spec.specs.declared.Rule.the-variants.{Merge}
-use Rattle.join_spec.specs.Query.{settingsOf}
-use Rattle.listing.specs.Listing.{joinText}
+use Rattle.listing.specs.Listing.{settingsUnder, joinText}
 use Rattle.listing.proofs.Texts.{put-fills, fills-same}
 use Rattle.listing.proofs.OrderTexts.{ordered-ranks, refused-order}
 use borrow.Author.Needs.{needs}
@@ -50,8 +47,7 @@ returns c =
     let p = c .before .before .before .before .before .before .before .before .before in
     let a = start p .args in
     fills-same
-    (ap (λ (ranks : List ℕ). joinText (a .left-numbers .now) (a .right-numbers .now) (input p)
-    (settingsOf 2 ranks (fullWords - 1) Merge))
+    (ap (λ (ranks : List ℕ). joinText (a .left-numbers .now) (a .right-numbers .now) (input p) (settingsUnder ranks))
     (ordered-ranks (input p) (p .order .ensures) (c .before .before .before .before .before .enum-told .given .1)))
     (c .before .before .list-ordered .ensures)
 

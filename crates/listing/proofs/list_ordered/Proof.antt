@@ -1,13 +1,11 @@
 -- `listing::list_ordered` meets its contract: the text of what the run answered and filled.
-use mathlib.Core.Path.{_≡_, sym}
-use Prim.Native.Nat.{_-_}
+use mathlib.Core.Path.{sym}
 use native.Mathlib.Omega.{arith}
 use lib.Seq.{length-take-le}
 use Rattle.lists.proofs.Writing.{put-append}
-use Rattle.sets.specs.Limits.{fullWords}
 use Rattle.inputs.specs.Input.{Input, inputOf}
-use Rattle.join_spec.specs.declared.Rule.the-variants.{Merge}
-use Rattle.join_spec.specs.Query.{Settings, settingsOf}
+use Rattle.join_spec.specs.Query.{Settings}
+use Rattle.listing.specs.Listing.{settingsUnder}
 use Rattle.listing.proofs.Texts.{put-fills, fills-same}
 use Rattle.listing.proofs.JoinTexts.{refused-text, joined-text, pairs-fit, pairs-room}
 use borrow.Author.Needs.{needs}
@@ -24,7 +22,7 @@ input p =
     inputOf (a .t) (a .left-ends .now) (a .left-items .now) (a .right-ends .now) (a .right-items .now)
 
 abbrev asked : tie.After-run → Settings
-asked p = settingsOf 2 (start p .args .ranks .now) (fullWords - 1) Merge
+asked p = settingsUnder (start p .args .ranks .now)
 
 new-work-requires : tie.Need-new-work-requires
 new-work-requires c κs = search needs

@@ -1,7 +1,7 @@
 -- `listing::list_short` meets its contract: what was loaded lies within the lists and is what the file's records fill; and the load
 -- is refused for a record at fault alone.
 use native.Mathlib.Omega.{arith}
-use Rattle.tag_file.specs.Loading.{Lists, listsOf, LoadCall}
+use Rattle.tag_file.specs.Loading.{Lists, listsOf}
 use Rattle.listing.proofs.Texts.{put-fills, fills-same}
 use Rattle.listing.proofs.LoadRoom.{ProgramLists}
 use Rattle.listing.proofs.LoadTexts.{loaded-text, loaded-within, refused-load}

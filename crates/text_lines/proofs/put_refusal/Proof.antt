@@ -1,5 +1,5 @@
 -- `text_lines::put_refusal` meets its contract: number and detail are the refusal table's.
-use mathlib.Core.Path.{_≡_, subst}
+use mathlib.Core.Path.{ap₂, subst}
 use Prim.Native.Nat.{ℕ}
 use mathlib.Core.List.{List}
 use borrow.Author.Needs.{needs}
@@ -21,7 +21,11 @@ returns : tie.Need-returns
 returns c =
     let call = c .before .before .put-refused in
     let head = c .before .before .before .before .head-of in
-    (rw (head .ensures .0, head .ensures .1) at (call .ensures .0), call .ensures .1)
+    let text = c .before .before .before .before .before .before .args .text .now in (
+      subst (λ (line : List ℕ). Put text 0 line (call .result) (call .last .0))
+          (ap₂ refusedLine (head .ensures .0) (head .ensures .1)) (call .ensures .0),
+      call .ensures .1,
+    )
 
 pub put-refusal-spec : {M : Type 1} → statement M
 put-refusal-spec = tie.close (tie.spec head-of-requires put-refused-requires same-length returns)

@@ -7,7 +7,6 @@ use native.Mathlib.Numerals.{add-one}
 use native.Mathlib.Omega.{arith}
 use lib.ListN.{length, getD, set, drop, drop-of-length-le}
 use lib.Seq.{drop-cons}
-use borrow.Author.Needs.{needs}
 use Rattle.lists.specs.Writing.{Put}
 use Rattle.lists.proofs.Writing.{Writing, writing-start, writing-step, writing-end, writing-room}
 use Rattle.text_lines.proofs.put_word.Statement.{statement}
