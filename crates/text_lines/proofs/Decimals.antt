@@ -1,70 +1,81 @@
--- Decimal numbers: the digits that the library writes are the definition's, and how many there are at most.
-use Prim.Native.Nat.{ℕ, zero, suc, _+_, _-_, _/_, _%_, _^_, _<_, _≤_}
-use mathlib.Core.Path.{_≡_, refl, ap, subst, _∙_}
+-- Decimal numbers: the definition without its fuel, a digit or one digit more; the digits that the library writes are the
+-- definition's; and how many there are at most.
+use Prim.Native.Nat.{ℕ, zero, suc, _-_, _/_, _%_, _^_, _<_, _≤_}
+use mathlib.Core.Path.{_≡_, refl, sym, ap, subst, _∙_}
 use mathlib.Core.List.{List, [], _∷_, _++_}
 use mathlib.Core.Bool.{Bool, true, false, cond}
 use native.Mathlib.Nat.{pow-zero, pow-suc}
 use native.Mathlib.Omega.{arith}
-use borrow.Author.Tests.{ltb-false, lt-ltb, le-ltb}
+use borrow.Author.Tests.{ltb-true, ltb-false, lt-ltb, le-ltb}
 use lib.Dec.{ltb}
 use lib.ListN.{length, length-append}
+use Rattle.lists.proofs.Bools.{by-test}
 use Rattle.io.specs.Digits.{glyph, digits, Fewest}
 use Rattle.text_lines.specs.Lines.{digit, decimalFrom, decimal}
+
+-- any fuel above the number gives the same
+fuel-same : (f g n : ℕ) → n < f → n < g → decimalFrom f n ≡ decimalFrom g n
+unfolding decimalFrom
+fuel-same zero g n a b = absurd (omega arith)
+fuel-same (suc f) zero n a b = absurd (omega arith)
+fuel-same (suc f) (suc g) n a b = here (λ large. fuel-same f g (n / 10) (omega arith) (omega arith)) (ltb n 10) refl
+  where
+    here : (10 ≤ n → decimalFrom f (n / 10) ≡ decimalFrom g (n / 10)) → (b : Bool) → ltb n 10 ≡ b
+        → cond b (digit n ∷ []) (decimalFrom f (n / 10) ++ (digit (n % 10) ∷ []))
+        ≡ cond b (digit n ∷ []) (decimalFrom g (n / 10) ++ (digit (n % 10) ∷ []))
+    here again true e = refl
+    here again false e = ap (λ (l : List ℕ). l ++ (digit (n % 10) ∷ [])) (again (ltb-false n 10 e))
+
+module _ (n : ℕ) where
+  -- a number below ten is its digit
+  pub decimal-digit : n < 10 → decimal n ≡ digit n ∷ []
+  unfolding decimal decimalFrom
+  decimal-digit small = rw (lt-ltb n 10 small)
+
+  -- any other is the tenth of it, and its last digit
+  pub decimal-more : 10 ≤ n → decimal n ≡ decimal (n / 10) ++ (digit (n % 10) ∷ [])
+  unfolding decimal decimalFrom
+  decimal-more large =
+      rw (le-ltb n 10 large)
+      (ap (λ (l : List ℕ). l ++ (digit (n % 10) ∷ [])) (fuel-same n (suc (n / 10)) (n / 10) (omega arith) (omega arith)))
 
 glyph-digit : (d : ℕ) → d < 10 → glyph d ≡ digit d
 glyph-digit d small = rw (lt-ltb d 10 small)
 
--- the fewest digits of n are those of the definition, where the fuel suffices
-digits-from : (k fuel n : ℕ) → Fewest 10 1 n k → n < fuel → digits 10 k n ≡ decimalFrom fuel n
-unfolding decimalFrom
-digits-from zero fuel n few enough = absurd (omega (arith, few .0))
-digits-from (suc k) zero n few enough = absurd (omega arith)
-digits-from (suc zero) (suc fuel) n few enough =
+pow-positive : (k : ℕ) → 1 ≤ 10 ^ k
+pow-positive zero = omega (arith, pow-zero 10)
+pow-positive (suc k) = omega (arith, pow-suc 10 k, pow-positive k)
+
+-- the fewest digits of a number are those of the definition
+pub digits-decimal : (k n : ℕ) → Fewest 10 1 n k → digits 10 k n ≡ decimal n
+digits-decimal zero n few = absurd (omega (arith, few .0))
+digits-decimal (suc zero) n few =
     let small : n < 10 = omega (arith, few .1) in
     let whole : n % 10 ≡ n = omega arith in
-    rw (lt-ltb n 10 small) (ap (λ (d : ℕ). glyph d ∷ []) whole ∙ ap (λ (d : ℕ). d ∷ []) (glyph-digit n small))
-digits-from (suc (suc k)) (suc fuel) n few enough =
+    ap (λ (d : ℕ). glyph d ∷ []) whole ∙ ap (λ (d : ℕ). d ∷ []) (glyph-digit n small) ∙ sym (decimal-digit n small)
+digits-decimal (suc (suc k)) n few =
     let whole : suc (suc k) - 1 ≡ suc k = omega arith in
-    let least : 10 ^ suc k ≤ n = subst (λ (j : ℕ). 10 ^ j ≤ n) whole (few .2 (omega arith)) in
     let front : k ≡ suc k - 1 = omega arith in
-    let positive = pow-positive k in
-    let large : 10 ≤ n = omega (arith, pow-suc 10 k) in
-    let shorter : Fewest 10 1 (n / 10) (suc k) =
-    (omega arith, omega (arith, few .1, pow-suc 10 (suc k)), λ more. subst (λ (j : ℕ). 10 ^ j ≤ n / 10) front (omega (arith, pow-suc 10 k))) in
-    rw (le-ltb n 10 large)
-    (ap (λ (l : List ℕ). l ++ (glyph (n % 10) ∷ [])) (digits-from (suc k) fuel (n / 10) shorter (omega arith))
-    ∙ ap (λ (d : ℕ). decimalFrom fuel (n / 10) ++ (d ∷ [])) (glyph-digit (n % 10) (omega arith)))
-  where
-    pow-positive : (j : ℕ) → 1 ≤ 10 ^ j
-    pow-positive zero = omega (arith, pow-zero 10)
-    pow-positive (suc j) = omega (arith, pow-suc 10 j, pow-positive j)
-
-pub digits-decimal : (k n : ℕ) → Fewest 10 1 n k → digits 10 k n ≡ decimal n
-unfolding decimal
-digits-decimal k n few = digits-from k (suc n) n few (omega arith)
+    let least : 10 ^ suc k ≤ n = subst (λ (j : ℕ). 10 ^ j ≤ n) whole (few .2 (omega arith)) in
+    let large : 10 ≤ n = omega (arith, pow-suc 10 k, pow-positive k) in
+    let shorter : Fewest 10 1 (n / 10) (suc k) = (
+      omega arith,
+      omega (arith, few .1, pow-suc 10 (suc k)),
+      λ more. subst (λ (j : ℕ). 10 ^ j ≤ n / 10) front (omega (arith, pow-suc 10 k)),
+    ) in
+    ap (λ (l : List ℕ). l ++ (glyph (n % 10) ∷ [])) (digits-decimal (suc k) (n / 10) shorter)
+    ∙ ap (λ (d : ℕ). decimal (n / 10) ++ (d ∷ [])) (glyph-digit (n % 10) (omega arith))
+    ∙ sym (decimal-more n large)
 
 -- a number below a power of ten has no more digits than its exponent
-length-from : (fuel k n : ℕ) → n < 10 ^ suc k → length (decimalFrom fuel n) ≤ suc k
-unfolding decimalFrom
-length-from zero k n low = omega arith
-length-from (suc fuel) k n low = by-size (λ j less. length-from fuel j (n / 10) less) (ltb n 10) refl
-  where
-    shorter : ((j : ℕ) → n / 10 < 10 ^ suc j → length (decimalFrom fuel (n / 10)) ≤ suc j)
-        → (j : ℕ) → n < 10 ^ suc j → 10 ≤ n → length (decimalFrom fuel (n / 10)) ≤ j
-    shorter again zero low large = absurd (omega arith)
-    shorter again (suc j) low large = again j (omega (arith, pow-suc 10 (suc j)))
-
-    by-size : ((j : ℕ) → n / 10 < 10 ^ suc j → length (decimalFrom fuel (n / 10)) ≤ suc j)
-        → (b : Bool) → ltb n 10 ≡ b
-        → length (cond b (digit n ∷ []) (decimalFrom fuel (n / 10) ++ (digit (n % 10) ∷ []))) ≤ suc k
-    by-size again true e = omega arith
-    by-size again false e =
-        omega (
-          arith,
-          shorter again k low (ltb-false n 10 e),
-          length-append (decimalFrom fuel (n / 10)) (digit (n % 10) ∷ []),
-        )
-
 pub length-decimal : (k n : ℕ) → n < 10 ^ suc k → length (decimal n) ≤ suc k
-unfolding decimal
-length-decimal k n low = length-from (suc n) k n low
+length-decimal zero n low = omega (arith, ap length (decimal-digit n (omega arith)))
+length-decimal (suc k) n low =
+    by-test (ltb n 10) (λ e. omega (arith, ap length (decimal-digit n (ltb-true n 10 e))))
+    (λ e.
+    omega (
+      arith,
+      ap length (decimal-more n (ltb-false n 10 e)),
+      length-append (decimal (n / 10)) (digit (n % 10) ∷ []),
+      length-decimal k (n / 10) (omega (arith, pow-suc 10 (suc k))),
+    ))
