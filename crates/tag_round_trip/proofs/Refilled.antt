@@ -114,23 +114,23 @@ module _ (rs : List TagRecord) where
   side-sets : (side : Side) → setsOf (endsOf side rs) (joinedItems side rs) ≡ setsOfSide side (tagTable rs) rs
   side-sets side = sets-joined (setsOfSide side (tagTable rs) rs)
 
-  pub side-good : (side : Side) → all (λ r. leb (length (r .tags)) maxSetLength) rs ≡ true → length (ofSide side rs) ≤ maxSets
-      → entriesOf side rs ≤ maxEntries
-      → numberedTest (length (tagTable rs)) side (numbersOf side rs) (endsOf side rs) (joinedItems side rs) ≡ Passed
-  side-good side few places entries =
-      let table = tagTable rs in
-      let sets = setsOfSide side table rs in
-      let r = rising-collapse (allTags rs) in
-      let n : length sets ≡ length (ofSide side rs) = length-map (ofSide side rs) (λ r. itemsOf table (r .tags)) in
-      let m : length (join sets) ≡ entriesOf side rs = length-joinedItems side rs in
-      let good : firstBad (length table) (endsOf side rs) (joinedItems side rs) ≡ Good =
-      good-joined (length table) 0 0 [] sets refl (omega arith) (omega arith)
-      (sets-good side table r (ofSide side rs) (own-tags side)
-      (all-keep (λ r. leb (length (r .tags)) maxSetLength) (λ r. sameSide side (r .side)) rs few)) in
-      let numbered : length (numbersOf side rs) ≡ length (endsOf side rs) =
-      length-numbersOf side rs ∙ sym (length-endsOf side rs) in
-      sym (side-even (length table) side (numbersOf side rs) (endsOf side rs) (joinedItems side rs)
-      (ap (noBadSet side) good) numbered)
+  -- no set of a side is bad, within the limits
+  module _ (side : Side) (few : all (λ r. leb (length (r .tags)) maxSetLength) rs ≡ true) (places : length (ofSide side rs) ≤ maxSets)
+      (entries : entriesOf side rs ≤ maxEntries) where
+    pub side-unbad : firstBad (length (tagTable rs)) (endsOf side rs) (joinedItems side rs) ≡ Good
+    side-unbad =
+        let table = tagTable rs in
+        let sets = setsOfSide side table rs in
+        let n : length sets ≡ length (ofSide side rs) = length-map (ofSide side rs) (λ r. itemsOf table (r .tags)) in
+        let m : length (join sets) ≡ entriesOf side rs = length-joinedItems side rs in
+        good-joined (length table) 0 0 [] sets refl (omega arith) (omega arith)
+        (sets-good side table (rising-collapse (allTags rs)) (ofSide side rs) (own-tags side)
+        (all-keep (λ r. leb (length (r .tags)) maxSetLength) (λ r. sameSide side (r .side)) rs few))
+
+    pub side-good : numberedTest (length (tagTable rs)) side (numbersOf side rs) (endsOf side rs) (joinedItems side rs) ≡ Passed
+    side-good =
+        sym (side-even (length (tagTable rs)) side (numbersOf side rs) (endsOf side rs) (joinedItems side rs)
+        (ap (noBadSet side) side-unbad) (length-numbersOf side rs ∙ sym (length-endsOf side rs)))
 
   pub lists-records : tagsFit (tagTable rs) ≡ true → recordsOfLists (filled rs) ≡ rewritten rs
   unfolding rewritten

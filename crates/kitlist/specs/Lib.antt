@@ -1,2 +1,0 @@
--- Contents: what the inner functions of the program ask.
-pub mod Places

@@ -1,0 +1,1 @@
+// Laws only: what the text of a file can be.
