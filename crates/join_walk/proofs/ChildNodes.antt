@@ -80,7 +80,8 @@ module _ {lay : Layout} {st : Settings} {q : Query} {path w : List ℕ} {d i hi 
       rising-below own (left-rising q (leftIn lay w i)) (d - 1) (suc (d - 1)) (omega arith) (omega (arith, step, long)) in
       omega (arith, at-last, at-rank, rises, ap (λ (m : ℕ). getD own m 0) step)
 
-  slot-beyond : slotOf lay w (suc (lastOf path)) ≤ slotOf lay w (lastOf longer)
+  -- and so its slot lies beyond the candidates
+  pub slot-beyond : slotOf lay w (suc (lastOf path)) ≤ slotOf lay w (lastOf longer)
   slot-beyond =
       let below : lastOf longer ≤ q .T = omega (arith, child .last) in
       omega (

@@ -25,8 +25,11 @@ pub mod EmptyNodes
 pub mod LoneSets
 pub mod NodeChildren
 pub mod NodeEntries
+pub mod RunParts
 pub mod ChildSteps
 pub mod ChildNodes
+pub mod HeavyChild
+pub mod Descents
 pub mod PartitionSteps
 pub mod Totals
 pub mod WalkSteps

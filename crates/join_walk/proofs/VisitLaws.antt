@@ -57,6 +57,15 @@ module _ {q : Query} {d : ℕ} where
         };
       }
 
+  added-before : {a b : List ℕ} {tally r u : Tally} → Added q d b tally r → Added q d a r u → Added q d (a ++ b) tally u
+  added-before {a} {b} first second =
+      record {
+        tallied = record {
+          grows = λ kind.
+              omega (arith, sum-append (row (isOf kind) q d) a b, first .tallied .grows kind, second .tallied .grows kind);
+        };
+      }
+
   -- one visit after another that was within the budget
   pub visited-then : {budget : ℕ} {a b : List ℕ} {tally r : Tally} {u : Walked}
       → Added q d a tally r → Visited q budget d b r u → Visited q budget d (a ++ b) tally u
@@ -67,10 +76,30 @@ module _ {q : Query} {d : ℕ} where
         beyond = λ spent. omega (arith, second .beyond spent, checks-added first, sum-append (row isCheck q d) a b);
       }
 
+  -- a visit of left sets that stand before those that were visited already
+  pub visited-before : {budget : ℕ} {a b : List ℕ} {tally r : Tally} {u : Walked}
+      → Added q d b tally r → Visited q budget d a r u → Visited q budget d (a ++ b) tally u
+  visited-before {budget} {a} {b} {tally} {r} {u} first second =
+      record {
+        added = λ calm. added-before first (second .added calm);
+        within = second .within;
+        beyond = λ spent. omega (arith, second .beyond spent, checks-added first, sum-append (row isCheck q d) a b);
+      }
+
   -- a visit that passed the budget, with more left sets behind it
   pub visited-early : {budget : ℕ} {a : List ℕ} (b : List ℕ) {tally : Tally} {u : Walked} → u .spent ≡ true
       → Visited q budget d a tally u → Visited q budget d (a ++ b) tally u
   visited-early {budget} {a} b {tally} {u} spent first =
+      record {
+        added = λ calm. true-false spent calm;
+        within = λ calm. true-false spent calm;
+        beyond = λ again. omega (arith, first .beyond spent, sum-append (row isCheck q d) a b);
+      }
+
+  -- or before it
+  pub visited-late : {budget : ℕ} (a : List ℕ) {b : List ℕ} {tally : Tally} {u : Walked} → u .spent ≡ true
+      → Visited q budget d b tally u → Visited q budget d (a ++ b) tally u
+  visited-late {budget} a {b} {tally} {u} spent first =
       record {
         added = λ calm. true-false spent calm;
         within = λ calm. true-false spent calm;

@@ -4,4 +4,5 @@ pub mod Narrowing
 pub mod Visiting
 pub mod Blocks
 pub mod Entering
+pub mod Heaviest
 pub mod Partitions

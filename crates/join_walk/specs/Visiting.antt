@@ -81,7 +81,7 @@ pub record Children (lay : Layout) (st : Settings) (q : Query) (path w : List �
   pub few : hi ≤ length (q .lefts)
   pub least : ℕ
   pub span : ℕ
-  pub keys : least + span ≡ suc (q .T)
+  pub keys : least + span ≤ suc (q .T)
   pub further : 0 < least
   pub lefts : run lay w lo hi ≡ groupsFrom (keyAt q d) least span (beginners q path (suc d))
 

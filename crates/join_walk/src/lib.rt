@@ -2,6 +2,7 @@
 pub mod blocks;
 pub mod decide;
 pub mod enter;
+pub mod heavy;
 pub mod lone;
 pub mod narrow;
 pub mod visit;

@@ -1,8 +1,11 @@
 // The visit of a node and of its children: node visit calls the child loop, which calls node visit, and the limit less the
-// depth falls.
+// depth falls. The child with most left sets is left out of these calls: the visit goes on with it in place of the node. Each of the
+// others has at most half of the node's left sets, so that calls lie above each other only as often as these can be halved,
+// whatever the limit.
 use crate::blocks::check_block;
 use crate::decide::decide;
 use crate::enter::enter_node;
+use crate::heavy::heaviest_run;
 use join_check::Tally;
 use join_check::keys::run_end;
 use join_index::Layout;
@@ -34,7 +37,8 @@ pub struct Walked {
 }
 
 // Visits a node: the left sets at the places lo up to hi of the order begin with its path of d ranks, and the words from..to
-// are its candidates.
+// are its candidates. A child's slot lies beyond everything that its node still needs, and when the other children are done the
+// node needs nothing more.
 pub fn visit_node(
     work: &mut [u32],
     flags: &mut [u8],
@@ -54,21 +58,45 @@ pub fn visit_node(
     ensures clear { λ _. ⌜ Clear (now (flags .exit)) ⌝ }
 {
     let rule = st.rule;
-    if !decide(work, lay, rule, d, lo, hi, from, to) {
-        return check_block(work, lay, st, d, d - 1, lo, hi, from, to, p);
+    let mut e = d;
+    let mut i = lo;
+    let mut j = hi;
+    let mut first = from;
+    let mut last = to;
+    let mut r = p;
+    while i < j {
+        if !decide(work, lay, rule, e, i, j, first, last) {
+            return check_block(work, lay, st, e, e - 1, i, j, first, last, r);
+        }
+        let on = enter_node(work, flags, lay, st, e, i, j, first, last, r);
+        let at = on.at;
+        let mid = on.mid;
+        if j <= mid {
+            return Walked {
+                at: at,
+                spent: on.spent,
+            };
+        }
+        let heavy = heaviest_run(work, lay, e, mid, j);
+        first = on.from;
+        last = on.to;
+        let below = visit_children(work, flags, lay, st, e, mid, heavy.lo, first, last, at);
+        if below.spent {
+            return below;
+        }
+        let above = visit_children(work, flags, lay, st, e, heavy.hi, j, first, last, below.at);
+        if above.spent {
+            return above;
+        }
+        e += 1;
+        i = heavy.lo;
+        j = heavy.hi;
+        r = above.at;
     }
-    let on = enter_node(work, flags, lay, st, d, lo, hi, from, to, p);
-    let at = on.at;
-    let mid = on.mid;
-    let first = on.from;
-    let last = on.to;
-    if hi <= mid {
-        return Walked {
-            at: at,
-            spent: on.spent,
-        };
+    Walked {
+        at: r,
+        spent: false,
     }
-    visit_children(work, flags, lay, st, d, mid, hi, first, last, at)
 }
 
 // Visits the children of a node of d ranks: the left sets at the places lo up to hi go on after its path, and the words

@@ -11,18 +11,21 @@ use borrow.Fn.PlainCycle.{Measures, is, falls, and}
 use Rattle.join_spec.specs.Query.{Query}
 use Rattle.join_spec.specs.Node.{lastOf}
 use Rattle.word_lists.specs.Flags.{Clear}
-use Rattle.join_walk.specs.Narrowing.{slotOf}
-use Rattle.join_walk.specs.Visiting.{Node, ChildrenAt}
+use Rattle.join_walk.specs.Narrowing.{slotOf, SomePath}
+use Rattle.join_walk.specs.Visiting.{Node, ChildrenAt, NodeVisited}
 use Rattle.join_walk.specs.Entering.{NodeEntered}
+use Rattle.join_walk.specs.declared.visit.Walked.{Walked}
 use Rattle.join_walk.proofs.Asked.{some-path, some-query}
 use Rattle.join_walk.proofs.NodeStops.{goes-on, goes-not, stop-there, stop-small, stop-visited}
 use Rattle.join_walk.proofs.PartLoop.{Continuing, continuing-start, continuing-step, continuing-spent, continuing-end}
 use Rattle.join_walk.proofs.ChildSteps.{kids-run, childPath}
 use Rattle.join_walk.proofs.ChildNodes.{next-node, children-done}
+use Rattle.join_walk.proofs.Descents.{Descending, descending-start, node-left, descending-end, ask-below, spent-below, ask-above, spent-above, descending-step}
 use Rattle.join_check.proofs.keys.run_end.Reads as run-end
 use Rattle.join_walk.proofs.blocks.check_block.Reads as check-block
 use Rattle.join_walk.proofs.decide.decide.Reads as decide
 use Rattle.join_walk.proofs.enter.enter_node.Reads as enter-node
+use Rattle.join_walk.proofs.heavy.heaviest_run.Reads as heaviest-run
 use Rattle.join_walk.proofs.visit.visit_children.Reads as visit-children
 use Rattle.join_walk.proofs.visit.visit_children.Kinds as children-kinds
 use Rattle.join_walk.proofs.visit.visit_node.Reads as visit-node
@@ -64,6 +67,8 @@ node-callees t = (
   check-block.Learnt,
   enter-node.Asked,
   enter-node.Learnt,
+  heaviest-run.Asked,
+  heaviest-run.Learnt,
   children-below t,
   visit-children.Post,
 )
@@ -76,6 +81,13 @@ Inv-loop work₀ flags₀ lay st d lo hi from to r₀ i₀ work flags r i =
 
 abbrev μ-loop : children-lts.MeasureT-loop
 μ-loop work₀ flags₀ lay st d lo hi from to r₀ i₀ work flags r i = hi - i
+
+abbrev Inv-down : node-lts.InvT-loop
+Inv-down work₀ flags₀ lay st d lo hi from to rule e₀ i₀ j₀ first₀ last₀ r₀ work flags e i j first last r =
+    Descending lay st work₀ d lo hi from to r₀ work e i j first last r × Clear flags
+
+abbrev μ-down : node-lts.MeasureT-loop
+μ-down work₀ flags₀ lay st d lo hi from to rule e₀ i₀ j₀ first₀ last₀ r₀ work flags e i j first last r = suc (st .limit) - e
 
 module _ (t : ℕ) where
   -- the child loop
@@ -169,105 +181,216 @@ module _ (t : ℕ) where
         inv .1,
       )
 
-  -- the node visit, where the walk does not go on
-  decide-requires : node-lts.Need-decide-requires (node-callees t) (node-at t) visit-node.Post
-  decide-requires c κs = some-path (c .before .before .before .pre .1 .0) (λ q path node. node .at)
+  node-loop-holds : node-lts.Need-loop-holds (node-callees t) (node-at t) visit-node.Post Inv-down μ-down
+  node-loop-holds c =
+      let start = c .before .before in
+      let a = start .args in
+      (descending-start (a .lay) (a .st) (a .work .now) (a .d) (a .lo) (a .hi) (a .from) (a .to) (a .p), start .pre .1 .1)
 
-  sub-check-block : node-lts.Need-sub-check-block (node-callees t) (node-at t) visit-node.Post
+  -- the node visit: in its loop some node is left
+  abbrev begun : node-lts.In-loop (node-callees t) (node-at t) visit-node.Post Inv-down μ-down → node-lts.Start (node-callees t) (node-at t) visit-node.Post Inv-down μ-down
+  begun c = c .before .before .before .before
+
+  abbrev Here : node-lts.In-loop (node-callees t) (node-at t) visit-node.Post Inv-down μ-down → Query → List ℕ → Type 0
+  Here c q path =
+      let a = begun c .args in
+      let l = c .before .loop in
+      Node (a .lay) (a .st) q path (l .work) (l .e) (l .i) (l .j) (l .first) (l .last) (l .r)
+
+  here : (c : node-lts.In-loop (node-callees t) (node-at t) visit-node.Post Inv-down μ-down) → SomePath (Here c)
+  here c = node-left (c .before .loop .inv .0) (c .loop-test .taken) (begun c .pre .1 .0)
+
+  -- its visit ends the whole
+  ends : (c : node-lts.In-loop (node-callees t) (node-at t) visit-node.Post Inv-down μ-down) {w : List ℕ} {one : Walked}
+      → let a = begun c .args in
+      let l = c .before .loop in
+      ((q : Query) (path : List ℕ) → Here c q path
+      → NodeVisited (a .lay) (a .st) q path (l .work) w (l .e) (l .i) (l .j) (l .r .tally) one)
+      → (q : Query) (path : List ℕ) → Node (a .lay) (a .st) q path (a .work .now) (a .d) (a .lo) (a .hi) (a .from) (a .to) (a .p)
+      → NodeVisited (a .lay) (a .st) q path (a .work .now) w (a .d) (a .lo) (a .hi) (a .p .tally) one
+  ends c = descending-end (c .before .loop .inv .0) (c .loop-test .taken)
+
+  decide-requires : node-lts.Need-decide-requires (node-callees t) (node-at t) visit-node.Post Inv-down μ-down
+  decide-requires c κs =
+      some-path (here (c .before)) (λ q path node. node .at)
+
+  sub-check-block : node-lts.Need-sub-check-block (node-callees t) (node-at t) visit-node.Post Inv-down μ-down
   sub-check-block c =
-      let some = c .before .before .before .before .before .before .pre .1 .0 in
+      let some = here (c .before .before .before .before) in
       omega (arith, some .holds .at .candidates .deep)
 
-  check-block-requires : node-lts.Need-check-block-requires (node-callees t) (node-at t) visit-node.Post
+  check-block-requires : node-lts.Need-check-block-requires (node-callees t) (node-at t) visit-node.Post Inv-down μ-down
   check-block-requires c κs =
-      let some = c .before .before .before .before .before .before .pre .1 .0 in
+      let some = here (c .before .before .before .before) in
       (some-query some (λ q path node. stop-there node), stop-small (some .holds))
 
-  node-same-length : node-lts.Need-same-length (node-callees t) (node-at t) visit-node.Post
-  node-same-length c = search needs
+  node-same-length : node-lts.Need-same-length (node-callees t) (node-at t) visit-node.Post Inv-down μ-down
+  node-same-length c = c .before .before .before .before .before .before .loop .inv .0 .size
 
-  node-returns : node-lts.Need-returns (node-callees t) (node-at t) visit-node.Post
+  node-same-length-2 : node-lts.Need-same-length-2 (node-callees t) (node-at t) visit-node.Post Inv-down μ-down
+  node-same-length-2 c =
+      c .before .before .before .before .before .before .loop .inv .1 .size ∙ sym (c .before .before .before .before .before .before .before .before .before .pre .1 .1 .size)
+
+  node-returns : node-lts.Need-returns (node-callees t) (node-at t) visit-node.Post Inv-down μ-down
   node-returns c =
-      let stop = c .before .before in (
-        λ q path node.
-            stop-visited node (goes-not node (stop .before .decide .ensures) (stop .if1 .taken)) (c .check-block .ensures),
-        stop .before .before .before .before .before .pre .1 .1,
+      let stop = c .before .before in
+      let test = stop .before .before .before in (
+        ends test (λ q path node.
+            stop-visited node (goes-not node (stop .before .decide .ensures) (stop .if1 .taken)) (c .check-block .ensures)),
+        test .before .loop .inv .1,
       )
 
   -- where it goes on, the node was entered
-  abbrev begun : node-lts.After-enter-node (node-callees t) (node-at t) visit-node.Post
-      → node-lts.Start (node-callees t) (node-at t) visit-node.Post
-  begun c = c .before .before .before .before .before .before .before .before
+  abbrev in-loop : node-lts.After-enter-node (node-callees t) (node-at t) visit-node.Post Inv-down μ-down → node-lts.In-loop (node-callees t) (node-at t) visit-node.Post Inv-down μ-down
+  in-loop c = c .before .before .before .before .before .before
 
-  abbrev Begun : node-lts.Start (node-callees t) (node-at t) visit-node.Post → Query → List ℕ → Type 0
-  Begun s q path =
-      let a = s .args in
-      Node (a .lay) (a .st) q path (a .work .now) (a .d) (a .lo) (a .hi) (a .from) (a .to) (a .p)
-
-  enter-node-requires : node-lts.Need-enter-node-requires (node-callees t) (node-at t) visit-node.Post
-  enter-node-requires c κs =
-      let on = c .before .before in
-      let asked = on .before .before .before .before .before .pre .1 in (
-        some-path (asked .0)
-            (λ q path node. record { node = node; on = goes-on node (on .before .decide .ensures) (on .if1 .left) }),
-        asked .1,
-      )
-
-  entered : (c : node-lts.After-enter-node (node-callees t) (node-at t) visit-node.Post) (q : Query) (path : List ℕ)
-      → Begun (begun c) q path
-      → let a = begun c .args in
-      NodeEntered (a .lay) (a .st) q path (a .work .now) (c .enter-node .last .0) (a .d) (a .lo) (a .hi) (a .p)
-      (c .enter-node .result)
+  entered : (c : node-lts.After-enter-node (node-callees t) (node-at t) visit-node.Post Inv-down μ-down) (q : Query) (path : List ℕ) → Here (in-loop c) q path
+      → let a = begun (in-loop c) .args in
+      let l = in-loop c .before .loop in
+      NodeEntered (a .lay) (a .st) q path (l .work) (c .enter-node .last .0) (l .e) (l .i) (l .j) (l .r) (c .enter-node .result)
   entered c q path node =
       let on = c .before .before .before in
       c .enter-node .ensures .0 q path
       (record { node = node; on = goes-on node (on .before .decide .ensures) (on .if1 .left) })
 
-  -- its visit is over
-  node-same-length-2 : node-lts.Need-same-length-2 (node-callees t) (node-at t) visit-node.Post
-  node-same-length-2 c = c .before .before .before .before .before .before .enter-node .kept .0
+  enter-node-requires : node-lts.Need-enter-node-requires (node-callees t) (node-at t) visit-node.Post Inv-down μ-down
+  enter-node-requires c κs =
+      let on = c .before .before in
+      let test = on .before .before .before in (
+        some-path (here test)
+            (λ q path node. record { node = node; on = goes-on node (on .before .decide .ensures) (on .if1 .left) }),
+        test .before .loop .inv .1,
+      )
 
-  node-same-length-3 : node-lts.Need-same-length-3 (node-callees t) (node-at t) visit-node.Post
-  node-same-length-3 c = c .before .before .before .before .before .before .enter-node .kept .1 .0
+  node-same-length-3 : node-lts.Need-same-length-3 (node-callees t) (node-at t) visit-node.Post Inv-down μ-down
+  node-same-length-3 c =
+      c .before .before .before .before .before .before .enter-node .kept .0 ∙ c .before .before .before .before .before .before .before .before .before .before .before .before .before .loop .inv .0 .size
 
-  node-returns-2 : node-lts.Need-returns-2 (node-callees t) (node-at t) visit-node.Post
+  node-same-length-4 : node-lts.Need-same-length-4 (node-callees t) (node-at t) visit-node.Post Inv-down μ-down
+  node-same-length-4 c =
+      c .before .before .before .before .before .before .enter-node .kept .1 .0 ∙ c .before .before .before .before .before .before .before .before .before .before .before .before .before .loop .inv .1 .size ∙ sym (c .before .before .before .before .before .before .before .before .before .before .before .before .before .before .before .before .pre .1 .1 .size)
+
+  node-returns-2 : node-lts.Need-returns-2 (node-callees t) (node-at t) visit-node.Post Inv-down μ-down
   node-returns-2 c =
-      let inside = c .before .before .before .before .before .before in
-      (λ q path node. entered inside q path node .over (c .if2 .taken), inside .enter-node .ensures .1)
+      let over = c .before .before .before .before .before .before in
+      (ends (in-loop over) (λ q path node. entered over q path node .over (c .if2 .taken)), over .enter-node .ensures .1)
 
-  -- its children are left
-  visit-children-requires : node-lts.Need-visit-children-requires (node-callees t) (node-at t) visit-node.Post
+  -- its children are left, and a run of them is chosen
+  abbrev inside : node-lts.After-heaviest-run (node-callees t) (node-at t) visit-node.Post Inv-down μ-down → node-lts.After-enter-node (node-callees t) (node-at t) visit-node.Post Inv-down μ-down
+  inside c = c .before .before .before .before .before .before .before .before
+
+  abbrev chosen-at : node-lts.After-visit-children (node-callees t) (node-at t) visit-node.Post Inv-down μ-down → node-lts.After-heaviest-run (node-callees t) (node-at t) visit-node.Post Inv-down μ-down
+  chosen-at c = c .before .before .before
+
+  heaviest-run-requires : node-lts.Need-heaviest-run-requires (node-callees t) (node-at t) visit-node.Post Inv-down μ-down
+  heaviest-run-requires c κs =
+      let more = c .before in
+      let over = more .before .before .before .before .before .before in
+      some-query (here (in-loop over))
+      (λ q path node. kids-run (entered over q path node .kids (more .if2 .left) .kids) (more .if2 .left))
+
+  visit-children-requires : node-lts.Need-visit-children-requires (node-callees t) (node-at t) visit-node.Post Inv-down μ-down
   visit-children-requires c κs =
-      let more = c .before .before in
-      let inside = more .before .before .before .before .before .before in
-      let start = begun inside in (
-        omega (arith, start .pre .0),
+      let chosen = c .before .before in
+      let over = inside chosen in
+      let test = in-loop over in (
+        omega (arith, begun test .pre .0, test .before .loop .inv .0 .deeper),
         (
-          some-path (start .pre .1 .0) (λ q path node. entered inside q path node .kids (more .if2 .left)),
-          inside .enter-node .ensures .1,
+          some-path (here test) (ask-below (entered over) (chosen .before .before .if2 .left) (chosen .heaviest-run .ensures)),
+          over .enter-node .ensures .1,
         ),
       )
 
-  node-same-length-4 : node-lts.Need-same-length-4 (node-callees t) (node-at t) visit-node.Post
-  node-same-length-4 c =
-      let visited = c .before .before .before .before in
-      visited .visit-children .kept .0 ∙ visited .before .before .before .before .before .before .before .before .before .enter-node .kept .0
-
-  node-same-length-5 : node-lts.Need-same-length-5 (node-callees t) (node-at t) visit-node.Post
+  node-same-length-5 : node-lts.Need-same-length-5 (node-callees t) (node-at t) visit-node.Post Inv-down μ-down
   node-same-length-5 c =
-      let visited = c .before .before .before .before in
-      visited .visit-children .kept .1 .0 ∙ visited .before .before .before .before .before .before .before .before .before .enter-node .kept .1 .0
+      c .before .before .before .before .before .visit-children .kept .0 ∙ c .before .before .before .before .before .before .before .before .before .before .before .before .before .before .before .before .enter-node .kept .0 ∙ c .before .before .before .before .before .before .before .before .before .before .before .before .before .before .before .before .before .before .before .before .before .before .before .loop .inv .0 .size
 
-  node-returns-3 : node-lts.Need-returns-3 (node-callees t) (node-at t) visit-node.Post
+  node-same-length-6 : node-lts.Need-same-length-6 (node-callees t) (node-at t) visit-node.Post Inv-down μ-down
+  node-same-length-6 c =
+      c .before .before .before .before .before .visit-children .kept .1 .0 ∙ c .before .before .before .before .before .before .before .before .before .before .before .before .before .before .before .before .enter-node .kept .1 .0 ∙ c .before .before .before .before .before .before .before .before .before .before .before .before .before .before .before .before .before .before .before .before .before .before .before .loop .inv .1 .size ∙ sym (c .before .before .before .before .before .before .before .before .before .before .before .before .before .before .before .before .before .before .before .before .before .before .before .before .before .before .pre .1 .1 .size)
+
+  node-returns-3 : node-lts.Need-returns-3 (node-callees t) (node-at t) visit-node.Post Inv-down μ-down
   node-returns-3 c =
-      let visited = c .before .before .before .before in
-      let more = visited .before .before .before in
-      let inside = more .before .before .before .before .before .before in (
-        λ q path node.
-            let so = entered inside q path node in
-            so .rest (more .if2 .left) _ _ (visited .visit-children .ensures .0 q path (so .kids (more .if2 .left))),
-        visited .visit-children .ensures .1,
+      let low = c .before .before .before .before .before in
+      let chosen = chosen-at low in
+      let over = inside chosen in (
+        ends (in-loop over)
+            (spent-below (entered over) (chosen .before .before .if2 .left) (chosen .heaviest-run .ensures)
+            (low .visit-children .ensures .0) (c .if3 .taken)),
+        low .visit-children .ensures .1,
       )
+
+  visit-children-requires-2 : node-lts.Need-visit-children-requires-2 (node-callees t) (node-at t) visit-node.Post Inv-down μ-down
+  visit-children-requires-2 c κs =
+      let calm = c .before .before in
+      let low = calm .before .before .before .before .before in
+      let chosen = chosen-at low in
+      let over = inside chosen in
+      let test = in-loop over in (
+        omega (arith, begun test .pre .0, test .before .loop .inv .0 .deeper),
+        (
+          some-path (here test)
+              (ask-above (entered over) (chosen .before .before .if2 .left) (chosen .heaviest-run .ensures)
+              (low .visit-children .ensures .0) (calm .if3 .left)),
+          low .visit-children .ensures .1,
+        ),
+      )
+
+  node-same-length-7 : node-lts.Need-same-length-7 (node-callees t) (node-at t) visit-node.Post Inv-down μ-down
+  node-same-length-7 c =
+      c .before .before .before .before .before .visit-children2 .kept .0 ∙ c .before .before .before .before .before .before .before .before .before .before .before .before .before .visit-children .kept .0 ∙ c .before .before .before .before .before .before .before .before .before .before .before .before .before .before .before .before .before .before .before .before .before .before .before .before .enter-node .kept .0 ∙ c .before .before .before .before .before .before .before .before .before .before .before .before .before .before .before .before .before .before .before .before .before .before .before .before .before .before .before .before .before .before .before .loop .inv .0 .size
+
+  node-same-length-8 : node-lts.Need-same-length-8 (node-callees t) (node-at t) visit-node.Post Inv-down μ-down
+  node-same-length-8 c =
+      c .before .before .before .before .before .visit-children2 .kept .1 .0 ∙ c .before .before .before .before .before .before .before .before .before .before .before .before .before .visit-children .kept .1 .0 ∙ c .before .before .before .before .before .before .before .before .before .before .before .before .before .before .before .before .before .before .before .before .before .before .before .before .enter-node .kept .1 .0 ∙ c .before .before .before .before .before .before .before .before .before .before .before .before .before .before .before .before .before .before .before .before .before .before .before .before .before .before .before .before .before .before .before .loop .inv .1 .size ∙ sym (c .before .before .before .before .before .before .before .before .before .before .before .before .before .before .before .before .before .before .before .before .before .before .before .before .before .before .before .before .before .before .before .before .before .before .pre .1 .1 .size)
+
+  node-returns-4 : node-lts.Need-returns-4 (node-callees t) (node-at t) visit-node.Post Inv-down μ-down
+  node-returns-4 c =
+      let high = c .before .before .before .before .before in
+      let calm = high .before .before .before in
+      let low = calm .before .before .before .before .before in
+      let chosen = chosen-at low in
+      let over = inside chosen in (
+        ends (in-loop over)
+            (spent-above (entered over) (chosen .before .before .if2 .left) (chosen .heaviest-run .ensures)
+            (low .visit-children .ensures .0) (calm .if3 .left) (high .visit-children2 .ensures .0) (c .if4 .taken)),
+        high .visit-children2 .ensures .1,
+      )
+
+  add-e : node-lts.Need-add-e (node-callees t) (node-at t) visit-node.Post Inv-down μ-down
+  add-e c =
+      let node = here (c .before .before .before .before .before .before .before .before .before .before .before .before .before .before .before .before .before .before .before .before .before .before .before .before .before .before .before .before .before .before) .holds in
+      omega (arith, node .at .within, node .underway .shallow)
+
+  node-loop-less : node-lts.Need-loop-less (node-callees t) (node-at t) visit-node.Post Inv-down μ-down
+  node-loop-less c =
+      let node = here (c .before .before .before .before .before .before .before .before .before .before .before .before .before .before .before .before .before .before .before .before .before .before .before .before .before .before .before .before .before .before .before) .holds in
+      omega (arith, node .at .within, node .underway .limit)
+
+  node-loop-again : node-lts.Need-loop-again (node-callees t) (node-at t) visit-node.Post Inv-down μ-down
+  node-loop-again c =
+      let quiet = c .before in
+      let high = quiet .before .before .before .before .before in
+      let calm = high .before .before .before in
+      let low = calm .before .before .before .before .before in
+      let chosen = chosen-at low in
+      let over = inside chosen in
+      let test = in-loop over in (
+        descending-step (entered over) (chosen .before .before .if2 .left) (chosen .heaviest-run .ensures)
+            (low .visit-children .ensures .0) (calm .if3 .left) (high .visit-children2 .ensures .0) (quiet .if4 .left)
+            (test .loop-test .taken) (test .before .loop .inv .0)
+            (high .visit-children2 .kept .0 ∙ low .visit-children .kept .0 ∙ over .enter-node .kept .0),
+        high .visit-children2 .ensures .1,
+      )
+
+  node-same-length-9 : node-lts.Need-same-length-9 (node-callees t) (node-at t) visit-node.Post Inv-down μ-down
+  node-same-length-9 c = c .before .loop .inv .0 .size
+
+  node-same-length-10 : node-lts.Need-same-length-10 (node-callees t) (node-at t) visit-node.Post Inv-down μ-down
+  node-same-length-10 c = c .before .loop .inv .1 .size ∙ sym (c .before .before .before .before .pre .1 .1 .size)
+
+  node-returns-5 : node-lts.Need-returns-5 (node-callees t) (node-at t) visit-node.Post Inv-down μ-down
+  node-returns-5 c = let inv = c .before .loop .inv in (inv .0 .done (c .loop-test .left), inv .1)
 
 pub +visit-children+visit-node-spec : {M : Type 1} → statement M
 +visit-children+visit-node-spec =
@@ -287,17 +410,30 @@ pub +visit-children+visit-node-spec : {M : Type 1} → statement M
     (children-same-length-4 t)
     (children-returns-2 t))
     λ t.
-    node-lts.spec (node-callees t) (node-at t) visit-node.Post
+    node-lts.spec (node-callees t) (node-at t) visit-node.Post Inv-down μ-down
+    (node-loop-holds t)
     (decide-requires t)
     (sub-check-block t)
     (check-block-requires t)
     (node-same-length t)
+    (node-same-length-2 t)
     (node-returns t)
     (enter-node-requires t)
-    (node-same-length-2 t)
     (node-same-length-3 t)
-    (node-returns-2 t)
-    (visit-children-requires t)
     (node-same-length-4 t)
+    (node-returns-2 t)
+    (heaviest-run-requires t)
+    (visit-children-requires t)
     (node-same-length-5 t)
+    (node-same-length-6 t)
     (node-returns-3 t)
+    (visit-children-requires-2 t)
+    (node-same-length-7 t)
+    (node-same-length-8 t)
+    (node-returns-4 t)
+    (add-e t)
+    (node-loop-less t)
+    (node-loop-again t)
+    (node-same-length-9 t)
+    (node-same-length-10 t)
+    (node-returns-5 t)
