@@ -34,8 +34,6 @@ use Rattle.join_check.specs.Asking.{Index}
 use Rattle.join_walk.specs.Partitions.{WalkReady, WalkDone}
 use Rattle.join_walk.specs.declared.visit.Walked.{Walked}
 use Rattle.join_walk.proofs.FrameLaws.{index-framed}
-use Rattle.kept_rows.specs.Keeping.{ClearThere, Cleared}
-use Rattle.kept_rows.proofs.RowLaws.{index-kept}
 use Rattle.join_pairs.specs.Writing.{PairsRoom}
 use Rattle.join.specs.Ready.{Accepted}
 
@@ -129,10 +127,10 @@ module _ {i : Input} {limit : ℕ} {ranks : List ℕ} {words : ℕ} {rule : Rule
   answer-spent places spent = sym (spent-above asked budget places (done .counted .beyond spent))
 
   module _ (calm : r .spent ≡ false) where
-    pub count-is : r .tally .«by_path» + r .tally .confirmed ≡ pairCount (asked .lefts) (asked .rights)
+    pub count-is : r .at .tally .«by_path» + r .at .tally .confirmed ≡ pairCount (asked .lefts) (asked .rights)
     count-is = omega (arith, done .counted .counts calm pathPair, done .counted .counts calm confirmedCheck, all-met ok rule)
 
-    pub count-small : r .tally .«by_path» + r .tally .confirmed < fullWords
+    pub count-small : r .at .tally .«by_path» + r .at .tally .confirmed < fullWords
     count-small =
         omega (
           arith,
@@ -142,7 +140,7 @@ module _ {i : Input} {limit : ℕ} {ranks : List ℕ} {words : ℕ} {rule : Rule
           small ok rule isConfirmed,
         )
 
-    pub checks-small : r .tally .dropped + (r .tally .«false_drops» + r .tally .confirmed) < fullWords
+    pub checks-small : r .at .tally .dropped + (r .at .tally .«false_drops» + r .at .tally .confirmed) < fullWords
     checks-small =
         omega (
           arith,
@@ -154,34 +152,30 @@ module _ {i : Input} {limit : ℕ} {ranks : List ℕ} {words : ℕ} {rule : Rule
           small ok rule isConfirmed,
         )
 
-    pub answer-short : (places : ℕ) → places < 2 * (r .tally .«by_path» + r .tally .confirmed)
+    pub answer-short : (places : ℕ) → places < 2 * (r .at .tally .«by_path» + r .at .tally .confirmed)
         → Refused ShortPairs ≡ walkAnswer asked budget places
     answer-short places short = short-places asked budget places (done .counted .within calm) (omega (arith, short, count-is))
 
-    pub rows-ready : Index lay asked w → ClearThere lay asked w′ (length (i .left .ends))
-    rows-ready index = record { index = index-framed index (done .framed) (omega arith); leftCount = lefts-count ok rule }
-
-    pub pairs-room : {v : List ℕ} → Index lay asked w → Cleared lay w′ (length (i .left .ends)) v → (pairs : List ℕ)
-        → 2 * (r .tally .«by_path» + r .tally .confirmed) ≤ length pairs
-        → PairsRoom lay asked v (length (i .left .ends)) (length (i .right .ends)) pairs
-    pairs-room index cleared pairs enough =
+    pub pairs-room : Index lay asked w → (pairs : List ℕ) → 2 * (r .at .tally .«by_path» + r .at .tally .confirmed) ≤ length pairs
+        → PairsRoom lay asked w′ (length (i .left .ends)) (length (i .right .ends)) pairs
+    pairs-room index pairs enough =
         record {
-          index = index-kept (cleared .frame) (cleared .size) (rows-ready index .index);
-          top = lay .rows;
-          rows = cleared .rows asked (rows-ready index);
+          index = index-framed index (done .framed) (omega arith);
+          top = r .at .top;
+          rows = done .rows calm;
           leftCount = lefts-count ok rule;
           rightCount = rights-count ok rule;
           room = omega (arith, count-is);
         }
 
-    pub answer-joined : (places : ℕ) → 2 * (r .tally .«by_path» + r .tally .confirmed) ≤ places
+    pub answer-joined : (places : ℕ) → 2 * (r .at .tally .«by_path» + r .at .tally .confirmed) ≤ places
         → Joined (record {
-          pairs = r .tally .«by_path» + r .tally .confirmed;
-          «by_path» = r .tally .«by_path»;
-          confirmed = r .tally .confirmed;
-          checks = r .tally .dropped + (r .tally .«false_drops» + r .tally .confirmed);
-          dropped = r .tally .dropped;
-          «false_drops» = r .tally .«false_drops»;
+          pairs = r .at .tally .«by_path» + r .at .tally .confirmed;
+          «by_path» = r .at .tally .«by_path»;
+          confirmed = r .at .tally .confirmed;
+          checks = r .at .tally .dropped + (r .at .tally .«false_drops» + r .at .tally .confirmed);
+          dropped = r .at .tally .dropped;
+          «false_drops» = r .at .tally .«false_drops»;
         })
         ≡ walkAnswer asked budget places
     answer-joined places enough =

@@ -10,7 +10,6 @@ use join_tests::test_join;
 use join_walk::visit::Settings;
 use join_walk::visit::Walked;
 use join_walk::walk::walk;
-use kept_rows::rows::clear_rows;
 use lists::zero_u16;
 use sets::Refusal;
 use sets::Tested;
@@ -72,13 +71,12 @@ fn join_ready(
         zero_u16(pairs);
         return JoinAnswer::Refused(Refusal::Spent);
     }
-    let tally = walked.tally;
+    let tally = walked.at.tally;
     let count = tally.by_path + tally.confirmed;
     if pairs.len() < 2 * (count as usize) {
         zero_u16(pairs);
         return JoinAnswer::Refused(Refusal::ShortPairs);
     }
-    clear_rows(work, lay, lefts);
     write_pairs(work, &mut flags, lay, lefts, rights, pairs);
     JoinAnswer::Joined(Counts {
         pairs: count,

@@ -5,7 +5,7 @@ use mathlib.Core.Path.{_≡_, sym, ap, ap₂, _∙_}
 use mathlib.Core.List.{List, []}
 use mathlib.Core.Bool.{Bool, true, cond}
 use lib.ListN.{getD}
-use Rattle.lists.specs.Lists.{subset, slice}
+use Rattle.lists.specs.Lists.{subset}
 use Rattle.lists.proofs.Throughout.{subset-nil}
 use Rattle.lists.proofs.Slices.{slice-past}
 use Rattle.sets.specs.Signatures.{signature, drops}

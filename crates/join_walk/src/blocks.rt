@@ -62,11 +62,12 @@ pub fn check_block(
     ensures { λ r. ⌜ Blocked lay (now (work .entry)) (st .budget) e lo hi from to p r ⌝ }
 {
     let limit = st.limit;
+    let tally = p.tally;
     let checks = (hi - lo) * (to - from);
-    if !covers(st.budget, p.tally, checks) {
+    if !covers(st.budget, tally, checks) {
         return Walked { at: p, spent: true };
     }
-    let r = gather(work, lay, limit, d, e, lo, hi, from, to, p.tally);
+    let r = gather(work, lay, limit, d, e, lo, hi, from, to, tally);
     Walked {
         at: Progress {
             tally: r,

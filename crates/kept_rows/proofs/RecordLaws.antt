@@ -1,15 +1,14 @@
 -- A row that is kept while its left set is checked: the invariant of `record_row`, with its start, step and end. The index and the
 -- places that are read lie below the rows, so that each check finds what it would have found at first.
 use Prim.Native.Nat.{ℕ, _+_, _-_, _≤_, _<_}
-use mathlib.Core.Path.{_≡_, refl, sym, ap, subst, _∙_}
+use mathlib.Core.Path.{_≡_, sym, ap, subst, _∙_}
 use mathlib.Core.List.{List, []}
 use mathlib.Core.Bool.{cond}
 use native.Mathlib.Omega.{arith}
 use lib.ListN.{length, getD, set, take}
 use Rattle.lists.specs.Lists.{one, slice, rising, subset}
 use Rattle.lists.specs.Parts.{Changed}
-use Rattle.lists.proofs.Counting.{one-bound}
-use Rattle.lists.proofs.Slices.{frame-less, frame-at, frame-slice, length-slice, changed-none, changed-store}
+use Rattle.lists.proofs.Slices.{frame-less, frame-at, frame-slice, length-slice, changed-none}
 use Rattle.sets.specs.Signatures.{signature, drops}
 use Rattle.join_spec.specs.Query.{Query}
 use Rattle.join_spec.specs.Walk.{Outcome, dropped, falseDrop, confirmed}
@@ -205,10 +204,11 @@ module _ {lay : Layout} {w₀ : List ℕ} {k e from to top : ℕ} {tally : Tally
             keeping = kept-step;
           }
 
-    pub recording-end : Some (λ q. RecordThere lay q w₀ k e from to top) → to ≤ i
-        → RowRecorded lay w₀ k e from to tally top (rowStored lay k top n w) (record { tally = r; top = n })
-    recording-end some past =
-        record {
+    pub recording-end : {v : List ℕ} → Some (λ q. RecordThere lay q w₀ k e from to top) → to ≤ i → v ≡ rowStored lay k top n w
+        → RowRecorded lay w₀ k e from to tally top v (record { tally = r; top = n })
+    recording-end {v} some past kept =
+        rw kept
+        (record {
           size =
               stored-size (recording-index (some .holds) .ground) k top n (some .holds .row .left .below)
               ∙ so .changed .size;
@@ -216,4 +216,4 @@ module _ {lay : Layout} {w₀ : List ℕ} {k e from to top : ℕ} {tally : Tally
           checked = row-end (so .checking) past;
           rows = λ q there. row-rows there past;
           past = λ q there. row-long there past;
-        }
+        })

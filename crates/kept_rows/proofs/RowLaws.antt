@@ -1,14 +1,13 @@
 -- The kept rows while the work list changes: below them, above them, and in the two words of a left set.
 use Prim.Native.Nat.{ℕ, _+_, _≤_, _<_}
-use mathlib.Core.Path.{_≡_, sym, ap, ap₂, subst, _∙_}
+use mathlib.Core.Path.{_≡_, sym, ap₂, subst, _∙_}
 use mathlib.Core.List.{List}
 use native.Mathlib.Omega.{arith}
 use lib.Dec.{eqb}
-use lib.ListN.{length, getD, set, take, drop, length-set}
+use lib.ListN.{length, set, take, drop, length-set}
 use lib.Seq.{getD-set-same, getD-set-other, take-set-le}
 use borrow.Author.Tests.{eqb-true, eqb-false}
 use Rattle.lists.specs.Lists.{slice}
-use Rattle.lists.specs.Parts.{Changed}
 use Rattle.lists.proofs.Bools.{by-test}
 use Rattle.lists.proofs.Slices.{rest-at, rest-slice, frame-less, frame-at, frame-slice, slice-set-below}
 use Rattle.join_spec.specs.Query.{Query}
@@ -16,7 +15,7 @@ use Rattle.join_index.specs.declared.Layout.{Layout}
 use Rattle.join_index.specs.Ground.{Ground}
 use Rattle.join_check.specs.Asking.{Index}
 use Rattle.join_check.proofs.Reading.{index-frame}
-use Rattle.kept_rows.specs.Kept.{containing, rowStart, rowEnd, RowIs, RowsKept}
+use Rattle.kept_rows.specs.Kept.{rowStart, rowEnd, RowIs, RowsKept}
 use Rattle.kept_rows.specs.Keeping.{WordsRoom, rowStored}
 
 -- a row stands in another list, under other names for its places

@@ -2,11 +2,12 @@
 -- of `share_row`, with its start, step and end.
 use Prim.Native.Nat.{ℕ, _+_, _-_, _≤_, _<_}
 use mathlib.Core.Path.{_≡_, refl, sym, ap, subst, _∙_}
-use mathlib.Core.List.{List, [], _∷_}
+use mathlib.Core.List.{List}
 use mathlib.Core.Bool.{true}
 use native.Mathlib.Omega.{arith}
 use lib.ListN.{length, take}
-use Rattle.lists.specs.Lists.{all, keep, slice}
+use Rattle.lists.specs.Lists.{slice}
+use Rattle.lists.proofs.Throughout.{all-intro}
 use Rattle.lists.proofs.Filtering.{keep-all}
 use Rattle.lists.proofs.Slices.{frame-less, frame-at}
 use Rattle.join_spec.specs.Query.{Query}
@@ -14,7 +15,7 @@ use Rattle.join_index.specs.declared.Layout.{Layout}
 use Rattle.word_lists.specs.Words.{Word}
 use Rattle.word_lists.specs.Flags.{Behind}
 use Rattle.word_lists.proofs.Keeping.{Keeping, keeping-end}
-use Rattle.join_check.specs.Asking.{Some, Index, RunThere}
+use Rattle.join_check.specs.Asking.{Some, Index}
 use Rattle.join_check.specs.Runs.{leftIn}
 use Rattle.join_check.proofs.Orders.{order-within, run-left}
 use Rattle.kept_rows.specs.Kept.{containing, RowIs, RowsKept}
@@ -22,12 +23,7 @@ use Rattle.kept_rows.specs.Keeping.{WordsRoom, rowStored, Copied, ShareT
 use Rattle.kept_rows.proofs.RowLaws.{index-kept, row-moved, rows-grown, rows-stored, words-room}
 use Rattle.kept_rows.proofs.RowLaws.{stored-slice, stored-frame, stored-size}
 
--- every word is kept
-all-true : (l : List ℕ) → all (λ (s : ℕ). true) l ≡ true
-unfolding all
-all-true [] = refl
-all-true (x ∷ xs) = all-true xs
-
+-- a copy of the whole part
 pub copying-end : {w₀ w : List ℕ} {from to top i n : ℕ} → Keeping (λ s. true) w₀ from to top w i n → n + (to - i) ≡ top + (to - from)
     → to ≤ i → Copied from to top w₀ w n
 copying-end {w₀} {w} {from} {to} {top} {i} {n} so past low =
@@ -35,7 +31,7 @@ copying-end {w₀} {w} {from} {to} {top} {i} {n} so past low =
     record {
       changed = kept .changed;
       past = omega (arith, past, low);
-      is = kept .is ∙ keep-all (λ s. true) (slice from to w₀) (all-true (slice from to w₀));
+      is = kept .is ∙ keep-all (λ s. true) (slice from to w₀) (all-intro (λ s. true) (slice from to w₀) (λ s m. refl));
     }
 
 -- the left set at a place of the order stays
@@ -86,18 +82,19 @@ module _ {lay : Layout} {w₀ : List ℕ} {lo hi from to : ℕ} where
         sharing-rows = rows-stored (sharing-index .ground) k from to below own (so .rows q there)
 
     -- one left set more
-    pub sharing-step : {k : ℕ} → Some (λ q. ShareThere lay q w₀ lo hi from to) → i < hi → Word w (lay .order + i) k
-        → Sharing lay w₀ lo hi from to (rowStored lay k from to w) (i + 1)
-    sharing-step {k} some more word =
+    pub sharing-step : {k : ℕ} {v : List ℕ} → Some (λ q. ShareThere lay q w₀ lo hi from to) → i < hi → Word w (lay .order + i) k
+        → v ≡ rowStored lay k from to w → Sharing lay w₀ lo hi from to v (i + 1)
+    sharing-step {k} some more word kept =
         let g = sharing-index (some .holds) more .ground in
         let here = below (some .holds) more word in
-        record {
+        rw kept
+        (record {
           size = stored-size g k from to here ∙ so .size;
           frame = stored-frame g k from to here ∙ so .frame;
           low = omega (arith, so .low);
           rows = λ q there. sharing-rows there more word;
           part = λ low. stored-slice g k from to here from to low ∙ so .part low;
-        }
+        })
 
     pub sharing-end : Shared lay w₀ lo hi from to w
     sharing-end = record { size = so .size; frame = so .frame; rows = so .rows }

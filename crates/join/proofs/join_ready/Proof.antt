@@ -1,18 +1,42 @@
 -- `join_ready` meets its contract: the walk goes over the index that `build` left, and its counters give the refusals 8 and 9
 -- or the counts.
 use native.Mathlib.Omega.{arith}
-use Rattle.join.proofs.AnswerLaws.{build-room, walk-index, walk-ready, walk-made, count-small, checks-small}
-use Rattle.join.proofs.AnswerLaws.{answer-spent, answer-short, rows-ready, pairs-room, answer-joined}
+use Rattle.inputs.specs.Input.{Input, inputOf}
+use Rattle.join_check.specs.Asking.{Index}
+use Rattle.join_walk.specs.Partitions.{WalkDone}
+use Rattle.join.proofs.AnswerLaws.{queryBy, build-room, walk-index, walk-ready, walk-made, count-small, checks-small}
+use Rattle.join.proofs.AnswerLaws.{answer-spent, answer-short, pairs-room, answer-joined}
 use borrow.Author.Needs.{needs}
 use Rattle.join.proofs.join_ready.Statement.{statement}
 use Rattle.join.proofs.join_ready.Tie as tie
 
--- the places on the way: after the build, and the beginning
+-- the places on the way: the beginning, and the walk with the build before it
+abbrev begun : tie.After-build → tie.Start
+begun c = c .before .before .before .before .before .before .before .before .before
+
 abbrev built : tie.After-walk → tie.After-build
 built c = c .before .before .before .before .before .before
 
 abbrev start : tie.After-walk → tie.Start
-start c = built c .before .before .before .before .before .before .before .before .before
+start c = begun (built c)
+
+abbrev input : tie.Start → Input
+input c =
+    inputOf (c .args .t) (c .args .left-ends .now) (c .args .left-items .now) (c .args .right-ends .now)
+    (c .args .right-items .now)
+
+-- the index that was built, and what the walk over it found
+index : (c : tie.After-build)
+    → let a = begun c .args in
+    Index (c .build .result) (queryBy (input (begun c)) (a .limit) (a .ranks .now) (a .rule)) (c .build .last .1 .1 .1 .1 .1 .1 .1 .0)
+index c = walk-index (begun c .pre) (begun c .args .rule) (c .build .ensures .0) (c .build .ensures .1)
+
+done : (c : tie.After-walk)
+    → let a = start c .args in
+    WalkDone (built c .build .result) (queryBy (input (start c)) (a .limit) (a .ranks .now) (a .rule)) (a .budget)
+    (built c .build .last .1 .1 .1 .1 .1 .1 .1 .0) (c .walk .last .0) (c .walk .result)
+done c =
+    walk-made (start c .pre) (start c .args .rule) (built c .build .ensures .0) (built c .build .ensures .1) (c .walk .ensures .0)
 
 build-requires : tie.Need-build-requires
 build-requires c κs = build-room (c .before .before .before .before .before .before .before .before .pre)
@@ -26,11 +50,10 @@ slice-aggregate-walk c = search needs
 walk-requires : tie.Need-walk-requires
 walk-requires c κs =
     let made = c .before .before .before .before .before in
-    let begun = made .before .before .before .before .before .before .before .before .before in
-    let a = begun .args in (
+    let a = begun made .args in (
       record {
         query = _;
-        holds = walk-ready (begun .pre) (a .rule) (made .build .ensures .0) (made .build .ensures .1) (a .budget);
+        holds = walk-ready (begun made .pre) (a .rule) (made .build .ensures .0) (made .build .ensures .1) (a .budget);
       },
       c .before .before .clear-flags .ensures,
     )
@@ -49,19 +72,13 @@ returns c =
     let zeroed = c .before .before in
     let spent = zeroed .before .before in
     let walked = spent .before .before .before .before in
-    let done =
-    walk-made (start walked .pre) (start walked .args .rule) (built walked .build .ensures .0) (built walked .build .ensures .1)
-    (walked .walk .ensures .0) in
-    (answer-spent (start walked .pre) done _ (spent .if1 .taken), zeroed .zero-u16 .ensures)
+    (answer-spent (start walked .pre) (done walked) _ (spent .if1 .taken), zeroed .zero-u16 .ensures)
 
 add-count : tie.Need-add-count
 add-count c =
     let calm = c .before .before in
     let walked = calm .before .before .before .before in
-    let done =
-    walk-made (start walked .pre) (start walked .args .rule) (built walked .build .ensures .0) (built walked .build .ensures .1)
-    (walked .walk .ensures .0) in
-    record { fits = count-small (start walked .pre) done (calm .if1 .left) }
+    record { fits = count-small (start walked .pre) (done walked) (calm .if1 .left) }
 
 cast-if2 : tie.Need-cast-if2
 cast-if2 c = search needs
@@ -84,63 +101,34 @@ returns-2 c =
     let short = zeroed .before .before in
     let calm = short .before .before .before in
     let walked = calm .before .before .before .before in
-    let done =
-    walk-made (start walked .pre) (start walked .args .rule) (built walked .build .ensures .0) (built walked .build .ensures .1)
-    (walked .walk .ensures .0) in
-    (answer-short (start walked .pre) done (calm .if1 .left) _ (short .if2 .taken), zeroed .zero-u162 .ensures)
-
-clear-rows-requires : tie.Need-clear-rows-requires
-clear-rows-requires c κs =
-    let calm = c .before .before .before .before in
-    let walked = calm .before .before .before .before in
-    let done =
-    walk-made (start walked .pre) (start walked .args .rule) (built walked .build .ensures .0) (built walked .build .ensures .1)
-    (walked .walk .ensures .0) in
-    record {
-      query = _;
-      holds =
-          rows-ready (start walked .pre) done (calm .if1 .left)
-          (walk-index (start walked .pre) (start walked .args .rule) (built walked .build .ensures .0) (built walked .build .ensures .1));
-    }
+    (answer-short (start walked .pre) (done walked) (calm .if1 .left) _ (short .if2 .taken), zeroed .zero-u162 .ensures)
 
 slice-aggregate-write-pairs : tie.Need-slice-aggregate-write-pairs
 slice-aggregate-write-pairs c = search needs
 
 write-pairs-requires : tie.Need-write-pairs-requires
 write-pairs-requires c κs =
-    let cleared = c .before .before .before .before .before in
-    let enough = cleared .before .before in
+    let enough = c .before .before .before in
     let calm = enough .before .before .before in
-    let walked = calm .before .before .before .before in
-    let done =
-    walk-made (start walked .pre) (start walked .args .rule) (built walked .build .ensures .0) (built walked .build .ensures .1)
-    (walked .walk .ensures .0) in
-    let index =
-    walk-index (start walked .pre) (start walked .args .rule) (built walked .build .ensures .0) (built walked .build .ensures .1) in (
+    let walked = calm .before .before .before .before in (
       record {
         query = _;
-        holds = pairs-room (start walked .pre) done (calm .if1 .left) index (cleared .clear-rows .ensures) _ (enough .if2 .left);
+        holds = pairs-room (start walked .pre) (done walked) (calm .if1 .left) (index (built walked)) _ (enough .if2 .left);
       },
       walked .walk .ensures .1,
     )
 
-add-t48 : tie.Need-add-t48
-add-t48 c =
-    let calm = c .before .before .before .before .before .before .before .before .before .before .before .before .before .before .before .before .before in
+add-t46 : tie.Need-add-t46
+add-t46 c =
+    let calm = c .before .before .before .before .before .before .before .before .before .before .before .before .before in
     let walked = calm .before .before .before .before in
-    let done =
-    walk-made (start walked .pre) (start walked .args .rule) (built walked .build .ensures .0) (built walked .build .ensures .1)
-    (walked .walk .ensures .0) in
-    omega (arith, checks-small (start walked .pre) done (calm .if1 .left))
+    omega (arith, checks-small (start walked .pre) (done walked) (calm .if1 .left))
 
-add-t49 : tie.Need-add-t49
-add-t49 c =
-    let calm = c .before .before .before .before .before .before .before .before .before .before .before .before .before .before .before .before .before .before in
+add-t47 : tie.Need-add-t47
+add-t47 c =
+    let calm = c .before .before .before .before .before .before .before .before .before .before .before .before .before .before in
     let walked = calm .before .before .before .before in
-    let done =
-    walk-made (start walked .pre) (start walked .args .rule) (built walked .build .ensures .0) (built walked .build .ensures .1)
-    (walked .walk .ensures .0) in
-    record { fits = checks-small (start walked .pre) done (calm .if1 .left) }
+    record { fits = checks-small (start walked .pre) (done walked) (calm .if1 .left) }
 
 same-length-5 : tie.Need-same-length-5
 same-length-5 c = search needs
@@ -151,18 +139,13 @@ same-length-6 c = search needs
 returns-3 : tie.Need-returns-3
 returns-3 c =
     let written = c .before .before .before .before .before .before .before in
-    let cleared = written .before .before .before .before .before .before in
-    let enough = cleared .before .before in
+    let enough = written .before .before .before .before in
     let calm = enough .before .before .before in
     let walked = calm .before .before .before .before in
-    let done =
-    walk-made (start walked .pre) (start walked .args .rule) (built walked .build .ensures .0) (built walked .build .ensures .1)
-    (walked .walk .ensures .0) in
-    let index =
-    walk-index (start walked .pre) (start walked .args .rule) (built walked .build .ensures .0) (built walked .build .ensures .1) in
-    let room =
-    pairs-room (start walked .pre) done (calm .if1 .left) index (cleared .clear-rows .ensures) _ (enough .if2 .left) in
-    (answer-joined (start walked .pre) done (calm .if1 .left) _ (enough .if2 .left), written .write-pairs .ensures _ room)
+    let room = pairs-room (start walked .pre) (done walked) (calm .if1 .left) (index (built walked)) _ (enough .if2 .left) in (
+      answer-joined (start walked .pre) (done walked) (calm .if1 .left) _ (enough .if2 .left),
+      written .write-pairs .ensures _ room,
+    )
 
 pub join-ready-spec : {M : Type 1} → statement M
 join-ready-spec =
@@ -183,11 +166,10 @@ join-ready-spec =
     same-length-3
     same-length-4
     returns-2
-    clear-rows-requires
     slice-aggregate-write-pairs
     write-pairs-requires
-    add-t48
-    add-t49
+    add-t46
+    add-t47
     same-length-5
     same-length-6
     returns-3)

@@ -1,7 +1,7 @@
 -- `join_pairs::rows::write_kept` meets its contract. The invariant: the pairs with the right places that are left remain to be
 -- written. The measure is how many are left.
 use Prim.Native.Nat.{_+_, _-_, _≤_}
-use mathlib.Core.Path.{_≡_, ap, _∙_}
+use mathlib.Core.Path.{_≡_}
 use mathlib.Core.List.{[], _++_}
 use mathlib.Core.Bool.{true}
 use native.Mathlib.Omega.{arith}

@@ -17,7 +17,7 @@ sub-checks-2 c = search needs
 
 mul-checks : tie.Need-mul-checks
 mul-checks c =
-    let small = c .before .pre .1 in
+    let small = c .before .before .pre .1 in
     omega (arith, mul-le-mul (small .lefts) (small .rights))
 
 covers-requires : tie.Need-covers-requires
@@ -36,7 +36,7 @@ gather-requires : tie.Need-gather-requires
 unfolding sum
 gather-requires c κs =
     let covered = c .before .covers in (
-      c .before .before .before .pre .0,
+      c .before .before .before .before .pre .0,
       omega (arith, covered .ensures .within (not-false (covered .result) (c .if1 .left))),
     )
 

@@ -83,7 +83,7 @@ finish-requires : tie.Need-finish-requires
 finish-requires c κs =
     let deep = c .before in
     let part = deep .before .before .before .before .before .before in
-    some-path (begun part .pre .0) (λ q path going. node-limit (onward part q path going) (deep .if2 .taken))
+    some-path (begun part .pre .0) (λ q path going. node-limit (onward part q path going) (omega (arith, deep .if2 .taken)))
 
 same-length-3 : tie.Need-same-length-3
 same-length-3 c = search needs
@@ -98,7 +98,7 @@ returns-2 c =
     let part = deep .before .before .before .before .before .before in (
       λ q path going.
           let so = onward part q path going in
-          entered-over refl (limit-visited so (done .finish .ensures q path (node-limit so (deep .if2 .taken)))),
+          entered-over refl (limit-visited so (done .finish .ensures q path (node-limit so (omega (arith, deep .if2 .taken))))),
       part .narrow .ensures .1,
     )
 

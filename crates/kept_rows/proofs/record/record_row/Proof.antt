@@ -1,12 +1,9 @@
 -- `kept_rows::record::record_row` meets its contract. The invariant is `Recording`: the confirmed ones of the places so far stand
 -- from top on, and the counters have their checks. The measure is how many places are to come.
-use Prim.Native.Nat.{ℕ, _+_, _-_, _<_}
-use mathlib.Core.Path.{sym, subst}
-use mathlib.Core.List.{List}
+use Prim.Native.Nat.{_+_, _-_, _<_}
 use native.Mathlib.Omega.{arith}
 use lib.ListN.{length, set}
 use Rattle.sets.specs.Limits.{fullWords}
-use Rattle.kept_rows.specs.Recording.{RowRecorded}
 use Rattle.kept_rows.proofs.RecordLaws.{Recording, recording-start, recording-step, recording-end, recording-grows}
 use Rattle.kept_rows.proofs.RecordLaws.{recording-read, recording-room, recording-right, recording-rising, row-room}
 use Rattle.kept_rows.proofs.record.record_row.Statement.{statement}
@@ -124,13 +121,8 @@ returns c =
     let kept = c .before .before in
     let test = kept .before .before in
     let at-loop = test .before in
-    let start = at-loop .before .before .before .before in
-    let a = start .args in
-    subst
-    (λ (v : List ℕ). RowRecorded (a .lay) (a .work .now) (a .k) (a .e) (a .from) (a .to) (a .tally) (a .top) v
-    (record { tally = at-loop .loop .r; top = at-loop .loop .n }))
-    (sym (kept .keep-row .ensures))
-    (recording-end (at-loop .loop .inv) (start .pre .0) (test .loop-test .left))
+    recording-end (at-loop .loop .inv) (at-loop .before .before .before .before .pre .0) (test .loop-test .left)
+    (kept .keep-row .ensures)
 
 pub record-row-spec : {M : Type 1} → statement M
 record-row-spec =

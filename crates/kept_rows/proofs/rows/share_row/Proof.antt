@@ -1,8 +1,6 @@
 -- `kept_rows::rows::share_row` meets its contract. The invariant is `Sharing`: some left sets have the row. The measure is how many
 -- are to come.
-use Prim.Native.Nat.{ℕ, _+_, _-_}
-use mathlib.Core.Path.{sym, subst}
-use mathlib.Core.List.{List}
+use Prim.Native.Nat.{_-_}
 use native.Mathlib.Omega.{arith}
 use Rattle.kept_rows.proofs.Sharing.{Sharing, sharing-start, sharing-read, sharing-room, sharing-step, sharing-end}
 use Rattle.kept_rows.proofs.rows.share_row.Statement.{statement}
@@ -45,11 +43,8 @@ loop-again c =
     let read = kept .before .before in
     let test = read .before .before in
     let at-loop = test .before in
-    subst
-    (λ (v : List ℕ). Sharing (at-loop .before .before .args .lay) (at-loop .before .before .args .work .now) (at-loop .before .before .args .lo)
-    (at-loop .before .before .args .hi) (at-loop .before .before .args .from) (at-loop .before .before .args .to) v (at-loop .loop .j + 1))
-    (sym (kept .keep-row .ensures))
-    (sharing-step (at-loop .loop .inv) (at-loop .before .before .pre) (test .loop-test .taken) (read .word-at .ensures))
+    sharing-step (at-loop .loop .inv) (at-loop .before .before .pre) (test .loop-test .taken) (read .word-at .ensures)
+    (kept .keep-row .ensures)
 
 same-length : tie.Need-same-length Inv-loop μ-loop
 same-length c = c .before .loop .inv .size
