@@ -13,7 +13,6 @@ use Rattle.lists.proofs.Slices.{frame-slice}
 use Rattle.join_spec.specs.Query.{Query}
 use Rattle.join_spec.specs.Node.{lastOf}
 use Rattle.join_spec.specs.Walk.{isCandidate}
-use Rattle.counting_sort.specs.Groups.{groupsFrom}
 use Rattle.join_index.specs.Grouping.{rightAt, keyAt}
 use Rattle.join_index.specs.Ground.{Listing}
 use Rattle.join_index.specs.declared.Layout.{Layout}
@@ -32,9 +31,9 @@ use Rattle.join_walk.specs.declared.visit.Walked.{Walked}
 use Rattle.join_walk.proofs.RunLaws.{run-length, run-split}
 use Rattle.join_walk.proofs.RunParts.{chosen-begins}
 use Rattle.join_walk.proofs.VisitLaws.{added-none, underway-next, visited-then, visited-before, visited-early, visited-late}
-use Rattle.join_walk.proofs.ChildSteps.{underway-less, childPath}
+use Rattle.join_walk.proofs.ChildSteps.{underway-less}
 use Rattle.join_walk.proofs.ChildNodes.{next-node, slot-beyond}
-use Rattle.join_walk.proofs.FrameLaws.{index-framed, slot-framed, run-framed, framed-then, framed-lower}
+use Rattle.join_walk.proofs.FrameLaws.{index-framed, slot-framed, run-framed, framed-then}
 
 -- the children before a place where a run begins, and those from there on
 module _ {lay : Layout} {st : Settings} {q : Query} {path w : List ℕ} {d lo hi from to : ℕ} {p : Progress}

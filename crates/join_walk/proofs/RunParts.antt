@@ -2,7 +2,7 @@
 -- of a run, and at the last place.
 use Prim.Native.Nat.{ℕ, zero, suc, _+_, _-_, _≤_, _<_}
 use mathlib.Core.Path.{_≡_, refl, sym, ap, ap₂, subst, _∙_}
-use mathlib.Core.List.{List, [], _∷_, _++_, append-assoc}
+use mathlib.Core.List.{List, [], _++_, append-assoc}
 use mathlib.Core.Bool.{Bool, true, false, cond}
 use native.Mathlib.Omega.{arith}
 use native.Mathlib.Nat.{zero-add, add-zero}
@@ -17,7 +17,7 @@ use Rattle.counting_sort.specs.Groups.{groupsFrom}
 use Rattle.join_index.specs.Grouping.{keyAt}
 use Rattle.join_index.specs.declared.Layout.{Layout}
 use Rattle.join_check.specs.Asking.{RunThere}
-use Rattle.join_check.specs.Runs.{run, leftIn, RunEnd}
+use Rattle.join_check.specs.Runs.{leftIn, RunEnd}
 use Rattle.join_check.proofs.Orders.{run-none}
 use Rattle.join_walk.specs.Heaviest.{PartedAt, RunBegins, RunChosen}
 use Rattle.join_walk.specs.declared.heavy.Span.{Span}

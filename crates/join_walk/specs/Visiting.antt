@@ -69,8 +69,8 @@ pub record Child (lay : Layout) (st : Settings) (q : Query) (path w : List ℕ) 
   pub few : hi ≤ length (q .lefts)
   pub lefts : run lay w lo hi ≡ beginners q path d
 
--- the left sets at the places lo up to hi go on after a path of d ranks and stand by their next rank, from the least key on; the
--- partitions are the children of the path without ranks
+-- the left sets at the places lo up to hi go on after a path of d ranks and stand by their next rank: all that have one of some keys
+-- in a row there; the partitions are the children of the path without ranks
 pub record Children (lay : Layout) (st : Settings) (q : Query) (path w : List ℕ) (d lo hi : ℕ) (p : Progress) : Type 0 where
   pub index : Index lay q w
   pub underway : Underway st q (p .tally) (hi - lo)

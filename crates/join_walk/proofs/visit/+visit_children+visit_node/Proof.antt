@@ -1,11 +1,11 @@
 -- Node visit and child loop meet their contracts together. The measures: twice the limit less the depth for the child loop, and
--- one more for the node visit, so that each call of the other falls. The loop is one of part after part. What each step shows
--- stands in NodeStops, ChildSteps and ChildNodes, and in the contract of `enter_node`.
+-- one more for the node visit, so that each call of the other falls. The child loop goes part after part; the invariant of the
+-- node's own loop is `Descending`, and its measure how far the depth is from the limit. What each step shows stands in NodeStops,
+-- ChildSteps, ChildNodes and Descents, and in the contract of `enter_node`.
 use Prim.Native.Nat.{ℕ, suc, _-_, _*_, _+_, _<_}
 use mathlib.Core.Path.{sym, _∙_}
 use mathlib.Core.List.{List}
 use native.Mathlib.Omega.{arith}
-use borrow.Author.Needs.{needs}
 use borrow.Fn.Kinds.{In}
 use borrow.Fn.PlainCycle.{Measures, is, falls, and}
 use Rattle.join_spec.specs.Query.{Query}
