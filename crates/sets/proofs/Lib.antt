@@ -15,9 +15,7 @@ pub mod Ordered
 pub mod Containment
 -- the one-pass test of a rising set
 pub mod Rises
--- a collection tested as one list: falls, the passes, and what they say of sets
-pub mod Falls
-pub mod Passes
+-- a collection tested as one list: what its ends and falls say of its sets
 pub mod WholeList
 -- marks: what is dropped is not contained
 pub mod Signatures

@@ -6,94 +6,73 @@ use mathlib.Core.Bool.{true, _&&_}
 use Prim.Native.Nat.{ℕ, suc, _+_, _-_, _≤_}
 use native.Mathlib.Nat.{sub-zero}
 use native.Mathlib.Omega.{arith}
-use borrow.Author.Tests.{leb-true, le-leb, eqb-true, eq-eqb}
+use borrow.Author.Tests.{le-leb, eqb-true, eq-eqb}
 use lib.Dec.{eqb, leb}
 use lib.ListN.{length}
-use Rattle.lists.specs.Lists.{count}
-use Rattle.lists.proofs.Bools.{and-left, and-right, and-both, same-test}
-use Rattle.lists.proofs.Counting.{count-append}
+use Rattle.lists.specs.Lists.{count, slice}
+use Rattle.lists.proofs.Bools.{and-both, same-test}
+use Rattle.lists.proofs.Slices.{slice-from}
+use Rattle.list_falls.specs.Falls.{goodEnds, falls, borderFalls}
+use Rattle.list_falls.proofs.Falls.{falls-none, falls-end, falls-cut}
+use Rattle.list_falls.proofs.Passes.{high-none, high-cut}
+use Rattle.list_falls.proofs.Ends.{FirstEnd, ends-first, ends-rest, ends-both, ends-none}
 use Rattle.sets.specs.Limits.{maxSets, maxEntries, maxSetLength}
 use Rattle.sets.specs.Collections.{between, goodEnd, goodItems, firstBadFrom, firstBad, lastEnd, entries}
-use Rattle.sets.specs.WholeList.{isGood, goodEnds, falls, borderFalls}
+use Rattle.sets.specs.WholeList.{isGood}
 use Rattle.sets.specs.declared.Verdict.{Verdict}
 use Rattle.sets.specs.declared.Verdict.the-variants.{Good, Bad}
 use Rattle.sets.proofs.Between.{length-between}
-use Rattle.sets.proofs.Entries.{between-append, entries-below}
+use Rattle.sets.proofs.Entries.{entries-below}
 use Rattle.sets.proofs.Good.{good-cons, good-rest, last-above, not-bad}
-use Rattle.sets.proofs.Falls.{falls-none, falls-end, falls-cut}
-use Rattle.sets.proofs.Passes.{high-none}
 
 pub is-good : (v : Verdict) → isGood v ≡ true → v ≡ Good
 is-good Good e = refl
 is-good (Bad k) e = let z : _≡_ {A = ℕ} 0 1 = cc in absurd (omega arith)
 
--- the first of the ends that are in order, and the rest
-record FirstEnd (start end : ℕ) : Type 0 where
-  ordered : start ≤ end
-  short : end - start ≤ maxSetLength
-
-ends-first : (start end : ℕ) (ends : List ℕ) → goodEnds start (end ∷ ends) ≡ true → FirstEnd start end
-unfolding goodEnds
-ends-first start end ends e =
-    let here = and-left (leb start end && leb (end - start) maxSetLength) (goodEnds end ends) e in
-    record {
-      ordered = leb-true start end (and-left (leb start end) (leb (end - start) maxSetLength) here);
-      short = leb-true (end - start) maxSetLength (and-right (leb start end) (leb (end - start) maxSetLength) here);
-    }
-
-ends-rest : (start end : ℕ) (ends : List ℕ) → goodEnds start (end ∷ ends) ≡ true → goodEnds end ends ≡ true
-unfolding goodEnds
-ends-rest start end ends e = and-right (leb start end && leb (end - start) maxSetLength) (goodEnds end ends) e
-
-ends-above : (start : ℕ) (ends : List ℕ) → goodEnds start ends ≡ true → start ≤ lastEnd start ends
+-- no end is above the last
+ends-above : (start : ℕ) (ends : List ℕ) → goodEnds maxSetLength start ends ≡ true → start ≤ lastEnd start ends
 unfolding lastEnd
 ends-above start [] e = omega arith
 ends-above start (end ∷ ends) e =
-    omega (arith, ends-first start end ends e .ordered, ends-above end ends (ends-rest start end ends e))
+    omega (arith, ends-first maxSetLength start end ends e .ordered, ends-above end ends (ends-rest maxSetLength start end ends e))
 
 -- every fall at a border is a fall of the list
-borders-below : (n start : ℕ) (ends items : List ℕ) → goodEnds start ends ≡ true → lastEnd start ends ≡ n → n ≤ length items
-    → borderFalls n start ends items ≤ falls (between start n items)
+borders-below : (n start : ℕ) (ends items : List ℕ) → goodEnds maxSetLength start ends ≡ true → lastEnd start ends ≡ n
+    → n ≤ length items
+    → borderFalls n start ends items ≤ falls (slice start n items)
 unfolding borderFalls lastEnd
 borders-below n start [] items e last within = omega arith
 borders-below n start (end ∷ ends) items e last within =
-    let rest = ends-rest start end ends e in
+    let rest = ends-rest maxSetLength start end ends e in
     omega (
       arith,
-      falls-cut n items within start end (ends-first start end ends e .ordered) (omega (arith, ends-above end ends rest)),
+      falls-cut n items within start end (ends-first maxSetLength start end ends e .ordered) (omega (arith, ends-above end ends rest)),
       borders-below n end ends items rest last within,
     )
 
--- items that are T or more, before a place and from it on
-high-cut : (T start mid n : ℕ) (items : List ℕ) → start ≤ mid → mid ≤ n
-    → count (leb T) (between start n items) ≡ count (leb T) (between start mid items) + count (leb T) (between mid n items)
-high-cut T start mid n items low high =
-    rw (between-append start mid n items low high)
-    (count-append (leb T) (between start mid items) (between mid n items))
-
 -- what the test asks of the sets from start on
 record OneList (T n start : ℕ) (ends items : List ℕ) : Type 0 where
-  ordered : goodEnds start ends ≡ true
+  ordered : goodEnds maxSetLength start ends ≡ true
   last : lastEnd start ends ≡ n
-  low : count (leb T) (between start n items) ≡ 0
-  steady : falls (between start n items) ≡ borderFalls n start ends items
+  low : count (leb T) (slice start n items) ≡ 0
+  steady : falls (slice start n items) ≡ borderFalls n start ends items
 
 -- what it says of the first set, and that it holds of the rest
 record Cut (T n start end : ℕ) (ends items : List ℕ) : Type 0 where
-  first : FirstEnd start end
+  first : FirstEnd maxSetLength start end
   high : end ≤ n
-  low : count (leb T) (between start end items) ≡ 0
-  steady : falls (between start end items) ≡ 0
+  low : count (leb T) (slice start end items) ≡ 0
+  steady : falls (slice start end items) ≡ 0
   rest : OneList T n end ends items
 
 module _ (T n : ℕ) (items : List ℕ) (few : n ≤ maxEntries) (within : n ≤ length items) where
   cut : (start end : ℕ) (ends : List ℕ) → OneList T n start (end ∷ ends) items → Cut T n start end ends items
   unfolding lastEnd borderFalls
   cut start end ends w =
-      let first = ends-first start end ends (w .ordered) in
-      let ordered = ends-rest start end ends (w .ordered) in
+      let first = ends-first maxSetLength start end ends (w .ordered) in
+      let ordered = ends-rest maxSetLength start end ends (w .ordered) in
       let high : end ≤ n = omega (arith, ends-above end ends ordered, w .last) in
-      let parts = high-cut T start end n items (first .ordered) high in
+      let parts = high-cut T n items within start end (first .ordered) high in
       let whole = falls-cut n items within start end (first .ordered) high in
       let borders = borders-below n end ends items ordered (w .last) within in
       record {
@@ -114,12 +93,14 @@ module _ (T n : ℕ) (items : List ℕ) (few : n ≤ maxEntries) (within : n ≤
   cut-good start end ends c =
       let set = between start end items in
       let inside : end ≤ length items = omega (arith, c .high) in
+      let low : count (leb T) set ≡ 0 = rw (slice-from start end items) at (c .low) in
+      let steady : falls set ≡ 0 = rw (slice-from start end items) at (c .steady) in
       and-both
       (and-both (le-leb start end (c .first .ordered))
       (and-both (le-leb end maxEntries (omega (arith, c .high))) (le-leb end (length items) inside)))
       (and-both (le-leb (length set) maxSetLength (omega (arith, c .first .short, length-between start end items inside)))
-      (and-both (sym (high-none T set) ∙ eq-eqb (count (leb T) set) 0 (c .low))
-      (sym (falls-none set) ∙ eq-eqb (falls set) 0 (c .steady))))
+      (and-both (sym (high-none T set) ∙ eq-eqb (count (leb T) set) 0 low)
+      (sym (falls-none set) ∙ eq-eqb (falls set) 0 steady)))
 
   list-good : (k start : ℕ) (ends : List ℕ) → k + length ends ≤ maxSets → OneList T n start ends items
       → firstBadFrom T k start ends items ≡ Good
@@ -131,16 +112,16 @@ module _ (T n : ℕ) (items : List ℕ) (few : n ≤ maxEntries) (within : n ≤
       (list-good (suc k) end ends (omega arith) (c .rest))
 
 -- and where no set is bad, the test holds
-good-ends-from : (T k start : ℕ) (ends items : List ℕ) → firstBadFrom T k start ends items ≡ Good → goodEnds start ends ≡ true
-unfolding goodEnds
-good-ends-from T k start [] items e = refl
+good-ends-from : (T k start : ℕ) (ends items : List ℕ) → firstBadFrom T k start ends items ≡ Good
+    → goodEnds maxSetLength start ends ≡ true
+good-ends-from T k start [] items e = ends-none maxSetLength start
 good-ends-from T k start (end ∷ ends) items e =
     let here = good-cons T k start end ends items e in
-    and-both (and-both (le-leb start end (here .ordered)) (le-leb (end - start) maxSetLength (here .short)))
+    ends-both maxSetLength start end ends (here .ordered) (here .short)
     (good-ends-from T (suc k) end ends items (good-rest T k start end ends items e))
 
 good-steady-from : (T n k start : ℕ) (ends items : List ℕ) → firstBadFrom T k start ends items ≡ Good → lastEnd start ends ≡ n
-    → n ≤ length items → falls (between start n items) ≡ borderFalls n start ends items
+    → n ≤ length items → falls (slice start n items) ≡ borderFalls n start ends items
 unfolding lastEnd borderFalls
 good-steady-from T n k start [] items e last within = falls-end n items within start (omega arith)
 good-steady-from T n k start (end ∷ ends) items e last within =
@@ -149,25 +130,25 @@ good-steady-from T n k start (end ∷ ends) items e last within =
     omega (
       arith,
       falls-cut n items within start end (here .ordered) (omega (arith, last-above T (suc k) end ends items rest)),
-      eqb-true (falls (between start end items)) 0 (falls-none (between start end items) ∙ here .rises),
+      eqb-true (falls (slice start end items)) 0 (falls-none (slice start end items) ∙ rw (slice-from start end items) (here .rises)),
       good-steady-from T n (suc k) end ends items rest last within,
     )
 
-pub good-ends : (T : ℕ) (ends items : List ℕ) → firstBad T ends items ≡ Good → goodEnds 0 ends ≡ true
+pub good-ends : (T : ℕ) (ends items : List ℕ) → firstBad T ends items ≡ Good → goodEnds maxSetLength 0 ends ≡ true
 good-ends T ends items e = good-ends-from T 0 0 ends items e
 
 module _ (T n : ℕ) (ends items : List ℕ) (last : entries ends ≡ n) where
-  pub good-low : firstBad T ends items ≡ Good → count (leb T) (between 0 n items) ≡ 0
+  pub good-low : firstBad T ends items ≡ Good → count (leb T) (slice 0 n items) ≡ 0
   good-low e =
-      eqb-true (count (leb T) (between 0 n items)) 0
-      (high-none T (between 0 n items) ∙ rw (← last, sub-zero (entries ends)) (entries-below T ends items e))
+      eqb-true (count (leb T) (slice 0 n items)) 0
+      (high-none T (slice 0 n items) ∙ rw (← last, slice-from 0 (entries ends) items, sub-zero (entries ends)) (entries-below T ends items e))
 
   -- a collection with ends in order, within the limits, and no item T or more is good where its falls are those at borders
-  pub whole-good : length ends ≤ maxSets → goodEnds 0 ends ≡ true → n ≤ maxEntries → n ≤ length items
-      → count (leb T) (between 0 n items) ≡ 0
-      → eqb (falls (between 0 n items)) (borderFalls n 0 ends items) ≡ isGood (firstBad T ends items)
+  pub whole-good : length ends ≤ maxSets → goodEnds maxSetLength 0 ends ≡ true → n ≤ maxEntries → n ≤ length items
+      → count (leb T) (slice 0 n items) ≡ 0
+      → eqb (falls (slice 0 n items)) (borderFalls n 0 ends items) ≡ isGood (firstBad T ends items)
   whole-good room ordered few within low =
-      same-test (eqb (falls (between 0 n items)) (borderFalls n 0 ends items)) (isGood (firstBad T ends items))
+      same-test (eqb (falls (slice 0 n items)) (borderFalls n 0 ends items)) (isGood (firstBad T ends items))
       (λ same.
       ap isGood
       (list-good T n items few within 0 0 ends (omega arith)
@@ -175,8 +156,8 @@ module _ (T n : ℕ) (ends items : List ℕ) (last : entries ends ≡ n) where
         ordered = ordered;
         last = last;
         low = low;
-        steady = eqb-true (falls (between 0 n items)) (borderFalls n 0 ends items) same;
+        steady = eqb-true (falls (slice 0 n items)) (borderFalls n 0 ends items) same;
       })))
       (λ good.
-      eq-eqb (falls (between 0 n items)) (borderFalls n 0 ends items)
+      eq-eqb (falls (slice 0 n items)) (borderFalls n 0 ends items)
       (good-steady-from T n 0 0 ends items (is-good (firstBad T ends items) good) last within))

@@ -1,5 +1,9 @@
 // Collections of sets and what is said of them: sides, refusals with their words, and the tests of what is lent: the first bad
 // set, and a rank table. What each means is defined in specs/. Each operation's answer is declared by the crate that owns it.
+use list_falls::count_border_falls;
+use list_falls::count_falls;
+use list_falls::count_high;
+use list_falls::good_ends;
 
 // The greatest count of items, T.
 pub const MAX_ITEMS: u32 = 4096;
@@ -56,11 +60,11 @@ ghost use mathlib.Core.Bool.{_&&_};
 ghost use Prim.Native.Nat.{_≤_, min};
 ghost use lib.Dec.{leb, ltb};
 ghost use lib.ListN.{length, replicate};
-ghost use Rattle.lists.specs.Lists.{one, count, all, rising, distinct};
-ghost use Rattle.sets.specs.Limits.{maxItems, maxSets, maxEntries, halfWords};
+ghost use Rattle.lists.specs.Lists.{all, rising, distinct};
+ghost use Rattle.sets.specs.Limits.{maxItems, halfWords};
 ghost use Rattle.sets.specs.Ordered.{isPermutation};
 ghost use Rattle.sets.specs.Collections.{between, goodItems, goodEnd, firstBad, entries};
-ghost use Rattle.sets.specs.WholeList.{isGood, goodEnds, falls, borderFall, borderFalls};
+ghost use Rattle.sets.specs.WholeList.{isGood};
 ghost use Rattle.sets.specs.Refusals.{sideNumber, rowOf};
 
 // The number of a side.
@@ -206,98 +210,6 @@ pub fn count_entries(ends: &[u32]) -> usize
     ends[n - 1] as usize
 }
 
-// 1 for true, 0 for false.
-fn number(b: bool) -> u16
-    ensures { λ r. ⌜ r ≡ one b ⌝ }
-{
-    if b { 1 } else { 0 }
-}
-
-// How many of the first n items are t or more. Counted without a branch and in an item's width, so that the compiler compares
-// eight items at once; the falls below likewise.
-fn count_high(t: u16, n: usize, items: &[u16]) -> u16
-    requires { ⌜ (n ≤ length (now items)) × (n ≤ maxEntries) ⌝ }
-    ensures { λ r. ⌜ r ≡ count (leb t) (between 0 n (now (items .entry))) ⌝ }
-{
-    let mut high: u16 = 0;
-    let mut e: usize = 0;
-    while e < n {
-        let x = items[e];
-        high += number(t <= x);
-        e += 1;
-    }
-    high
-}
-
-// How many of the first n items are not above the item before them.
-fn count_falls(n: usize, items: &[u16]) -> u16
-    requires { ⌜ (n ≤ length (now items)) × (n ≤ maxEntries) ⌝ }
-    ensures { λ r. ⌜ r ≡ falls (between 0 n (now (items .entry))) ⌝ }
-{
-    let mut falls: u16 = 0;
-    let mut e: usize = 0;
-    while e + 1 < n {
-        let x = items[e];
-        let next = items[e + 1];
-        falls += number(next <= x);
-        e += 1;
-    }
-    falls
-}
-
-// 1 where the list falls from the last item of a set to the item after it, else 0.
-fn border_fall(n: usize, start: usize, end: usize, items: &[u16]) -> u16
-    requires { ⌜ n ≤ length (now items) ⌝ }
-    ensures { λ r. ⌜ r ≡ borderFall n start end (now (items .entry)) ⌝ }
-{
-    if end <= start {
-        return 0;
-    }
-    if n <= end {
-        return 0;
-    }
-    let last = items[end - 1];
-    let next = items[end];
-    number(next <= last)
-}
-
-// How many of the borders between sets are falls.
-fn count_border_falls(n: usize, ends: &[u32], items: &[u16]) -> u16
-    requires { ⌜ (n ≤ length (now items)) × (length (now ends) ≤ maxSets) ⌝ }
-    ensures { λ r. ⌜ r ≡ borderFalls n 0 (now (ends .entry)) (now (items .entry)) ⌝ }
-{
-    let mut falls: u16 = 0;
-    let mut k: usize = 0;
-    let mut start: usize = 0;
-    while k < ends.len() {
-        let end = ends[k] as usize;
-        falls += border_fall(n, start, end, items);
-        start = end;
-        k += 1;
-    }
-    falls
-}
-
-// Whether each end follows the one before it by no more than a set may hold.
-fn good_ends(ends: &[u32]) -> bool
-    ensures { λ r. ⌜ r ≡ goodEnds 0 (now (ends .entry)) ⌝ }
-{
-    let mut k: usize = 0;
-    let mut before: usize = 0;
-    while k < ends.len() {
-        let end = ends[k] as usize;
-        if end < before {
-            return false;
-        }
-        if MAX_SET_LENGTH < end - before {
-            return false;
-        }
-        before = end;
-        k += 1;
-    }
-    true
-}
-
 // Whether t is within its limit and no set is bad, told from the whole list: a fall that is not at a border is one inside a set.
 fn all_good(t: u32, ends: &[u32], items: &[u16]) -> bool
     ensures { λ r. ⌜ r ≡ (leb t maxItems && isGood (firstBad t (now (ends .entry)) (now (items .entry)))) ⌝ }
@@ -308,7 +220,7 @@ fn all_good(t: u32, ends: &[u32], items: &[u16]) -> bool
     if MAX_SETS < ends.len() {
         return false;
     }
-    if !good_ends(ends) {
+    if !good_ends(MAX_SET_LENGTH, ends) {
         return false;
     }
     let n = count_entries(ends);

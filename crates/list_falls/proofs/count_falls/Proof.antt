@@ -1,22 +1,22 @@
--- `sets::count_falls` meets its contract. The invariant: the falls that were counted and those from here on are all. The measure is
--- how many items are left.
+-- `list_falls::count_falls` meets its contract. The invariant: the falls that were counted and those from here on are all. The
+-- measure is how many numbers are left.
 use mathlib.Core.Path.{_≡_}
 use Prim.Native.Nat.{_+_, _-_, _≤_}
 use native.Mathlib.Omega.{arith}
 use borrow.Author.Needs.{needs}
-use Rattle.sets.specs.Collections.{between}
-use Rattle.sets.specs.WholeList.{falls}
-use Rattle.sets.proofs.Between.{length-between}
-use Rattle.sets.proofs.Falls.{falls-next, falls-end, falls-bound}
-use Rattle.sets.proofs.count_falls.Statement.{statement}
-use Rattle.sets.proofs.count_falls.Tie as tie
+use Rattle.lists.specs.Lists.{slice}
+use Rattle.lists.proofs.Slices.{length-slice}
+use Rattle.list_falls.specs.Falls.{falls}
+use Rattle.list_falls.proofs.Falls.{falls-next, falls-end, falls-bound}
+use Rattle.list_falls.proofs.count_falls.Statement.{statement}
+use Rattle.list_falls.proofs.count_falls.Tie as tie
 
 abbrev Inv-loop : tie.InvT-loop
-Inv-loop n items falls₀ e₀ found e =
-    (found + falls (between e n items) ≡ falls (between 0 n items)) × (e ≤ n)
+Inv-loop n list falls₀ e₀ found e =
+    (found + falls (slice e n list) ≡ falls (slice 0 n list)) × (e ≤ n)
 
 abbrev μ-loop : tie.MeasureT-loop
-μ-loop n items falls₀ e₀ found e = n - e
+μ-loop n list falls₀ e₀ found e = n - e
 
 loop-holds : tie.Need-loop-holds Inv-loop μ-loop
 loop-holds c = omega arith
@@ -42,12 +42,12 @@ shared-slice-read-next c = omega arith
 number-requires : tie.Need-number-requires Inv-loop μ-loop
 number-requires c κs = search needs
 
--- this item's part of what was left
+-- this number's part of what was left
 step : (c : tie.After-number Inv-loop μ-loop)
     → let a = c .before .before .before .before .before .before .args in
     let found = c .before .before .before .before .loop .falls + c .number .result in
     let e = c .before .before .before .before .loop .e in
-    (found + falls (between (e + 1) (a .n) (a .items .now)) ≡ falls (between 0 (a .n) (a .items .now)))
+    (found + falls (slice (e + 1) (a .n) (a .list .now)) ≡ falls (slice 0 (a .n) (a .list .now)))
 step c =
     let at-loop = c .before .before .before .before in
     let a = at-loop .before .before .args in
@@ -55,14 +55,14 @@ step c =
       arith,
       at-loop .loop .inv,
       c .number .ensures,
-      falls-next (a .n) (a .items .now) (omega arith) (at-loop .loop .e) (omega arith),
+      falls-next (a .n) (a .list .now) (omega arith) (at-loop .loop .e) (omega arith),
     )
 
 add-falls : tie.Need-add-falls Inv-loop μ-loop
 add-falls c =
     let a = c .before .before .before .before .before .before .args in
-    let all = between 0 (a .n) (a .items .now) in
-    omega (arith, step c, falls-bound all, length-between 0 (a .n) (a .items .now) (omega arith))
+    let all = slice 0 (a .n) (a .list .now) in
+    omega (arith, step c, falls-bound all, length-slice 0 (a .n) (a .list .now) (omega arith))
 
 add-e : tie.Need-add-e Inv-loop μ-loop
 add-e c = omega arith
@@ -77,7 +77,7 @@ returns : tie.Need-returns Inv-loop μ-loop
 returns c =
     let at-loop = c .before in
     let a = at-loop .before .before .args in
-    omega (arith, at-loop .loop .inv, falls-end (a .n) (a .items .now) (omega arith) (at-loop .loop .e) (omega arith))
+    omega (arith, at-loop .loop .inv, falls-end (a .n) (a .list .now) (omega arith) (at-loop .loop .e) (omega arith))
 
 pub count-falls-spec : {M : Type 1} → statement M
 count-falls-spec =

@@ -1,5 +1,5 @@
--- Falls of a list: a list without one rises; the falls of a part of a list, item by item, and cut in two at a place: the falls of
--- a list are those of its pieces and the one at the cut.
+-- Falls of a list: a list without one rises; the falls of a part of a list, number by number, and cut in two at a place: the
+-- falls of a list are those of its pieces and the one at the cut.
 use mathlib.Core.Path.{_≡_, refl}
 use mathlib.Core.List.{List, [], _∷_}
 use mathlib.Core.Bool.{Bool, _&&_}
@@ -9,12 +9,11 @@ use native.Mathlib.Omega.{arith}
 use borrow.Author.Tests.{leb-true, leb-false, ltb-true, ltb-false, lt-ltb, le-ltb, ne-eqb}
 use lib.Dec.{eqb, leb, ltb}
 use lib.ListN.{length, getD}
-use Rattle.lists.specs.Lists.{one, rising, risingAfter}
+use Rattle.lists.specs.Lists.{one, rising, risingAfter, slice}
 use Rattle.lists.proofs.Bools.{by-test}
 use Rattle.lists.proofs.Counting.{one-bound}
-use Rattle.sets.specs.Collections.{between}
-use Rattle.sets.specs.WholeList.{fallsAfter, falls, borderFall}
-use Rattle.sets.proofs.Between.{between-cons, between-nil}
+use Rattle.lists.proofs.Slices.{slice-next, slice-past}
+use Rattle.list_falls.specs.Falls.{fallsAfter, falls, borderFall}
 
 -- a sum of tests that no number passes: the first does not, and none of the rest does
 pub none-first : (x y n : ℕ) (rest : Bool) → eqb n 0 ≡ rest → eqb (one (leb y x) + n) 0 ≡ (ltb x y && rest)
@@ -47,19 +46,19 @@ falls-bound (x ∷ xs) = omega (arith, falls-after-bound x xs)
 -- the falls from place e up to n
 module _ (n : ℕ) (l : List ℕ) (within : n ≤ length l) where
   pub falls-next : (e : ℕ) → e + 1 < n
-      → falls (between e n l) ≡ one (leb (getD l (e + 1) 0) (getD l e 0)) + falls (between (e + 1) n l)
+      → falls (slice e n l) ≡ one (leb (getD l (e + 1) 0) (getD l e 0)) + falls (slice (e + 1) n l)
   unfolding falls fallsAfter
   falls-next e below =
-      rw (between-cons e n l (omega arith) within, between-cons (e + 1) n l below within)
+      rw (slice-next e n l (omega arith) within, slice-next (e + 1) n l below within)
 
-  pub falls-end : (e : ℕ) → n ≤ e + 1 → falls (between e n l) ≡ 0
+  pub falls-end : (e : ℕ) → n ≤ e + 1 → falls (slice e n l) ≡ 0
   unfolding falls fallsAfter
   falls-end e past =
       by-test (ltb e n)
-      (λ b. rw (between-cons e n l (ltb-true e n b) within, between-nil (e + 1) n l past))
-      (λ b. rw (between-nil e n l (ltb-false e n b)))
+      (λ b. rw (slice-next e n l (ltb-true e n b) within, slice-past (e + 1) n l past))
+      (λ b. rw (slice-past e n l (ltb-false e n b)))
 
--- a set with an item before its border
+-- a part with a number before its border
 border-inner : (n start mid : ℕ) (l : List ℕ) → start < mid
     → borderFall n start mid l ≡ one (ltb mid n && leb (getD l mid 0) (getD l (mid - 1) 0))
 unfolding borderFall
@@ -70,10 +69,10 @@ unfolding borderFall
 border-empty n start l = rw (le-ltb start start (omega arith))
 
 module _ (n : ℕ) (l : List ℕ) (within : n ≤ length l) where
-  -- the piece before the cut has one item
+  -- the piece before the cut has one number
   cut-one : (start : ℕ) → start + 1 ≤ n
-      → falls (between start n l)
-      ≡ falls (between start (start + 1) l) + (borderFall n start (start + 1) l + falls (between (start + 1) n l))
+      → falls (slice start n l)
+      ≡ falls (slice start (start + 1) l) + (borderFall n start (start + 1) l + falls (slice (start + 1) n l))
   cut-one start high =
       let before : start + 1 - 1 ≡ start = omega arith in
       let border = border-inner n start (start + 1) l (omega arith) in
@@ -86,11 +85,11 @@ module _ (n : ℕ) (l : List ℕ) (within : n ≤ length l) where
       let here : borderFall n start (start + 1) l ≡ 0 = rw b at border in
       omega (arith, none, here, falls-end n l within start past, falls-end n l within (start + 1) (omega arith)))
     where
-      none : falls (between start (start + 1) l) ≡ 0
+      none : falls (slice start (start + 1) l) ≡ 0
       none = falls-end (start + 1) l (omega arith) start (omega arith)
 
   cut-at : (d start mid : ℕ) → start + d ≡ mid → mid ≤ n
-      → falls (between start n l) ≡ falls (between start mid l) + (borderFall n start mid l + falls (between mid n l))
+      → falls (slice start n l) ≡ falls (slice start mid l) + (borderFall n start mid l + falls (slice mid n l))
   cut-at zero start mid there high =
       let same : mid ≡ start = omega arith in
       rw same (omega (arith, border-empty n start l, falls-end start l (omega arith) start (omega arith)))
@@ -108,5 +107,5 @@ module _ (n : ℕ) (l : List ℕ) (within : n ≤ length l) where
       )
 
   pub falls-cut : (start mid : ℕ) → start ≤ mid → mid ≤ n
-      → falls (between start n l) ≡ falls (between start mid l) + (borderFall n start mid l + falls (between mid n l))
+      → falls (slice start n l) ≡ falls (slice start mid l) + (borderFall n start mid l + falls (slice mid n l))
   falls-cut start mid low high = cut-at (mid - start) start mid (omega arith) high

@@ -1,10 +1,11 @@
--- `sets::border_fall` meets its contract: an empty set, a border at the end of the items, and else the two items beside it.
+-- `list_falls::border_fall` meets its contract: an empty part, a border at the end of the list, and else the two numbers beside
+-- it.
 use native.Mathlib.Omega.{arith}
 use borrow.Author.Tests.{lt-ltb, le-ltb}
 use borrow.Author.Needs.{needs}
-use Rattle.sets.specs.WholeList.{borderFall}
-use Rattle.sets.proofs.border_fall.Statement.{statement}
-use Rattle.sets.proofs.border_fall.Tie as tie
+use Rattle.list_falls.specs.Falls.{borderFall}
+use Rattle.list_falls.proofs.border_fall.Statement.{statement}
+use Rattle.list_falls.proofs.border_fall.Tie as tie
 
 returns : tie.Need-returns
 unfolding borderFall

@@ -1,24 +1,23 @@
--- `sets::count_high` meets its contract. The invariant: what was counted and what is left to count are the whole. The measure is
--- how many items are left.
+-- `list_falls::count_high` meets its contract. The invariant: what was counted and what is left to count are the whole. The
+-- measure is how many numbers are left.
 use mathlib.Core.Path.{_≡_}
 use Prim.Native.Nat.{_+_, _-_}
 use native.Mathlib.Omega.{arith}
 use borrow.Author.Needs.{needs}
 use lib.Dec.{leb}
-use Rattle.lists.specs.Lists.{count}
+use Rattle.lists.specs.Lists.{count, slice}
 use Rattle.lists.proofs.Counting.{count-bound}
-use Rattle.sets.specs.Collections.{between}
-use Rattle.sets.proofs.Between.{length-between}
-use Rattle.sets.proofs.Passes.{high-next, high-end}
-use Rattle.sets.proofs.count_high.Statement.{statement}
-use Rattle.sets.proofs.count_high.Tie as tie
+use Rattle.lists.proofs.Slices.{length-slice}
+use Rattle.list_falls.proofs.Passes.{high-next, high-end}
+use Rattle.list_falls.proofs.count_high.Statement.{statement}
+use Rattle.list_falls.proofs.count_high.Tie as tie
 
 abbrev Inv-loop : tie.InvT-loop
-Inv-loop t n items high₀ e₀ high e =
-    high + count (leb t) (between e n items) ≡ count (leb t) (between 0 n items)
+Inv-loop t n list high₀ e₀ high e =
+    high + count (leb t) (slice e n list) ≡ count (leb t) (slice 0 n list)
 
 abbrev μ-loop : tie.MeasureT-loop
-μ-loop t n items high₀ e₀ high e = n - e
+μ-loop t n list high₀ e₀ high e = n - e
 
 loop-holds : tie.Need-loop-holds Inv-loop μ-loop
 loop-holds c = omega arith
@@ -32,12 +31,12 @@ shared-slice-read-x c = omega arith
 number-requires : tie.Need-number-requires Inv-loop μ-loop
 number-requires c κs = search needs
 
--- this item's part of what was left
+-- this number's part of what was left
 step : (c : tie.After-number Inv-loop μ-loop)
     → let a = c .before .before .before .before .before .args in
     let high = c .before .before .before .loop .high + c .number .result in
     let e = c .before .before .before .loop .e in
-    (high + count (leb (a .t)) (between (e + 1) (a .n) (a .items .now)) ≡ count (leb (a .t)) (between 0 (a .n) (a .items .now)))
+    (high + count (leb (a .t)) (slice (e + 1) (a .n) (a .list .now)) ≡ count (leb (a .t)) (slice 0 (a .n) (a .list .now)))
 step c =
     let at-loop = c .before .before .before in
     let a = at-loop .before .before .args in
@@ -45,14 +44,14 @@ step c =
       arith,
       at-loop .loop .inv,
       c .number .ensures,
-      high-next (a .t) (a .n) (a .items .now) (omega arith) (at-loop .loop .e) (omega arith),
+      high-next (a .t) (a .n) (a .list .now) (omega arith) (at-loop .loop .e) (omega arith),
     )
 
 add-high : tie.Need-add-high Inv-loop μ-loop
 add-high c =
     let a = c .before .before .before .before .before .args in
-    let all = between 0 (a .n) (a .items .now) in
-    omega (arith, step c, count-bound (leb (a .t)) all, length-between 0 (a .n) (a .items .now) (omega arith))
+    let all = slice 0 (a .n) (a .list .now) in
+    omega (arith, step c, count-bound (leb (a .t)) all, length-slice 0 (a .n) (a .list .now) (omega arith))
 
 add-e : tie.Need-add-e Inv-loop μ-loop
 add-e c = omega arith
@@ -67,7 +66,7 @@ returns : tie.Need-returns Inv-loop μ-loop
 returns c =
     let at-loop = c .before in
     let a = at-loop .before .before .args in
-    omega (arith, at-loop .loop .inv, high-end (a .t) (a .n) (a .items .now) (omega arith) (at-loop .loop .e) (omega arith))
+    omega (arith, at-loop .loop .inv, high-end (a .t) (a .n) (a .list .now) (omega arith) (at-loop .loop .e) (omega arith))
 
 pub count-high-spec : {M : Type 1} → statement M
 count-high-spec =

@@ -1,19 +1,19 @@
--- `sets::good_ends` meets its contract. The invariant: the test of the ends that are left decides that of all. The measure is how
--- many ends are left.
+-- `list_falls::good_ends` meets its contract. The invariant: the test of the ends that are left decides that of all. The measure
+-- is how many ends are left.
 use mathlib.Core.Path.{_≡_, refl, sym, _∙_}
 use Prim.Native.Nat.{_-_}
 use native.Mathlib.Omega.{arith}
 use lib.ListN.{length, drop}
-use Rattle.sets.specs.WholeList.{goodEnds}
-use Rattle.sets.proofs.Passes.{ends-low, ends-long, ends-next, ends-end}
-use Rattle.sets.proofs.good_ends.Statement.{statement}
-use Rattle.sets.proofs.good_ends.Tie as tie
+use Rattle.list_falls.specs.Falls.{goodEnds}
+use Rattle.list_falls.proofs.Ends.{ends-low, ends-long, ends-next, ends-end}
+use Rattle.list_falls.proofs.good_ends.Statement.{statement}
+use Rattle.list_falls.proofs.good_ends.Tie as tie
 
 abbrev Inv-loop : tie.InvT-loop
-Inv-loop ends k₀ before₀ k before = goodEnds before (drop k ends) ≡ goodEnds 0 ends
+Inv-loop longest ends k₀ before₀ k before = goodEnds longest before (drop k ends) ≡ goodEnds longest 0 ends
 
 abbrev μ-loop : tie.MeasureT-loop
-μ-loop ends k₀ before₀ k before = length ends - k
+μ-loop longest ends k₀ before₀ k before = length ends - k
 
 loop-holds : tie.Need-loop-holds Inv-loop μ-loop
 loop-holds c = refl
@@ -30,14 +30,16 @@ cast-end c = omega (arith, c .shared-slice-known .given (c .before .before .loop
 returns : tie.Need-returns Inv-loop μ-loop
 returns c =
     let at-loop = c .before .before .before in
-    sym (ends-low (at-loop .before .args .ends .now) (at-loop .loop .k) (at-loop .loop .before) (omega arith) (c .if1 .taken))
+    let a = at-loop .before .args in
+    sym (ends-low (a .longest) (a .ends .now) (at-loop .loop .k) (at-loop .loop .before) (omega arith) (c .if1 .taken))
     ∙ at-loop .loop .inv
 
 returns-2 : tie.Need-returns-2 Inv-loop μ-loop
 returns-2 c =
     let at-loop = c .before .before .before .before in
+    let a = at-loop .before .args in
     sym
-    (ends-long (at-loop .before .args .ends .now) (at-loop .loop .k) (at-loop .loop .before) (omega arith) (omega arith) (c .if2 .taken))
+    (ends-long (a .longest) (a .ends .now) (at-loop .loop .k) (at-loop .loop .before) (omega arith) (omega arith) (c .if2 .taken))
     ∙ at-loop .loop .inv
 
 add-k : tie.Need-add-k Inv-loop μ-loop
@@ -49,14 +51,16 @@ loop-less c = omega arith
 loop-again : tie.Need-loop-again Inv-loop μ-loop
 loop-again c =
     let at-loop = c .before .before .before .before in
+    let a = at-loop .before .args in
     sym
-    (ends-next (at-loop .before .args .ends .now) (at-loop .loop .k) (at-loop .loop .before) (omega arith) (omega arith) (omega arith))
+    (ends-next (a .longest) (a .ends .now) (at-loop .loop .k) (at-loop .loop .before) (omega arith) (omega arith) (omega arith))
     ∙ at-loop .loop .inv
 
 returns-3 : tie.Need-returns-3 Inv-loop μ-loop
 returns-3 c =
     let at-loop = c .before in
-    sym (ends-end (at-loop .before .args .ends .now) (at-loop .loop .k) (at-loop .loop .before) (c .loop-test .left))
+    let a = at-loop .before .args in
+    sym (ends-end (a .longest) (a .ends .now) (at-loop .loop .k) (at-loop .loop .before) (c .loop-test .left))
     ∙ at-loop .loop .inv
 
 pub good-ends-spec : {M : Type 1} → statement M

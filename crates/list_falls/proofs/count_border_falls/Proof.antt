@@ -1,21 +1,21 @@
--- `sets::count_border_falls` meets its contract. The invariant: the borders that were counted and those that are left are all. The
--- measure is how many sets are left.
+-- `list_falls::count_border_falls` meets its contract. The invariant: the borders that were counted and those that are left are
+-- all. The measure is how many parts are left.
 use mathlib.Core.Path.{_≡_}
 use Prim.Native.Nat.{_+_, _-_}
 use native.Mathlib.Omega.{arith}
 use borrow.Author.Needs.{needs}
 use lib.ListN.{length, drop, getD}
-use Rattle.sets.specs.WholeList.{borderFalls}
-use Rattle.sets.proofs.Passes.{borders-next, borders-end, borders-bound}
-use Rattle.sets.proofs.count_border_falls.Statement.{statement}
-use Rattle.sets.proofs.count_border_falls.Tie as tie
+use Rattle.list_falls.specs.Falls.{borderFalls}
+use Rattle.list_falls.proofs.Passes.{borders-next, borders-end, borders-bound}
+use Rattle.list_falls.proofs.count_border_falls.Statement.{statement}
+use Rattle.list_falls.proofs.count_border_falls.Tie as tie
 
 abbrev Inv-loop : tie.InvT-loop
-Inv-loop n ends items falls₀ k₀ start₀ found k start =
-    found + borderFalls n start (drop k ends) items ≡ borderFalls n 0 ends items
+Inv-loop n ends list falls₀ k₀ start₀ found k start =
+    found + borderFalls n start (drop k ends) list ≡ borderFalls n 0 ends list
 
 abbrev μ-loop : tie.MeasureT-loop
-μ-loop n ends items falls₀ k₀ start₀ found k start = length ends - k
+μ-loop n ends list falls₀ k₀ start₀ found k start = length ends - k
 
 loop-holds : tie.Need-loop-holds Inv-loop μ-loop
 loop-holds c = omega arith
@@ -37,8 +37,8 @@ step : (c : tie.After-border-fall Inv-loop μ-loop)
     → let a = c .before .before .before .before .before .before .args in
     let found = c .before .before .before .loop .falls + c .border-fall .result in
     let k = c .before .before .before .loop .k in
-    (found + borderFalls (a .n) (getD (a .ends .now) k 0) (drop (k + 1) (a .ends .now)) (a .items .now)
-    ≡ borderFalls (a .n) 0 (a .ends .now) (a .items .now))
+    (found + borderFalls (a .n) (getD (a .ends .now) k 0) (drop (k + 1) (a .ends .now)) (a .list .now)
+    ≡ borderFalls (a .n) 0 (a .ends .now) (a .list .now))
 step c =
     let at-loop = c .before .before .before in
     let a = at-loop .before .before .before .args in
@@ -46,13 +46,13 @@ step c =
       arith,
       at-loop .loop .inv,
       c .border-fall .ensures,
-      borders-next (a .n) (a .ends .now) (a .items .now) (at-loop .loop .k) (at-loop .loop .start) (omega arith),
+      borders-next (a .n) (a .ends .now) (a .list .now) (at-loop .loop .k) (at-loop .loop .start) (omega arith),
     )
 
 add-falls : tie.Need-add-falls Inv-loop μ-loop
 add-falls c =
     let a = c .before .before .before .before .before .before .args in
-    omega (arith, step c, borders-bound (a .n) 0 (a .ends .now) (a .items .now))
+    omega (arith, step c, borders-bound (a .n) 0 (a .ends .now) (a .list .now))
 
 add-k : tie.Need-add-k Inv-loop μ-loop
 add-k c = omega arith
@@ -70,7 +70,7 @@ returns c =
     omega (
       arith,
       at-loop .loop .inv,
-      borders-end (a .n) (a .ends .now) (a .items .now) (at-loop .loop .k) (at-loop .loop .start) (omega arith),
+      borders-end (a .n) (a .ends .now) (a .list .now) (at-loop .loop .k) (at-loop .loop .start) (omega arith),
     )
 
 pub count-border-falls-spec : {M : Type 1} → statement M
