@@ -31,9 +31,9 @@ use Rattle.join_index.specs.Building.{BuildRoom}
 use Rattle.join_index.specs.Ground.{Ground}
 use Rattle.join_index.specs.declared.Layout.{Layout}
 use Rattle.join_check.specs.Asking.{Index}
+use Rattle.join_nodes.specs.declared.Walked.{Walked}
+use Rattle.join_nodes.proofs.FrameLaws.{index-framed}
 use Rattle.join_walk.specs.Partitions.{WalkReady, WalkDone}
-use Rattle.join_walk.specs.declared.visit.Walked.{Walked}
-use Rattle.join_walk.proofs.FrameLaws.{index-framed}
 use Rattle.join_pairs.specs.Writing.{PairsRoom}
 use Rattle.join.specs.Ready.{Accepted}
 

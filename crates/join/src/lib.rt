@@ -1,14 +1,14 @@
 // The set containment join: its tests, the walk, and the pair list. Document 01 calls it the run.
 use join_index::Layout;
 use join_index::build::build;
+use join_nodes::Settings;
+use join_nodes::Walked;
 use join_pairs::write_pairs;
 use join_spec::Counts;
 use join_spec::JoinAnswer;
 use join_spec::Rule;
 use join_spec::Weights;
 use join_tests::test_join;
-use join_walk::visit::Settings;
-use join_walk::visit::Walked;
 use join_walk::walk::walk;
 use lists::zero_u16;
 use sets::Refusal;

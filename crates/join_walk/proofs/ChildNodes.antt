@@ -23,18 +23,19 @@ use Rattle.join_index.specs.declared.Layout.{Layout}
 use Rattle.join_index.proofs.GroundLaws.{offsets-rise}
 use Rattle.join_index.proofs.Ordering.{left-rising}
 use Rattle.join_check.specs.Runs.{run, leftIn, RunEnd}
-use Rattle.join_walk.specs.Narrowing.{candidateList, slotOf}
-use Rattle.join_walk.specs.Visiting.{Node, Child, Children, After, ChildrenAt}
-use Rattle.join_walk.specs.Visiting.{Visited, Framed, NodeVisited}
-use Rattle.join_walk.specs.declared.visit.Progress.{Progress}
-use Rattle.join_walk.specs.declared.visit.Settings.{Settings}
-use Rattle.join_walk.specs.declared.visit.Walked.{Walked}
-use Rattle.join_walk.proofs.Prefixes.{prefix-take, prefix-length}
-use Rattle.join_walk.proofs.Narrowing.{candidate-path, listing-kept}
-use Rattle.join_walk.proofs.RunLaws.{begins-first}
-use Rattle.join_walk.proofs.PartLoop.{PartDone}
+use Rattle.join_nodes.specs.Narrowing.{candidateList, slotOf}
+use Rattle.join_nodes.specs.Visiting.{Node, Children, After, ChildrenAt}
+use Rattle.join_nodes.specs.Visiting.{Visited, Framed, NodeVisited}
+use Rattle.join_nodes.specs.declared.Progress.{Progress}
+use Rattle.join_nodes.specs.declared.Settings.{Settings}
+use Rattle.join_nodes.specs.declared.Walked.{Walked}
+use Rattle.join_nodes.proofs.Prefixes.{prefix-take, prefix-length}
+use Rattle.join_nodes.proofs.Narrowing.{candidate-path, listing-kept}
+use Rattle.join_nodes.proofs.RunLaws.{begins-first}
+use Rattle.join_nodes.proofs.PartLoop.{PartDone}
+use Rattle.join_nodes.proofs.FrameLaws.{slot-framed, framed-lower}
+use Rattle.join_walk.specs.Partitions.{Child}
 use Rattle.join_walk.proofs.ChildSteps.{last-longer, childRank, childPath, first-child, kids-next}
-use Rattle.join_walk.proofs.FrameLaws.{slot-framed, framed-lower}
 
 -- a path is a prefix of a longer one
 prefix-longer : (path : List ℕ) (r : ℕ) → prefix path (path ++ (r ∷ [])) ≡ true

@@ -18,17 +18,18 @@ use Rattle.join_index.specs.declared.Layout.{Layout}
 use Rattle.join_check.specs.Asking.{RunThere}
 use Rattle.join_check.specs.Runs.{leftIn, RunEnd}
 use Rattle.join_check.specs.declared.Tally.{Tally}
-use Rattle.join_walk.specs.Visiting.{Underway, Child, Children, beginners}
-use Rattle.join_walk.specs.Visiting.{RunVisited}
-use Rattle.join_walk.specs.declared.visit.Progress.{Progress}
-use Rattle.join_walk.specs.declared.visit.Settings.{Settings}
-use Rattle.join_walk.specs.declared.visit.Walked.{Walked}
-use Rattle.join_walk.proofs.Groups.{FirstGroup}
-use Rattle.join_walk.proofs.Prefixes.{keep-further}
-use Rattle.join_walk.proofs.RunLaws.{Cut}
-use Rattle.join_walk.proofs.GroupSteps.{group-first, group-cut}
-use Rattle.join_walk.proofs.VisitLaws.{underway-next}
-use Rattle.join_walk.proofs.FrameLaws.{index-framed, run-framed}
+use Rattle.join_nodes.specs.Visiting.{Underway, Children, beginners}
+use Rattle.join_nodes.specs.Visiting.{RunVisited}
+use Rattle.join_nodes.specs.declared.Progress.{Progress}
+use Rattle.join_nodes.specs.declared.Settings.{Settings}
+use Rattle.join_nodes.specs.declared.Walked.{Walked}
+use Rattle.join_nodes.proofs.Groups.{FirstGroup}
+use Rattle.join_nodes.proofs.Prefixes.{keep-further}
+use Rattle.join_nodes.proofs.RunLaws.{Cut}
+use Rattle.join_nodes.proofs.GroupSteps.{group-first, group-cut}
+use Rattle.join_nodes.proofs.VisitLaws.{underway-next}
+use Rattle.join_nodes.proofs.FrameLaws.{index-framed, run-framed}
+use Rattle.join_walk.specs.Partitions.{Child}
 
 -- the last rank of a longer path is the one put behind it
 pub last-longer : (path : List ℕ) (r : ℕ) → lastOf (path ++ (r ∷ [])) ≡ r

@@ -8,15 +8,15 @@ use native.Mathlib.Omega.{arith}
 use lib.ListN.{length}
 use Rattle.join_spec.specs.Query.{Query}
 use Rattle.join_index.specs.declared.Layout.{Layout}
-use Rattle.join_walk.specs.Narrowing.{SomePath}
-use Rattle.join_walk.specs.Visiting.{Node, ChildrenAt, NodeVisited, ChildrenVisited}
-use Rattle.join_walk.specs.Entering.{NodeEntered}
+use Rattle.join_nodes.specs.Narrowing.{SomePath}
+use Rattle.join_nodes.specs.Visiting.{Node, ChildrenAt, NodeVisited, ChildrenVisited}
+use Rattle.join_nodes.specs.Entering.{NodeEntered}
+use Rattle.join_nodes.specs.declared.enter.Entered.{Entered}
+use Rattle.join_nodes.specs.declared.Progress.{Progress}
+use Rattle.join_nodes.specs.declared.Settings.{Settings}
+use Rattle.join_nodes.specs.declared.Walked.{Walked}
 use Rattle.join_walk.specs.Heaviest.{RunChosen}
-use Rattle.join_walk.specs.declared.enter.Entered.{Entered}
 use Rattle.join_walk.specs.declared.heavy.Span.{Span}
-use Rattle.join_walk.specs.declared.visit.Progress.{Progress}
-use Rattle.join_walk.specs.declared.visit.Settings.{Settings}
-use Rattle.join_walk.specs.declared.visit.Walked.{Walked}
 use Rattle.join_walk.proofs.HeavyChild.{kids-below, below-spent, kids-above, above-spent, none-chosen}
 use Rattle.join_walk.proofs.HeavyChild.{chosenPath, chosen-node, chosen-visited}
 

@@ -20,20 +20,20 @@ use Rattle.join_check.specs.Asking.{RunThere}
 use Rattle.join_check.specs.Runs.{run, leftIn}
 use Rattle.join_check.proofs.Orders.{run-none}
 use Rattle.kept_rows.specs.Kept.{RowsKept}
-use Rattle.join_walk.specs.Narrowing.{slotOf}
-use Rattle.join_walk.specs.Visiting.{Underway, Node, Children, ChildrenAt, beginners}
-use Rattle.join_walk.specs.Visiting.{Visited, Framed, NodeVisited, ChildrenVisited}
+use Rattle.join_nodes.specs.Narrowing.{slotOf}
+use Rattle.join_nodes.specs.Visiting.{Underway, Node, Children, ChildrenAt, beginners}
+use Rattle.join_nodes.specs.Visiting.{Visited, Framed, NodeVisited, ChildrenVisited}
+use Rattle.join_nodes.specs.declared.Progress.{Progress}
+use Rattle.join_nodes.specs.declared.Settings.{Settings}
+use Rattle.join_nodes.specs.declared.Walked.{Walked}
+use Rattle.join_nodes.proofs.RunLaws.{run-length, run-split}
+use Rattle.join_nodes.proofs.VisitLaws.{added-none, underway-next, visited-then, visited-before, visited-early, visited-late}
+use Rattle.join_nodes.proofs.FrameLaws.{index-framed, slot-framed, run-framed, framed-then}
 use Rattle.join_walk.specs.Heaviest.{PartedAt, RunBegins, RunChosen}
 use Rattle.join_walk.specs.declared.heavy.Span.{Span}
-use Rattle.join_walk.specs.declared.visit.Progress.{Progress}
-use Rattle.join_walk.specs.declared.visit.Settings.{Settings}
-use Rattle.join_walk.specs.declared.visit.Walked.{Walked}
-use Rattle.join_walk.proofs.RunLaws.{run-length, run-split}
 use Rattle.join_walk.proofs.RunParts.{chosen-begins}
-use Rattle.join_walk.proofs.VisitLaws.{added-none, underway-next, visited-then, visited-before, visited-early, visited-late}
 use Rattle.join_walk.proofs.ChildSteps.{underway-less}
 use Rattle.join_walk.proofs.ChildNodes.{next-node, slot-beyond}
-use Rattle.join_walk.proofs.FrameLaws.{index-framed, slot-framed, run-framed, framed-then}
 
 -- the children before a place where a run begins, and those from there on
 module _ {lay : Layout} {st : Settings} {q : Query} {path w : List ℕ} {d lo hi from to : ℕ} {p : Progress}

@@ -1,30 +1,5 @@
--- Laws of the walk, without code: what a row is where a walk ends or goes on, and how runs of left sets split by their next rank.
-pub mod Asked
-pub mod PathLaws
-pub mod RowLaws
-pub mod Groups
-pub mod Prefixes
-pub mod NodeLaws
-pub mod Narrowing
-pub mod CandidateLaws
-pub mod VisitLaws
-pub mod RunLaws
-pub mod NodeFacts
-pub mod BlockLaws
-pub mod BlockVisits
-pub mod FrameLaws
-pub mod PartLoop
-pub mod GoingLaws
-pub mod RowsOf
-pub mod NodeRows
-pub mod LimitLaws
-pub mod GroupSteps
-pub mod NodeStops
-pub mod NodeSteps
-pub mod EmptyNodes
-pub mod LoneSets
-pub mod NodeChildren
-pub mod NodeEntries
+-- Laws of the walk, without code: from a node to its children and to the heaviest of them, from partition to partition, and to the sums
+-- of the whole query.
 pub mod RunParts
 pub mod ChildSteps
 pub mod ChildNodes

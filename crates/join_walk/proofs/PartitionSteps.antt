@@ -18,17 +18,17 @@ use Rattle.word_lists.specs.Words.{Word}
 use Rattle.join_check.specs.Runs.{leftIn, RunEnd}
 use Rattle.join_check.specs.declared.Tally.{Tally}
 use Rattle.join_check.proofs.Orders.{run-key}
-use Rattle.join_walk.specs.Visiting.{Node, NodeVisited, PartVisited}
-use Rattle.join_walk.specs.Partitions.{Partitions, Partition}
-use Rattle.join_walk.specs.declared.visit.Progress.{Progress}
-use Rattle.join_walk.specs.declared.visit.Settings.{Settings}
-use Rattle.join_walk.specs.declared.visit.Walked.{Walked}
-use Rattle.join_walk.proofs.Narrowing.{listing-same}
-use Rattle.join_walk.proofs.NodeFacts.{on-key}
-use Rattle.join_walk.proofs.RunLaws.{begins-first}
-use Rattle.join_walk.proofs.PartLoop.{PartDone}
+use Rattle.join_nodes.specs.Visiting.{Node, NodeVisited}
+use Rattle.join_nodes.specs.declared.Progress.{Progress}
+use Rattle.join_nodes.specs.declared.Settings.{Settings}
+use Rattle.join_nodes.specs.declared.Walked.{Walked}
+use Rattle.join_nodes.proofs.Narrowing.{listing-same}
+use Rattle.join_nodes.proofs.NodeFacts.{on-key}
+use Rattle.join_nodes.proofs.RunLaws.{begins-first}
+use Rattle.join_nodes.proofs.PartLoop.{PartDone}
+use Rattle.join_nodes.proofs.FrameLaws.{framed-lower}
+use Rattle.join_walk.specs.Partitions.{Partitions, Partition, PartVisited}
 use Rattle.join_walk.proofs.ChildSteps.{childRank, first-child, kids-next}
-use Rattle.join_walk.proofs.FrameLaws.{framed-lower}
 
 -- a partition as a node of depth 1
 module _ {lay : Layout} {st : Settings} {q : Query} {w : List ℕ} {lo hi : ℕ} {p : Progress} {r : ℕ}

@@ -19,11 +19,11 @@ use Rattle.join_index.specs.declared.Layout.{Layout}
 use Rattle.join_check.specs.Asking.{RunThere}
 use Rattle.join_check.specs.Runs.{leftIn, RunEnd}
 use Rattle.join_check.proofs.Orders.{run-none}
+use Rattle.join_nodes.proofs.Groups.{FirstGroup}
+use Rattle.join_nodes.proofs.RunLaws.{Cut, run-split}
+use Rattle.join_nodes.proofs.GroupSteps.{group-first, group-cut}
 use Rattle.join_walk.specs.Heaviest.{PartedAt, RunBegins, RunChosen}
 use Rattle.join_walk.specs.declared.heavy.Span.{Span}
-use Rattle.join_walk.proofs.Groups.{FirstGroup}
-use Rattle.join_walk.proofs.RunLaws.{Cut, run-split}
-use Rattle.join_walk.proofs.GroupSteps.{group-first, group-cut}
 
 -- lists that are the same with the same list behind them
 append-cancel : (xs ys zs : List ℕ) → xs ++ zs ≡ ys ++ zs → xs ≡ ys

@@ -19,10 +19,10 @@ use Rattle.join_spec.specs.Counting.{total}
 use Rattle.counting_sort.specs.Groups.{groupsFrom}
 use Rattle.join_index.specs.Grouping.{leftAt, rightAt, keyAt, orderFrom}
 use Rattle.join_index.proofs.Ordering.{keyAt-below}
-use Rattle.join_walk.specs.Rows.{goes, row, outcomeFrom, pathPairs}
-use Rattle.join_walk.proofs.Groups.{within, within-zero, within-suc, apart}
-use Rattle.join_walk.proofs.BlockLaws.{key-ended, key-longer}
-use Rattle.join_walk.proofs.PathLaws.{paths-one}
+use Rattle.join_nodes.specs.Rows.{goes, row, outcomeFrom, pathPairs}
+use Rattle.join_nodes.proofs.Groups.{within, within-zero, within-suc, apart}
+use Rattle.join_nodes.proofs.BlockLaws.{key-ended, key-longer}
+use Rattle.join_nodes.proofs.PathLaws.{paths-one}
 
 sum-keep : (f : ℕ → ℕ) (p : ℕ → Bool) (l : List ℕ) → sum f (keep p l) ≡ sum (λ a. cond (p a) (f a) 0) l
 unfolding sum keep

@@ -28,17 +28,17 @@ use Rattle.join_check.specs.declared.Tally.{Tally}
 use Rattle.kept_rows.specs.Kept.{RowsKept}
 use Rattle.kept_rows.specs.Keeping.{Cleared}
 use Rattle.kept_rows.proofs.RowLaws.{index-kept}
-use Rattle.join_walk.specs.Rows.{row, pathPairs}
-use Rattle.join_walk.specs.Visiting.{Merged, PartVisited, beginners}
-use Rattle.join_walk.specs.Blocks.{MergedEnd}
-use Rattle.join_walk.specs.Partitions.{Partitions, WalkReady, WalkDone}
-use Rattle.join_walk.specs.declared.visit.Settings.{Settings}
-use Rattle.join_walk.specs.declared.visit.Walked.{Walked}
-use Rattle.join_walk.proofs.RunLaws.{Cut}
-use Rattle.join_walk.proofs.GroupSteps.{endedAt, goingOn, ended-keys, going-keys, beginners-grouped, ended-cut}
-use Rattle.join_walk.proofs.PathLaws.{paths-all, paths-many, paths-unchecked, merged-checks, merged-pairs}
-use Rattle.join_walk.proofs.VisitLaws.{checks-added}
-use Rattle.join_walk.proofs.FrameLaws.{framed-none}
+use Rattle.join_nodes.specs.Rows.{row, pathPairs}
+use Rattle.join_nodes.specs.Visiting.{Merged, beginners}
+use Rattle.join_nodes.specs.Blocks.{MergedEnd}
+use Rattle.join_nodes.specs.declared.Settings.{Settings}
+use Rattle.join_nodes.specs.declared.Walked.{Walked}
+use Rattle.join_nodes.proofs.RunLaws.{Cut}
+use Rattle.join_nodes.proofs.GroupSteps.{endedAt, goingOn, ended-keys, going-keys, beginners-grouped, ended-cut}
+use Rattle.join_nodes.proofs.PathLaws.{paths-all, paths-many, paths-unchecked, merged-checks, merged-pairs}
+use Rattle.join_nodes.proofs.VisitLaws.{checks-added}
+use Rattle.join_nodes.proofs.FrameLaws.{framed-none}
+use Rattle.join_walk.specs.Partitions.{Partitions, PartVisited, WalkReady, WalkDone}
 use Rattle.join_walk.proofs.Totals.{start, total-order, start-empty, start-row}
 
 -- every left set begins with no rank at all

@@ -1,8 +1,3 @@
--- Contents: what each left set adds to the counts from a node on, what is known of the candidates at a node, and of the node.
-pub mod Rows
-pub mod Narrowing
-pub mod Visiting
-pub mod Blocks
-pub mod Entering
+-- Contents: the heaviest of the children, and the partitions with what the whole walk answers.
 pub mod Heaviest
 pub mod Partitions

@@ -2,39 +2,21 @@
 // depth falls. The child with most left sets is left out of these calls: the visit goes on with it in place of the node. Each of the
 // others has at most half of the node's left sets, so that calls lie above each other only as often as these can be halved,
 // whatever the limit.
-use crate::blocks::check_block;
-use crate::decide::decide;
-use crate::enter::enter_node;
 use crate::heavy::heaviest_run;
-use join_check::Tally;
 use join_check::keys::run_end;
 use join_index::Layout;
-use join_spec::Rule;
+use join_nodes::Progress;
+use join_nodes::Settings;
+use join_nodes::Walked;
+use join_nodes::blocks::check_block;
+use join_nodes::decide::decide;
+use join_nodes::enter::enter_node;
 ghost use mathlib.Core.List.{List};
 ghost use Prim.Native.Nat.{ℕ};
 ghost use Rattle.join_spec.specs.Query.{Query};
 ghost use Rattle.word_lists.specs.Flags.{Clear};
-ghost use Rattle.join_walk.specs.Narrowing.{SomePath};
-ghost use Rattle.join_walk.specs.Visiting.{Node, NodeVisited, ChildrenAt, ChildrenVisited};
-
-// The settings that bear on the walk.
-pub struct Settings {
-    pub limit: usize,
-    pub rule: Rule,
-    pub budget: u32,
-}
-
-// How far the walk has come: its counters, and where the rows end that it has kept.
-pub struct Progress {
-    pub tally: Tally,
-    pub top: usize,
-}
-
-// How far the walk has come after a part of it, and whether it stopped because the next checks would have passed the budget.
-pub struct Walked {
-    pub at: Progress,
-    pub spent: bool,
-}
+ghost use Rattle.join_nodes.specs.Narrowing.{SomePath};
+ghost use Rattle.join_nodes.specs.Visiting.{Node, NodeVisited, ChildrenAt, ChildrenVisited};
 
 // Visits a node: the left sets at the places lo up to hi of the order begin with its path of d ranks, and the words from..to
 // are its candidates. A child's slot lies beyond everything that its node still needs, and when the other children are done the

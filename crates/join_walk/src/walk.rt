@@ -1,22 +1,21 @@
 // The whole walk: partition by partition in rank order, each with the right sets seen at its rank.
-use crate::blocks::add_paths;
-use crate::blocks::merged_end;
-use crate::visit::Progress;
-use crate::visit::Settings;
-use crate::visit::Walked;
 use crate::visit::visit_node;
 use join_check::Tally;
 use join_check::keys::key_at;
 use join_check::keys::run_end;
 use join_index::Layout;
+use join_nodes::Progress;
+use join_nodes::Settings;
+use join_nodes::Walked;
+use join_nodes::blocks::add_paths;
+use join_nodes::blocks::merged_end;
 use kept_rows::rows::clear_rows;
 use word_lists::words::word_at;
 ghost use Prim.Native.Nat.{ℕ};
 ghost use Rattle.join_spec.specs.Query.{Query};
 ghost use Rattle.join_check.specs.Asking.{Some};
 ghost use Rattle.word_lists.specs.Flags.{Clear};
-ghost use Rattle.join_walk.specs.Partitions.{SomeRank, Partition, Partitions, WalkReady, WalkDone};
-ghost use Rattle.join_walk.specs.Visiting.{PartVisited};
+ghost use Rattle.join_walk.specs.Partitions.{SomeRank, Partition, Partitions, PartVisited, WalkReady, WalkDone};
 
 // Visits the partition of the left sets at the places lo up to hi of the order. The right sets with a least rank up to theirs
 // have been added to the seen ones by now: they stand first by least rank.

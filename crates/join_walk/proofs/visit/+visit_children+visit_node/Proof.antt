@@ -11,20 +11,20 @@ use borrow.Fn.PlainCycle.{Measures, is, falls, and}
 use Rattle.join_spec.specs.Query.{Query}
 use Rattle.join_spec.specs.Node.{lastOf}
 use Rattle.word_lists.specs.Flags.{Clear}
-use Rattle.join_walk.specs.Narrowing.{slotOf, SomePath}
-use Rattle.join_walk.specs.Visiting.{Node, ChildrenAt, NodeVisited}
-use Rattle.join_walk.specs.Entering.{NodeEntered}
-use Rattle.join_walk.specs.declared.visit.Walked.{Walked}
-use Rattle.join_walk.proofs.Asked.{some-path, some-query}
-use Rattle.join_walk.proofs.NodeStops.{goes-on, goes-not, stop-there, stop-small, stop-visited}
-use Rattle.join_walk.proofs.PartLoop.{Continuing, continuing-start, continuing-step, continuing-spent, continuing-end}
+use Rattle.join_nodes.specs.Narrowing.{slotOf, SomePath}
+use Rattle.join_nodes.specs.Visiting.{Node, ChildrenAt, NodeVisited}
+use Rattle.join_nodes.specs.Entering.{NodeEntered}
+use Rattle.join_nodes.specs.declared.Walked.{Walked}
+use Rattle.join_nodes.proofs.Asked.{some-path, some-query}
+use Rattle.join_nodes.proofs.NodeStops.{goes-on, goes-not, stop-there, stop-small, stop-visited}
+use Rattle.join_nodes.proofs.PartLoop.{Continuing, continuing-start, continuing-step, continuing-spent, continuing-end}
 use Rattle.join_walk.proofs.ChildSteps.{kids-run, childPath}
 use Rattle.join_walk.proofs.ChildNodes.{next-node, children-done}
 use Rattle.join_walk.proofs.Descents.{Descending, descending-start, node-left, descending-end, ask-below, spent-below, ask-above, spent-above, descending-step}
 use Rattle.join_check.proofs.keys.run_end.Reads as run-end
-use Rattle.join_walk.proofs.blocks.check_block.Reads as check-block
-use Rattle.join_walk.proofs.decide.decide.Reads as decide
-use Rattle.join_walk.proofs.enter.enter_node.Reads as enter-node
+use Rattle.join_nodes.proofs.blocks.check_block.Reads as check-block
+use Rattle.join_nodes.proofs.decide.decide.Reads as decide
+use Rattle.join_nodes.proofs.enter.enter_node.Reads as enter-node
 use Rattle.join_walk.proofs.heavy.heaviest_run.Reads as heaviest-run
 use Rattle.join_walk.proofs.visit.visit_children.Reads as visit-children
 use Rattle.join_walk.proofs.visit.visit_children.Kinds as children-kinds

@@ -4,8 +4,8 @@ use mathlib.Core.List.{[]}
 use mathlib.Core.Path.{sym, _∙_}
 use Prim.Native.Nat.{_-_}
 use Rattle.word_lists.specs.Flags.{Clear}
+use Rattle.join_nodes.proofs.PartLoop.{Continuing, continuing-start, continuing-step, continuing-spent, continuing-end}
 use Rattle.join_walk.specs.Partitions.{Partitions}
-use Rattle.join_walk.proofs.PartLoop.{Continuing, continuing-start, continuing-step, continuing-spent, continuing-end}
 use Rattle.join_walk.proofs.ChildSteps.{kids-run, childRank, first-child}
 use Rattle.join_walk.proofs.PartitionSteps.{partitions-done}
 use Rattle.join_walk.proofs.walk.visit_partitions.Statement.{statement}
