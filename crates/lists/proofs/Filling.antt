@@ -10,7 +10,7 @@ use native.Mathlib.Omega.{arith}
 use lib.ListN.{length, getD, take, drop, set, length-set, drop-of-length-le}
 use lib.Seq.{take-set-le, drop-cons, sets, sets-eq}
 use Rattle.lists.specs.Lists.{slice}
-use Rattle.lists.proofs.Slices.{frame-less, frame-slice, slice-none, slice-set-end, slice-split}
+use Rattle.lists.proofs.Slices.{slice-none, slice-set-end}
 
 pub sets-append : (w : List ℕ) (at : ℕ) (a b : List ℕ) → sets w at (a ++ b) ≡ sets (sets w at a) (at + length a) b
 sets-append w at [] b = rw (add-zero at)
@@ -48,20 +48,6 @@ module _ {base i : ℕ} {rest all was is : List ℕ} where
         frame = take-set-le base is (base + i) v (omega arith) ∙ f .frame;
         size = length-set is (base + i) v ∙ f .size;
         so-far = rw (there, snoc, append-assoc (slice base (base + i) is) (v ∷ []) rest) (f .so-far);
-      }
-
-  -- a callee wrote a run at the place reached
-  pub filling-run : (m : ℕ) (run next : List ℕ) → Filling base i (run ++ rest) all was is → base + i ≤ length is
-      → take (base + i) next ≡ take (base + i) is → length next ≡ length is → slice (base + i) (base + i + m) next ≡ run
-      → Filling base (i + m) rest all was next
-  filling-run m run next f within frame size written =
-      let there : base + (i + m) ≡ base + i + m = omega arith in
-      let cut = slice-split base (base + i) (base + i + m) next (omega arith) (omega arith) (omega arith) in
-      let same = frame-slice base (base + i) (base + i) is next (omega arith) frame in
-      record {
-        frame = frame-less base (base + i) is next (omega arith) frame ∙ f .frame;
-        size = size ∙ f .size;
-        so-far = rw (there, cut, same, written, append-assoc (slice base (base + i) is) run rest) (f .so-far);
       }
 
 pub filling-end : {base i : ℕ} {all was is : List ℕ} → Filling base i [] all was is → slice base (base + i) is ≡ all

@@ -2,9 +2,9 @@
 -- is may come to ask for more; these laws are what the crates above use.
 use Prim.Native.Nat.{ℕ}
 use mathlib.Core.Path.{_≡_, refl}
-use mathlib.Core.List.{List, []}
-use mathlib.Core.Bool.{Bool, true}
-use Rattle.lists.specs.Lists.{all, memb, subset}
+use mathlib.Core.List.{List}
+use mathlib.Core.Bool.{true}
+use Rattle.lists.specs.Lists.{memb, subset}
 use Rattle.lists.proofs.Throughout.{subset-elim}
 use Rattle.sets.specs.Collections.{contained}
 use Rattle.sets.specs.Ordered.{isPermutation, ordered}
@@ -18,11 +18,6 @@ contained-subset left right = refl
 pub contained-elim : (left right : List ℕ) → contained left right ≡ true → (i : ℕ) → memb i left ≡ true → memb i right ≡ true
 unfolding contained
 contained-elim left right held i there = subset-elim left right held i there
-
--- the empty set is contained in every set
-pub contained-nil : (right : List ℕ) → contained [] right ≡ true
-unfolding contained all
-contained-nil right = refl
 
 -- of sets of items below T it may be decided on their ranks
 pub contained-ranks : (T : ℕ) (ranks : List ℕ) → isPermutation T ranks ≡ true → (left right : List ℕ)

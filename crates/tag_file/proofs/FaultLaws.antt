@@ -22,11 +22,6 @@ module _ (seen : List TagRecord) (r : TagRecord) where
   unfolding faultOf
   fault-used used = rw used
 
-  pub fault-past : numberUsed seen r ≡ false → tooMany (r .side) (seen ++ (r ∷ [])) ≡ true
-      → faultOf seen r ≡ Failed (TooMany (totalLength seen))
-  unfolding faultOf
-  fault-past free past = rw (free, past)
-
   pub fault-none : numberUsed seen r ≡ false → tooMany (r .side) (seen ++ (r ∷ [])) ≡ false → faultOf seen r ≡ Passed
   unfolding faultOf
   fault-none free few = rw (free, few)

@@ -114,9 +114,6 @@ module _ (file : List ℕ) (at : ℕ) (s : Side) (n c p next : ℕ) where
 
 -- what is read of a whole record by place: it goes on, within the file, and a file of bytes has small numbers
 module _ (file : List ℕ) (at : ℕ) {s : Side} {n c p next : ℕ} (e : readAt file at ≡ Record s n c p next) where
-  pub read-after : at < p
-  read-after = omega (arith, read-whole file at s n c p next e .place)
-
   pub read-past : next ≡ pastTags p c
   read-past = read-whole file at s n c p next e .past
 
