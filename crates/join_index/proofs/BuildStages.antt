@@ -6,6 +6,7 @@ use native.Mathlib.Omega.{arith}
 use lib.ListN.{length, getD, take}
 use Rattle.sets.specs.Collections.{setsOf}
 use Rattle.sets.specs.Ordered.{ordered}
+use Rattle.sets.proofs.Good.{end-within}
 use Rattle.counting_sort.specs.Holding.{RegionHolds}
 use Rattle.signatures.specs.Signing.{BothRoom, BothSigned}
 use Rattle.index_keys.specs.SetKeys.{startOf}
@@ -145,12 +146,11 @@ module _ {leftEnds leftItems rightEnds rightItems ranks w : List ℕ} {nl nr : �
             OrderBuilt (lay .«by_least» + length rightEnds) (length leftEnds) T
             (orderedBy (heldKey c (lay .«left_starts») (lay .«left_ranks»)) T (length leftEnds) limit 0) c d) where
           pub sign-room :
-              BothRoom T (lay .«right_signatures») (lay .«left_signatures») rightEnds rightItems leftEnds leftItems d
+              BothRoom (lay .«right_signatures») (lay .«left_signatures») rightEnds rightItems leftEnds leftItems d
           sign-room =
               record {
-                few = p .room .items;
-                rightGood = p .room .rightGood;
-                leftGood = p .room .leftGood;
+                rightWithin = end-within T rightEnds rightItems (p .room .rightGood);
+                leftWithin = end-within T leftEnds leftItems (p .room .leftGood);
                 above = omega (arith, p .out .leftSignatures);
                 room =
                     omega

@@ -3,7 +3,7 @@
 use mathlib.Core.Path.{_≡_, refl, sym, _∙_}
 use mathlib.Core.List.{List, [], _∷_}
 use mathlib.Core.Bool.{Bool, true, false, not, cond, _&&_, _||_}
-use Prim.Native.Nat.{ℕ, suc, _+_, _-_, _<_, _≤_}
+use Prim.Native.Nat.{ℕ, zero, suc, _+_, _-_, _<_, _≤_}
 use native.Mathlib.Numerals.{add-one}
 use native.Mathlib.Omega.{arith}
 use borrow.Author.Tests.{ltb-true, leb-true, leb-false, le-leb, lt-leb, not-false}
@@ -141,6 +141,18 @@ module _ (T : ℕ) (ends items : List ℕ) (k start : ℕ) (below : k < length e
 
   pub good-next : firstBadFrom T (k + 1) (getD ends k 0) (drop (k + 1) ends) items ≡ Good
   good-next = rw (add-one k) (good-rest T k start (getD ends k 0) (drop (suc k) ends) items good-drop)
+
+-- no set ends past the items
+end-within-from : (T j start : ℕ) (ends items : List ℕ) → firstBadFrom T j start ends items ≡ Good → (k : ℕ) → k < length ends
+    → getD ends k 0 ≤ length items
+end-within-from T j start [] items e k below = absurd (omega arith)
+end-within-from T j start (end ∷ ends) items e zero below = good-cons T j start end ends items e .within
+end-within-from T j start (end ∷ ends) items e (suc k) below =
+    end-within-from T (suc j) end ends items (good-rest T j start end ends items e) k (omega arith)
+
+pub end-within : (T : ℕ) (ends items : List ℕ) → firstBad T ends items ≡ Good → (k : ℕ) → k < length ends
+    → getD ends k 0 ≤ length items
+end-within T ends items e = end-within-from T 0 0 ends items e
 
 -- at most 4,096 sets
 good-places-from : (T j start : ℕ) (ends items : List ℕ) → firstBadFrom T j start ends items ≡ Good → j ≤ maxSets

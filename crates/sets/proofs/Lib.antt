@@ -17,7 +17,8 @@ pub mod Containment
 pub mod Rises
 -- a collection tested as one list: what its ends and falls say of its sets
 pub mod WholeList
--- marks: what is dropped is not contained
+-- marks: the bit of an item; what is dropped is not contained
+pub mod Positions
 pub mod Signatures
 -- the words of a refusal
 pub mod Words

@@ -1,8 +1,8 @@
 -- A signature never drops a contained pair: every bit of the left set's signature is in the right set's. A word a is covered by
 -- a word b when `bitAnd a b ≡ a`; a union of covered words is covered, and a covering word may grow.
-use Prim.Native.Nat.{ℕ, _/_, _%_, _^_, _<_, min, max}
+use Prim.Native.Nat.{ℕ, _/_, _%_, _^_, min, max}
 use mathlib.Core.Path.{_≡_, refl, sym, ap, subst, _∙_}
-use mathlib.Core.List.{List, [], _∷_, map}
+use mathlib.Core.List.{List, [], _∷_}
 use mathlib.Core.Bool.{true, false, not}
 use native.Mathlib.Omega.{arith}
 use lib.Arith.{bin-ind}
@@ -84,14 +84,3 @@ contained-not-dropped left right h =
     (eq-eqb (bitAnd (signature left) (signature right)) (signature left)
     (signature-covered 0 left (signature right) refl
     (λ k there. signature-covers-item 0 right k (contained-elim left right h k there))))
-
--- the position is a place in a 64-bit word
-pub position-bound : (k : ℕ) → position k < 64
-unfolding position
-position-bound k = omega arith
-
--- the positions of the first eight items and of three later ones, computed
-pub some-positions : map position (0 ∷ 1 ∷ 2 ∷ 3 ∷ 4 ∷ 5 ∷ 6 ∷ 7 ∷ 161 ∷ 256 ∷ 4095 ∷ [])
-    ≡ 1 ∷ 3 ∷ 9 ∷ 27 ∷ 17 ∷ 51 ∷ 23 ∷ 3 ∷ 1 ∷ 1 ∷ 22 ∷ []
-unfolding position
-some-positions = refl

@@ -13,12 +13,10 @@ use lib.Seq.{drop-cons, drop-drop, getD-drop}
 use Rattle.lists.proofs.Bools.{by-test}
 use Rattle.lists.proofs.Slices.{frame-less, frame-at}
 use Rattle.sets.specs.Limits.{fullWords}
-use Rattle.sets.specs.Collections.{between, setsFrom, setsOf, firstBadFrom}
+use Rattle.sets.specs.Collections.{between, setsFrom, setsOf}
 use Rattle.sets.specs.Signatures.{signature}
-use Rattle.sets.specs.declared.Verdict.the-variants.{Good}
 use Rattle.sets.proofs.Between.{length-sets}
-use Rattle.sets.proofs.Good.{set-item, good-step, good-next}
-use Rattle.signatures.specs.Signing.{double, ItemsRoom, DoubleStored, SigningRoom, Signed, BothRoom, BothSigned}
+use Rattle.signatures.specs.Signing.{double, DoubleStored, Signed, BothRoom, BothSigned}
 
 -- two words below a place up to which nothing changed
 pub double-stays : (n i : ℕ) (was is : List ℕ) → take n is ≡ take n was → i + 2 ≤ n → double is i ≡ double was i
@@ -27,33 +25,21 @@ double-stays n i was is frame below =
     (frame-at 0 (i + 1) n was is (omega arith) frame)
 
 -- the signatures of the first k sets are written; the others begin at start
-pub record SetsSigning (at : ℕ) (ends items table was is : List ℕ) (start k : ℕ) : Type 0 where
+pub record SetsSigning (at : ℕ) (ends items was is : List ℕ) (start k : ℕ) : Type 0 where
   pub signed : Signed at k (setsOf ends items) was is
-  pub good : firstBadFrom (length table) k start (drop k ends) items ≡ Good
   pub sets : setsFrom start (drop k ends) items ≡ drop k (setsOf ends items)
   pub place : k ≤ length ends
 
-pub signing-start : {at : ℕ} {ends items table w : List ℕ} → SigningRoom at ends items table w
-    → SetsSigning at ends items table w w 0 0
-signing-start room =
+pub signing-start : {at : ℕ} {ends items w : List ℕ} → SetsSigning at ends items w w 0 0
+signing-start =
     record {
       signed = record { frame = refl; size = refl; signatures = λ k below. absurd (omega arith) };
-      good = room .good;
       sets = refl;
       place = omega arith;
     }
 
-module _ {at : ℕ} {ends items table was is : List ℕ} {start k : ℕ} (room : SigningRoom at ends items table was)
-    (signing : SetsSigning at ends items table was is start k) (below : k < length ends) where
-  pub signing-items : ItemsRoom start (getD ends k 0) items table
-  signing-items =
-      let here = good-step (length table) ends items k start below (signing .good) in
-      record {
-        within = here .within;
-        below = λ i low high. set-item (length table) start (getD ends k 0) items k here i low high;
-        bits = room .bits;
-      }
-
+module _ {at : ℕ} {ends items was is : List ℕ} {start k : ℕ} (signing : SetsSigning at ends items was is start k)
+    (below : k < length ends) where
   sets-here : drop k (setsOf ends items)
       ≡ between start (getD ends k 0) items ∷ setsFrom (getD ends k 0) (drop (suc k) ends) items
   unfolding setsFrom
@@ -72,7 +58,7 @@ module _ {at : ℕ} {ends items table was is : List ℕ} {start k : ℕ} (room :
       ∙ drop-drop 1 k (setsOf ends items)
 
   pub signing-step : {next : List ℕ} {mark : ℕ} → mark ≡ signature (between start (getD ends k 0) items)
-      → DoubleStored (at + 2 * k) mark is next → SetsSigning at ends items table was next (getD ends k 0) (k + 1)
+      → DoubleStored (at + 2 * k) mark is next → SetsSigning at ends items was next (getD ends k 0) (k + 1)
   signing-step {next} {mark} e stored =
       record {
         signed =
@@ -90,24 +76,23 @@ module _ {at : ℕ} {ends items table was is : List ℕ} {start k : ℕ} (room :
                   double-stays (at + 2 * k) (at + 2 * j) is next (stored .frame) (omega arith)
                   ∙ signing .signed .signatures j (omega arith));
             };
-        good = good-next (length table) ends items k start below (signing .good);
         sets = sets-next;
         place = omega arith;
       }
 
-pub signing-end : {at : ℕ} {ends items table was is : List ℕ} {start k : ℕ} → SetsSigning at ends items table was is start k
+pub signing-end : {at : ℕ} {ends items was is : List ℕ} {start k : ℕ} → SetsSigning at ends items was is start k
     → length ends ≤ k → Signed at (length ends) (setsOf ends items) was is
-signing-end {at} {ends} {items} {table} {was} {is} {start} {k} signing past =
+signing-end {at} {ends} {items} {was} {is} {start} {k} signing past =
     let here : k ≡ length ends = omega (arith, signing .place) in
     subst (λ (n : ℕ). Signed at n (setsOf ends items) was is) here (signing .signed)
 
 -- the right sets first, the left sets above them
-pub both-signed : {T right left : ℕ} {rightEnds rightItems leftEnds leftItems w v u : List ℕ}
-    → BothRoom T right left rightEnds rightItems leftEnds leftItems w
+pub both-signed : {right left : ℕ} {rightEnds rightItems leftEnds leftItems w v u : List ℕ}
+    → BothRoom right left rightEnds rightItems leftEnds leftItems w
     → Signed right (length rightEnds) (setsOf rightEnds rightItems) w v
     → Signed left (length leftEnds) (setsOf leftEnds leftItems) v u
     → BothSigned right left (setsOf rightEnds rightItems) (setsOf leftEnds leftItems) w u
-both-signed {T} {right} {left} {rightEnds} {rightItems} {leftEnds} {leftItems} {w} {v} {u} room low high =
+both-signed {right} {left} {rightEnds} {rightItems} {leftEnds} {leftItems} {w} {v} {u} room low high =
     record {
       frame = frame-less right left v u (omega (arith, room .above)) (high .frame) ∙ low .frame;
       size = high .size ∙ low .size;

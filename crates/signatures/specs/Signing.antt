@@ -2,22 +2,19 @@
 -- high.
 use Prim.Native.Nat.{ℕ, _+_, _*_, _≤_, _<_}
 use mathlib.Core.Path.{_≡_}
-use mathlib.Core.List.{List, []}
+use mathlib.Core.List.{List, [], map}
 use lib.ListN.{length, take, getD}
-use Rattle.sets.specs.Limits.{maxItems, fullWords}
-use Rattle.sets.specs.Collections.{firstBad}
+use Rattle.lists.specs.Lists.{upto}
+use Rattle.sets.specs.Limits.{fullWords}
 use Rattle.sets.specs.Signatures.{position, signature}
-use Rattle.sets.specs.declared.Verdict.the-variants.{Good}
 
--- the table has the bit of each item that it has a place for
-abbrev pub Positions : List ℕ → Type 0
-Positions table = (item : ℕ) → item < length table → getD table item 0 ≡ position item
+-- the positions of the items 0 to 255
+abbrev pub positionTable : List ℕ
+positionTable = map position (upto 256)
 
--- the items from start up to end have their bits in the table
-pub record ItemsRoom (start end : ℕ) (items table : List ℕ) : Type 0 where
-  pub within : end ≤ length items
-  pub below : (i : ℕ) → start ≤ i → i < end → getD items i 0 < length table
-  pub bits : Positions table
+-- no set of a collection ends past its items
+abbrev pub EndsWithin : List ℕ → List ℕ → Type 0
+EndsWithin ends items = (k : ℕ) → k < length ends → getD ends k 0 ≤ length items
 
 -- two words, low then high, as one number
 abbrev pub double : List ℕ → ℕ → ℕ
@@ -29,10 +26,9 @@ pub record DoubleStored (at number : ℕ) (w w′ : List ℕ) : Type 0 where
   pub size : length w′ ≡ length w
   pub is : double w′ at ≡ number
 
--- a collection without a bad set, of items that have their bits in the table, and room for the signatures from at on
-pub record SigningRoom (at : ℕ) (ends items table w : List ℕ) : Type 0 where
-  pub good : firstBad (length table) ends items ≡ Good
-  pub bits : Positions table
+-- a collection, and room for its signatures from at on
+pub record SigningRoom (at : ℕ) (ends items w : List ℕ) : Type 0 where
+  pub within : EndsWithin ends items
   pub room : at + 2 * length ends ≤ length w
 
 -- w became w′: from at on the signatures of the first n sets were written; nothing below at changed
@@ -41,12 +37,10 @@ pub record Signed (at n : ℕ) (sets : List (List ℕ)) (w w′ : List ℕ) : Ty
   pub size : length w′ ≡ length w
   pub signatures : (k : ℕ) → k < n → double w′ (at + 2 * k) ≡ signature (getD sets k [])
 
--- two collections without a bad set, over the same T items, with room for the signatures of the right sets and above them of the
--- left
-pub record BothRoom (T rightAt leftAt : ℕ) (rightEnds rightItems leftEnds leftItems w : List ℕ) : Type 0 where
-  pub few : T ≤ maxItems
-  pub rightGood : firstBad T rightEnds rightItems ≡ Good
-  pub leftGood : firstBad T leftEnds leftItems ≡ Good
+-- two collections, with room for the signatures of the right sets and above them of the left
+pub record BothRoom (rightAt leftAt : ℕ) (rightEnds rightItems leftEnds leftItems w : List ℕ) : Type 0 where
+  pub rightWithin : EndsWithin rightEnds rightItems
+  pub leftWithin : EndsWithin leftEnds leftItems
   pub above : rightAt + 2 * length rightEnds ≤ leftAt
   pub room : leftAt + 2 * length leftEnds ≤ length w
 

@@ -135,7 +135,7 @@ impl Bits {
 }
 
 /// The bit of each item: (3^k mod 257) mod 64.
-fn positions(t: u32) -> Vec<u32> {
+pub fn positions(t: u32) -> Vec<u32> {
     let powers = std::iter::successors(Some(1u32), |power| Some(power * 3 % 257));
     powers.take(t as usize).map(|power| power % 64).collect()
 }

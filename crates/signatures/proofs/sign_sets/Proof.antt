@@ -4,22 +4,22 @@ use Prim.Native.Nat.{_-_}
 use mathlib.Core.Path.{_≡_, refl}
 use native.Mathlib.Omega.{arith}
 use lib.ListN.{length}
-use Rattle.signatures.proofs.SigningSets.{SetsSigning, signing-start, signing-items, signing-step, signing-end}
+use Rattle.signatures.proofs.SigningSets.{SetsSigning, signing-start, signing-step, signing-end}
 use Rattle.signatures.proofs.sign_sets.Statement.{statement}
 use Rattle.signatures.proofs.sign_sets.Tie as tie
 
 abbrev Inv-loop : tie.InvT-loop
 Inv-loop work₀ ends items table at start₀ k₀ k-end work start k =
-    (k-end ≡ length ends) × SetsSigning at ends items table work₀ work start k
+    (k-end ≡ length ends) × SetsSigning at ends items work₀ work start k
 
 abbrev μ-loop : tie.MeasureT-loop
 μ-loop work₀ ends items table at start₀ k₀ k-end work start k = k-end - k
 
 abbrev start : tie.At-loop Inv-loop μ-loop → tie.Start Inv-loop μ-loop
-start c = c .before .before .before .before .before
+start c = c .before .before .before .before
 
 loop-holds : tie.Need-loop-holds Inv-loop μ-loop
-loop-holds c = (refl, signing-start (c .before .before .before .before .pre))
+loop-holds c = (refl, signing-start)
 
 mul-end : tie.Need-mul-end Inv-loop μ-loop
 mul-end c = omega arith
@@ -28,12 +28,12 @@ shared-slice-read-end : tie.Need-shared-slice-read-end Inv-loop μ-loop
 shared-slice-read-end c = omega arith
 
 cast-end : tie.Need-cast-end Inv-loop μ-loop
-cast-end c = omega (arith, c .shared-slice-known4 .given (c .before .before .loop .k))
+cast-end c = omega (arith, c .shared-slice-known3 .given (c .before .before .loop .k))
 
 sign-set-requires : tie.Need-sign-set-requires Inv-loop μ-loop
 sign-set-requires c κs =
     let at-loop = c .before .before in
-    signing-items (start at-loop .pre) (at-loop .loop .inv .1) (omega arith)
+    (start at-loop .pre .0 .within (at-loop .loop .k) (omega arith), start at-loop .pre .1)
 
 mul-store-double : tie.Need-mul-store-double Inv-loop μ-loop
 mul-store-double c = omega arith
@@ -58,7 +58,7 @@ loop-again c =
     let stored = c .before .before in
     let signed = stored .before .before in
     let at-loop = signed .before .before .before in
-    let rest = signing-step (start at-loop .pre) (at-loop .loop .inv .1) (omega arith) in
+    let rest = signing-step (at-loop .loop .inv .1) (omega arith) in
     (refl, rest (signed .sign-set .ensures) (stored .store-double .ensures))
 
 same-length : tie.Need-same-length Inv-loop μ-loop
