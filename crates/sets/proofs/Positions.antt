@@ -21,7 +21,7 @@ three-mod x =
 power-next : (k : ℕ) → 3 ^ suc k % 257 ≡ 3 ^ k % 257 * 3 % 257
 power-next k = ap (λ (x : ℕ). x % 257) (pow-suc 3 k) ∙ three-mod (3 ^ k)
 
--- so that they repeat from the 256th on, which leaves 1 as the first does
+-- so that they repeat after 256, since the power 256 leaves 1, as the power 0 does
 powers-repeat : (k : ℕ) → 3 ^ (k + 256) % 257 ≡ 3 ^ k % 257
 powers-repeat zero = refl
 powers-repeat (suc k) =
@@ -36,7 +36,7 @@ unfolding position
 rounds-repeat k zero = let none : k + 256 * 0 ≡ k = omega arith in ap position none
 rounds-repeat k (suc rounds) =
     let last : k + 256 * suc rounds ≡ k + 256 * rounds + 256 = omega arith in
-    ap position last ∙ ap (λ (x : ℕ). x % 64) (powers-repeat (k + 256 * rounds)) ∙ rounds-repeat k rounds
+    ap position last ∙ rw (powers-repeat (k + 256 * rounds)) (rounds-repeat k rounds)
 
 pub position-repeats : (k : ℕ) → position (k % 256) ≡ position k
 position-repeats k =
