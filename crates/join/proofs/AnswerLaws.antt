@@ -89,10 +89,10 @@ module _ {i : Input} {limit : ℕ} {ranks : List ℕ} {words : ℕ} (ok : Tests 
 
   -- the walk over the index that was built
   module _ {lay : Layout} {w : List ℕ}
-      (ground : (r : Rule) → Ground lay (queryBy i limit ranks r) w)
+      (ground : Ground lay q w)
       (room : lay .slots ≤ length w) where
     pub walk-index : Index lay q w
-    walk-index = record { ground = ground rule; room = room }
+    walk-index = record { ground = ground; room = room }
 
     pub walk-ready : (budget : ℕ)
         → WalkReady lay (record { limit = limit; rule = rule; budget = budget }) q w (length (i .left .ends)) (length (i .right .ends))

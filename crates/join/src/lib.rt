@@ -58,6 +58,7 @@ fn join_ready(
         right_items,
         limit,
         ranks,
+        rule,
         work,
     );
     let st = Settings {

@@ -37,6 +37,11 @@ pub record RightThere (lay : Layout) (q : Query) (w : List ℕ) (s : ℕ) : Type
   pub index : Index lay q w
   pub below : s < length (q .rights)
 
+-- a rank whose inverted list is there
+pub record RankThere (lay : Layout) (q : Query) (w : List ℕ) (r : ℕ) : Type 0 where
+  pub index : Index lay q w
+  pub below : r < q .T
+
 -- the words from one place up to another are places of right sets
 pub record PlacesThere (lay : Layout) (q : Query) (w : List ℕ) (from to : ℕ) : Type 0 where
   pub index : Index lay q w

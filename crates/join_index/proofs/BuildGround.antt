@@ -25,8 +25,8 @@ use Rattle.join_index.proofs.BuildPlan.{right-end, right-ranks, left-en
 use Rattle.join_index.proofs.BuildStages.{Built, right-set, left-set}
 use Rattle.join_index.proofs.BuildLists.{from-left, from-right, size, least-slots, seen-at, seen-first, in-order}
 
-module _ {leftEnds leftItems rightEnds rightItems ranks w a b c d f : List ℕ} {nl nr limit : ℕ} {lay : Layout}
-    (built : Built leftEnds leftItems rightEnds rightItems ranks nl nr limit lay w a b c d f) (rule : Rule) where
+module _ {leftEnds leftItems rightEnds rightItems ranks w a b c d f : List ℕ} {nl nr limit : ℕ} {rule : Rule} {lay : Layout}
+    (built : Built leftEnds leftItems rightEnds rightItems ranks nl nr limit rule lay w a b c d f) where
   plan : Planned leftEnds leftItems rightEnds rightItems ranks nl nr lay w
   plan = built .plan
 
@@ -60,15 +60,17 @@ module _ {leftEnds leftItems rightEnds rightItems ranks w a b c d f : List ℕ} 
         inverted =
             λ r h. side-inverted (built .rightBuilt .held) (right-end plan) f (from-right built) (lay .index) (lay .slots)
             (plan .out .index) (omega (arith, least-below plan, least-slots built)) r h;
-        seenFirst = seen-first built rule;
-        ordered = in-order built rule;
+        seenFirst = seen-first built;
+        ordered = in-order built;
         leftStartsWithin = omega (arith, left-starts plan, left-ranks plan, left-end plan, least-slots built);
         rightStartsWithin = omega (arith, plan .out .rightStarts, right-ranks plan, least-below plan, least-slots built);
         leftSignaturesWithin = omega (arith, plan .out .slots, left-long plan);
         rightSignaturesWithin = omega (arith, slots-above plan, right-long plan);
         offsetsWithin = omega (arith, right-end plan, least-below plan, least-slots built);
         leastOffsetsWithin = omega (arith, plan .out .byLeast, signed-above plan, slots-above plan);
-        seenWithin = λ r h. omega (arith, seen-at built r h, built .leastBuilt .few r h, signed-above plan, slots-above plan);
+        seenWithin =
+            λ asked r h.
+            omega (arith, seen-at built r h, built .leastBuilt .few asked r h, signed-above plan, slots-above plan);
         slotsBelow = omega (arith, plan .out .rowStarts);
         slotWithin =
             λ r h.

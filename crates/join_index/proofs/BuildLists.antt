@@ -3,7 +3,7 @@
 use Prim.Native.Nat.{ℕ, zero, suc, _+_, _≤_, _<_}
 use mathlib.Core.Path.{_≡_, refl, sym, ap, ap₂, _∙_}
 use mathlib.Core.List.{List, []}
-use mathlib.Core.Bool.{Bool, _&&_}
+use mathlib.Core.Bool.{Bool, true, _&&_}
 use native.Mathlib.Omega.{arith}
 use borrow.Author.Tests.{ltb-true}
 use lib.ListN.{length, getD, take}
@@ -21,7 +21,7 @@ use Rattle.counting_sort.specs.Holding.{RegionHolds}
 use Rattle.counting_sort.specs.Sorting.{sortedAt}
 use Rattle.index_keys.specs.SetKeys.{setAt, keyIn}
 use Rattle.join_index.specs.Grouping.{leftAt, rightAt, keyAt, orderFrom, orderOf}
-use Rattle.join_index.specs.Ground.{Listing, seenCount}
+use Rattle.join_index.specs.Ground.{Listing, seenCount, asksSeen}
 use Rattle.join_index.specs.Stages.{orderedBy, heldKey}
 use Rattle.join_index.specs.declared.Layout.{Layout}
 use Rattle.join_index.proofs.Ordering.{key-is}
@@ -37,8 +37,8 @@ unfolding orderedBy orderFrom
 order-from q zero d = refl
 order-from q (suc n) d = ap (λ (l : List ℕ). grouped (keyAt q d) (suc (q .T)) l) (order-from q n (suc d))
 
-module _ {leftEnds leftItems rightEnds rightItems ranks w a b c d f : List ℕ} {nl nr limit : ℕ} {lay : Layout}
-    (built : Built leftEnds leftItems rightEnds rightItems ranks nl nr limit lay w a b c d f) where
+module _ {leftEnds leftItems rightEnds rightItems ranks w a b c d f : List ℕ} {nl nr limit : ℕ} {rule : Rule} {lay : Layout}
+    (built : Built leftEnds leftItems rightEnds rightItems ranks nl nr limit rule lay w a b c d f) where
   plan : Planned leftEnds leftItems rightEnds rightItems ranks nl nr lay w
   plan = built .plan
 
@@ -83,70 +83,69 @@ module _ {leftEnds leftItems rightEnds rightItems ranks w a b c d f : List ℕ} 
       frame-at 0 (lay .«least_offsets» + suc r) (lay .«by_least» + length rightEnds) c f
       (omega (arith, plan .out .byLeast)) from-least
 
-  seen-run : (r : ℕ) → r < T
+  seen-run : asksSeen rule ≡ true → (r : ℕ) → r < T
       → slice (lay .«by_least») (lay .«by_least» + seenCount lay f r) f
       ≡ slice (sortedAt (lay .«least_offsets») (T + 1))
       (sortedAt (lay .«least_offsets») (T + 1) + getD c (lay .«least_offsets» + suc r) 0) c
-  seen-run r h =
+  seen-run asked r h =
       ap₂ (λ (s n : ℕ). slice s (s + n) f) (plan .out .byLeast) (seen-at r h)
       ∙ frame-slice (sortedAt (lay .«least_offsets») (T + 1))
       (sortedAt (lay .«least_offsets») (T + 1) + getD c (lay .«least_offsets» + suc r) 0)
-      (lay .«by_least» + length rightEnds) c f (omega (arith, plan .out .byLeast, built .leastBuilt .few r h)) from-least
+      (lay .«by_least» + length rightEnds) c f (omega (arith, plan .out .byLeast, built .leastBuilt .few asked r h)) from-least
 
-  module _ (rule : Rule) where
-    abbrev q : Query
-    q = query (length ranks) leftEnds leftItems rightEnds rightItems limit ranks rule
+  abbrev q : Query
+  q = query (length ranks) leftEnds leftItems rightEnds rightItems limit ranks rule
 
-    seen-same : (r s : ℕ) → s < length rightEnds
-        → seen r (setAt b (lay .«right_starts») (lay .«right_ranks») s) ≡ seen r (rightAt q s)
-    unfolding rightAt
-    seen-same r s h =
-        ap (λ (l : List ℕ). seen r l)
-        (run-set (lay .«right_starts») (lay .«right_ranks») (lay .«least_offsets») (length rightEnds) T b
-        (λ s. ordered T ranks (getD rights s [])) (least-runs plan (built .rightBuilt) (built .leftBuilt)) s h)
+  seen-same : (r s : ℕ) → s < length rightEnds
+      → seen r (setAt b (lay .«right_starts») (lay .«right_ranks») s) ≡ seen r (rightAt q s)
+  unfolding rightAt
+  seen-same r s h =
+      ap (λ (l : List ℕ). seen r l)
+      (run-set (lay .«right_starts») (lay .«right_ranks») (lay .«least_offsets») (length rightEnds) T b
+      (λ s. ordered T ranks (getD rights s [])) (least-runs plan (built .rightBuilt) (built .leftBuilt)) s h)
 
-    pub seen-first : (r : ℕ) → r < T
-        → Listing (length rights) (λ s. seen r (rightAt q s))
-        (slice (lay .«by_least») (lay .«by_least» + seenCount lay f r) f)
-    seen-first r h p =
-        ap (λ (l : List ℕ). count p l) (seen-run r h)
-        ∙ built .leastBuilt .seenFirst r h p
-        ∙ count-agree (λ s. seen r (setAt b (lay .«right_starts») (lay .«right_ranks») s) && p s)
-        (λ s. seen r (rightAt q s) && p s)
-        (upto (length rightEnds))
-        (λ s there.
-        ap (λ (t : Bool). t && p s)
-        (seen-same r s (ltb-true s (length rightEnds) (sym (memb-upto (length rightEnds) s) ∙ there))))
-        ∙ ap (λ (n : ℕ). count (λ s. seen r (rightAt q s) && p s) (upto n)) (sym (right-long plan))
+  pub seen-first : asksSeen rule ≡ true → (r : ℕ) → r < T
+      → Listing (length rights) (λ s. seen r (rightAt q s))
+      (slice (lay .«by_least») (lay .«by_least» + seenCount lay f r) f)
+  seen-first asked r h p =
+      ap (λ (l : List ℕ). count p l) (seen-run asked r h)
+      ∙ built .leastBuilt .seenFirst asked r h p
+      ∙ count-agree (λ s. seen r (setAt b (lay .«right_starts») (lay .«right_ranks») s) && p s)
+      (λ s. seen r (rightAt q s) && p s)
+      (upto (length rightEnds))
+      (λ s there.
+      ap (λ (t : Bool). t && p s)
+      (seen-same r s (ltb-true s (length rightEnds) (sym (memb-upto (length rightEnds) s) ∙ there))))
+      ∙ ap (λ (n : ℕ). count (λ s. seen r (rightAt q s) && p s) (upto n)) (sym (right-long plan))
 
-    -- the left sets in order
-    order-keys : (e k : ℕ) → k < length leftEnds → heldKey c (lay .«left_starts») (lay .«left_ranks») e k ≡ keyAt q e k
-    unfolding leftAt
-    order-keys e k h =
-        ap (λ (l : List ℕ). keyIn e l)
-        (run-set (lay .«left_starts») (lay .«left_ranks») (lay .«by_least» + length rightEnds) (length leftEnds) T c
-        (λ k. ordered T ranks (getD lefts k [])) (order-runs plan (built .rightBuilt) (built .leftBuilt) (built .leastBuilt)) k h)
-        ∙ sym (key-is q e k)
+  -- the left sets in order
+  order-keys : (e k : ℕ) → k < length leftEnds → heldKey c (lay .«left_starts») (lay .«left_ranks») e k ≡ keyAt q e k
+  unfolding leftAt
+  order-keys e k h =
+      ap (λ (l : List ℕ). keyIn e l)
+      (run-set (lay .«left_starts») (lay .«left_ranks») (lay .«by_least» + length rightEnds) (length leftEnds) T c
+      (λ k. ordered T ranks (getD lefts k [])) (order-runs plan (built .rightBuilt) (built .leftBuilt) (built .leastBuilt)) k h)
+      ∙ sym (key-is q e k)
 
-    order-is : orderedBy (heldKey c (lay .«left_starts») (lay .«left_ranks»)) T (length leftEnds) limit 0 ≡ orderOf q
-    order-is =
-        ordered-agree (heldKey c (lay .«left_starts») (lay .«left_ranks»)) (keyAt q) T
-        (length leftEnds) limit 0 order-keys
-        ∙ ap (λ (n : ℕ). orderedBy (keyAt q) T n limit 0) (sym (left-long plan))
-        ∙ order-from q limit 0
+  order-is : orderedBy (heldKey c (lay .«left_starts») (lay .«left_ranks»)) T (length leftEnds) limit 0 ≡ orderOf q
+  order-is =
+      ordered-agree (heldKey c (lay .«left_starts») (lay .«left_ranks»)) (keyAt q) T
+      (length leftEnds) limit 0 order-keys
+      ∙ ap (λ (n : ℕ). orderedBy (keyAt q) T n limit 0) (sym (left-long plan))
+      ∙ order-from q limit 0
 
-    order-end : lay .order + length lefts ≡ lay .«right_signatures»
-    order-end = omega (arith, plan .out .rightSignatures, left-long plan)
+  order-end : lay .order + length lefts ≡ lay .«right_signatures»
+  order-end = omega (arith, plan .out .rightSignatures, left-long plan)
 
-    pub in-order : RegionHolds f (lay .slots) (lay .order) (lay .order + length lefts) (orderOf q)
-    in-order =
-        record {
-          rise = omega arith;
-          within = omega (arith, order-end, slots-above plan);
-          is =
-              frame-slice (lay .order) (lay .order + length lefts) (lay .«right_signatures») d f
-              (omega (arith, order-end)) from-order
-              ∙ ap₂ (λ (s n : ℕ). slice s (s + n) d) (plan .out .order) (left-long plan)
-              ∙ built .orderBuilt .is
-              ∙ order-is;
-        }
+  pub in-order : RegionHolds f (lay .slots) (lay .order) (lay .order + length lefts) (orderOf q)
+  in-order =
+      record {
+        rise = omega arith;
+        within = omega (arith, order-end, slots-above plan);
+        is =
+            frame-slice (lay .order) (lay .order + length lefts) (lay .«right_signatures») d f
+            (omega (arith, order-end)) from-order
+            ∙ ap₂ (λ (s n : ℕ). slice s (s + n) d) (plan .out .order) (left-long plan)
+            ∙ built .orderBuilt .is
+            ∙ order-is;
+      }

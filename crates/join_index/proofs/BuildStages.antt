@@ -7,6 +7,7 @@ use lib.ListN.{length, getD, take}
 use Rattle.sets.specs.Collections.{setsOf}
 use Rattle.sets.specs.Ordered.{ordered}
 use Rattle.sets.proofs.Good.{end-within}
+use Rattle.join_spec.specs.declared.Rule.{Rule}
 use Rattle.counting_sort.specs.Holding.{RegionHolds}
 use Rattle.signatures.specs.Signing.{BothRoom, BothSigned}
 use Rattle.index_keys.specs.SetKeys.{startOf}
@@ -23,13 +24,13 @@ use Rattle.join_index.proofs.BuildPlan.{left-long, plan-sizes}
 
 -- what each stage left: a after the right side, b the left side, c the right sets by least rank, d the left sets in order, and f
 -- the signatures
-pub record Built (leftEnds leftItems rightEnds rightItems ranks : List ℕ) (nl nr limit : ℕ) (lay : Layout)
+pub record Built (leftEnds leftItems rightEnds rightItems ranks : List ℕ) (nl nr limit : ℕ) (rule : Rule) (lay : Layout)
     (w a b c d f : List ℕ) : Type 0 where
   pub plan : Planned leftEnds leftItems rightEnds rightItems ranks nl nr lay w
   pub rightBuilt : SideBuilt (lay .offsets) nr ranks (setsOf rightEnds rightItems) w a
   pub leftBuilt : SideBuilt (lay .«right_ranks» + nr) nl ranks (setsOf leftEnds leftItems) a b
   pub leastBuilt :
-      LeastBuilt (lay .«least_offsets») (lay .«right_starts») (lay .«right_ranks») (length rightEnds) (length ranks) b c
+      LeastBuilt rule (lay .«least_offsets») (lay .«right_starts») (lay .«right_ranks») (length rightEnds) (length ranks) b c
   pub orderBuilt :
       OrderBuilt (lay .«by_least» + length rightEnds) (length leftEnds) (length ranks)
       (orderedBy (heldKey c (lay .«left_starts») (lay .«left_ranks»)) (length ranks) (length leftEnds) limit 0) c d
@@ -117,8 +118,8 @@ module _ {leftEnds leftItems rightEnds rightItems ranks w : List ℕ} {nl nr : �
             room = omega (arith, wide p, right-built .size, left-built .size);
           }
 
-      module _ {c : List ℕ}
-          (least-built : LeastBuilt (lay .«least_offsets») (lay .«right_starts») (lay .«right_ranks»)
+      module _ {rule : Rule} {c : List ℕ}
+          (least-built : LeastBuilt rule (lay .«least_offsets») (lay .«right_starts») (lay .«right_ranks»)
           (length rightEnds) T b c) where
         pub order-runs : (k : ℕ) → k < length leftEnds
             → RegionHolds c (lay .«by_least» + length rightEnds) (startOf c (lay .«left_starts») (lay .«left_ranks») k)

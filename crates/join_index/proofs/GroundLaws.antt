@@ -3,6 +3,7 @@
 use Prim.Native.Nat.{ℕ, zero, suc, _+_, _-_, _*_, _≤_, _<_}
 use mathlib.Core.Path.{_≡_, refl, ap, _∙_}
 use mathlib.Core.List.{List}
+use mathlib.Core.Bool.{true}
 use native.Mathlib.Nat.{add-zero, add-suc}
 use native.Mathlib.Omega.{arith}
 use lib.ListN.{length, take, getD}
@@ -12,7 +13,7 @@ use Rattle.join_spec.specs.Query.{Query}
 use Rattle.counting_sort.proofs.Regions.{holds-frame}
 use Rattle.signatures.proofs.SigningSets.{double-stays}
 use Rattle.index_keys.specs.SetKeys.{startOf}
-use Rattle.join_index.specs.Ground.{Ground, offsetOf, seenCount}
+use Rattle.join_index.specs.Ground.{Ground, offsetOf, seenCount, asksSeen}
 use Rattle.join_index.specs.declared.Layout.{Layout}
 
 module _ (w v : List ℕ) (top : ℕ) (kept : take top v ≡ take top w) where
@@ -30,12 +31,12 @@ module _ (lay : Layout) (q : Query) (w v : List ℕ) (kept : take (lay .slots) v
   same-offset : (r : ℕ) → r ≤ q .T → offsetOf lay v r ≡ offsetOf lay w r
   same-offset r h = same-at w v (lay .slots) kept (lay .offsets + r) (omega (arith, g .offsetsWithin))
 
-  seen-slice : (r : ℕ) → r < q .T
+  seen-slice : asksSeen (q .rule) ≡ true → (r : ℕ) → r < q .T
       → slice (lay .«by_least») (lay .«by_least» + seenCount lay v r) v ≡ slice (lay .«by_least»)
       (lay .«by_least» + seenCount lay w r) w
-  seen-slice r h =
+  seen-slice asked r h =
       ap (λ (n : ℕ). slice (lay .«by_least») (lay .«by_least» + n) v) (same-seen r h)
-      ∙ frame-slice (lay .«by_least») (lay .«by_least» + seenCount lay w r) (lay .slots) w v (g .seenWithin r h) kept
+      ∙ frame-slice (lay .«by_least») (lay .«by_least» + seenCount lay w r) (lay .slots) w v (g .seenWithin asked r h) kept
 
   pub ground-frame : Ground lay q v
   ground-frame =
@@ -63,7 +64,7 @@ module _ (lay : Layout) (q : Query) (w v : List ℕ) (kept : take (lay .slots) v
             (ap (λ (n : ℕ). lay .index + n) (same-offset r (omega arith)))
             (ap (λ (n : ℕ). lay .index + n) (same-offset (suc r) h))
             (g .inverted r h);
-        seenFirst = λ r h p. ap (λ (l : List ℕ). count p l) (seen-slice r h) ∙ g .seenFirst r h p;
+        seenFirst = λ asked r h p. ap (λ (l : List ℕ). count p l) (seen-slice asked r h) ∙ g .seenFirst asked r h p;
         ordered = holds-frame kept refl refl (g .ordered);
         leftStartsWithin = g .leftStartsWithin;
         rightStartsWithin = g .rightStartsWithin;
@@ -71,7 +72,7 @@ module _ (lay : Layout) (q : Query) (w v : List ℕ) (kept : take (lay .slots) v
         rightSignaturesWithin = g .rightSignaturesWithin;
         offsetsWithin = g .offsetsWithin;
         leastOffsetsWithin = g .leastOffsetsWithin;
-        seenWithin = λ r h. omega (arith, g .seenWithin r h, same-seen r h);
+        seenWithin = λ asked r h. omega (arith, g .seenWithin asked r h, same-seen r h);
         slotsBelow = g .slotsBelow;
         slotWithin = λ r h. omega (arith, g .slotWithin r h, same-offset (suc r) h);
         rowStartsWithin = g .rowStartsWithin;

@@ -3,12 +3,14 @@
 use Prim.Native.Nat.{ℕ, suc, _+_, _*_, _≤_, _<_}
 use mathlib.Core.Path.{_≡_}
 use mathlib.Core.List.{List, []}
-use mathlib.Core.Bool.{Bool, _&&_}
+use mathlib.Core.Bool.{Bool, true, false, _&&_}
 use lib.ListN.{length, getD}
 use Rattle.lists.specs.Lists.{count, keep, memb, subset, upto, slice}
 use Rattle.sets.specs.Limits.{maxSets, maxItems, fullWords}
 use Rattle.sets.specs.Collections.{contained}
 use Rattle.sets.specs.Signatures.{signature}
+use Rattle.join_spec.specs.declared.Rule.{Rule}
+use Rattle.join_spec.specs.declared.Rule.the-variants.{Merge, Check, Weighed}
 use Rattle.join_spec.specs.Query.{Query}
 use Rattle.join_spec.specs.Node.{seen}
 use Rattle.join_index.specs.Grouping.{leftAt, rightAt, orderOf}
@@ -33,7 +35,13 @@ offsetOf lay w r = getD w (lay .offsets + r) 0
 abbrev pub seenCount : Layout → List ℕ → ℕ → ℕ
 seenCount lay w r = getD w (lay .«least_offsets» + suc r) 0
 
--- w holds each region of the layout for the query
+-- whether a rule asks which right sets are seen: all but the one that always goes on
+unfoldable pub asksSeen : Rule → Bool
+asksSeen Merge = false
+asksSeen Check = true
+asksSeen (Weighed w) = true
+
+-- w holds each region of the layout for the query; the right sets by least rank where its rule asks which are seen
 pub record Ground (lay : Layout) (q : Query) (w : List ℕ) : Type 0 where
   pub left :
       (k : ℕ) → k < length (q .lefts)
@@ -51,7 +59,7 @@ pub record Ground (lay : Layout) (q : Query) (w : List ℕ) : Type 0 where
       (r : ℕ) → r < q .T
       → RegionHolds w (lay .slots) (lay .index + offsetOf lay w r) (lay .index + offsetOf lay w (suc r)) (invertedList q r)
   pub seenFirst :
-      (r : ℕ) → r < q .T
+      asksSeen (q .rule) ≡ true → (r : ℕ) → r < q .T
       → Listing (length (q .rights)) (λ s. seen r (rightAt q s)) (slice (lay .«by_least») (lay .«by_least» + seenCount lay w r) w)
   pub ordered : RegionHolds w (lay .slots) (lay .order) (lay .order + length (q .lefts)) (orderOf q)
   -- the regions that are read by place lie below the slots
@@ -61,7 +69,7 @@ pub record Ground (lay : Layout) (q : Query) (w : List ℕ) : Type 0 where
   pub rightSignaturesWithin : lay .«right_signatures» + 2 * length (q .rights) ≤ lay .slots
   pub offsetsWithin : lay .offsets + suc (q .T) ≤ lay .slots
   pub leastOffsetsWithin : lay .«least_offsets» + suc (q .T) ≤ lay .slots
-  pub seenWithin : (r : ℕ) → r < q .T → lay .«by_least» + seenCount lay w r ≤ lay .slots
+  pub seenWithin : asksSeen (q .rule) ≡ true → (r : ℕ) → r < q .T → lay .«by_least» + seenCount lay w r ≤ lay .slots
   -- every slot lies below the kept rows, and these lie within the work list, where a place fits a word
   pub slotsBelow : lay .slots ≤ lay .«row_starts»
   pub slotWithin : (r : ℕ) → r < q .T → lay .slots + offsetOf lay w (suc r) ≤ lay .«row_starts»

@@ -20,7 +20,7 @@ pub struct Layout {
     // How many right sets have a least rank below a rank, an empty set counting as one with the rank after the last: one word a
     // rank and two more.
     pub least_offsets: usize,
-    // The right sets by least rank, and then the empty ones.
+    // The right sets by least rank, and then the empty ones. Both are filled only where the rule asks which right sets are seen.
     pub by_least: usize,
     // The left sets, so that those with a common prefix stand together.
     pub order: usize,

@@ -9,11 +9,12 @@ use borrow.Author.Tests.{eqb-true}
 use lib.Dec.{eqb, ltb}
 use lib.ListN.{length, take}
 use lib.Seq.{take-take, take-suc}
-use Rattle.lists.specs.Lists.{all, count, keep, memb, subset, prefix, upto}
+use Rattle.lists.specs.Lists.{all, count, keep, memb, subset, prefix, upto, slice}
 use Rattle.lists.proofs.Bools.{and-left, and-right}
-use Rattle.lists.proofs.Counting.{count-same, count-true}
+use Rattle.lists.proofs.Counting.{count-same, count-true, count-bound}
 use Rattle.lists.proofs.Filtering.{keep-same, memb-keep, count-keep, keep-keep, keep-same-where}
-use Rattle.lists.proofs.Ranges.{all-upto, memb-upto}
+use Rattle.lists.proofs.Ranges.{all-upto, memb-upto, length-range}
+use Rattle.lists.proofs.Slices.{length-slice}
 use Rattle.join_spec.specs.Query.{Query}
 use Rattle.join_spec.specs.Node.{seen, lastOf}
 use Rattle.join_spec.specs.Walk.{isCandidate}
@@ -79,6 +80,18 @@ listing-same n test other list same listing p =
 pub listing-length : (n : ℕ) (test : ℕ → Bool) (list : List ℕ) → Listing n test list → length list ≡ count test (upto n)
 listing-length n test list listing =
     sym (count-true list) ∙ listing (λ s. true) ∙ count-same (λ s. test s && true) test (upto n) (λ s. and-true (test s))
+
+-- a listing has at most n places
+pub listing-few : (n : ℕ) (test : ℕ → Bool) (from to : ℕ) (w : List ℕ) → to ≤ length w → Listing n test (slice from to w)
+    → to - from ≤ n
+listing-few n test from to w within listing =
+    omega (
+      arith,
+      listing-length n test (slice from to w) listing,
+      length-slice from to w within,
+      count-bound test (upto n),
+      length-range 0 n,
+    )
 
 -- after the first rank the candidates are its inverted list
 pub narrow-first : (q : Query) (r : ℕ)

@@ -1,7 +1,7 @@
 -- What a node's record gives the code: its first left set begins with its path, so the path's ranks can be read off that set;
 -- and its three numbers are the lengths of its run and of its candidates, and a count over an inverted list.
 use Prim.Native.Nat.{ℕ, suc, _+_, _-_, _≤_, _<_}
-use mathlib.Core.Path.{_≡_, sym, ap, subst, _∙_}
+use mathlib.Core.Path.{_≡_, refl, sym, ap, subst, _∙_}
 use mathlib.Core.List.{List, map}
 use mathlib.Core.Bool.{Bool, true, false, _&&_}
 use native.Mathlib.Omega.{arith}
@@ -10,17 +10,20 @@ use lib.Dec.{ltb}
 use lib.ListN.{length, getD}
 use lib.Seq.{getD-take}
 use Rattle.lists.specs.Lists.{count, memb, prefix, upto, slice}
+use Rattle.lists.proofs.Bools.{true-false}
 use Rattle.lists.proofs.Counting.{count-bound}
 use Rattle.lists.proofs.Filtering.{all-keep, count-keep}
 use Rattle.lists.proofs.Ranges.{all-upto, length-range}
 use Rattle.lists.proofs.Slices.{length-slice}
-use Rattle.join_spec.specs.declared.Rule.the-variants.{Merge, Check}
+use Rattle.join_spec.specs.declared.Weights.{Weights}
+use Rattle.join_spec.specs.declared.Rule.{Rule}
+use Rattle.join_spec.specs.declared.Rule.the-variants.{Merge, Check, Weighed}
 use Rattle.join_spec.specs.Query.{Query, inOrder}
-use Rattle.join_spec.specs.Node.{seen, firstOf, lastOf, candidates, beginning, goesOn, goesOnAt}
+use Rattle.join_spec.specs.Node.{seen, firstOf, lastOf, candidates, holders, beginning, goesOn, goesOnAt}
 use Rattle.join_spec.specs.Walk.{isCandidate}
 use Rattle.join_index.specs.Grouping.{leftAt, rightAt, keyAt}
 use Rattle.counting_sort.specs.Holding.{RegionHolds}
-use Rattle.join_index.specs.Ground.{invertedList}
+use Rattle.join_index.specs.Ground.{invertedList, asksSeen}
 use Rattle.join_index.specs.declared.Layout.{Layout}
 use Rattle.join_index.proofs.GroundLaws.{slot-bound}
 use Rattle.join_check.specs.Asking.{Index, LeftThere, PlacesThere}
@@ -95,24 +98,12 @@ module _ {lay : Layout} {q : Query} {path w : List ℕ} {d lo hi from to : ℕ} 
   part-length = length-slice from to w candidates-within
 
   -- c
-  pub node-candidates : candidates (map (inOrder q) (q .rights)) path ≡ to - from
-  node-candidates =
+  node-candidates : asksSeen (q .rule) ≡ true → candidates (map (inOrder q) (q .rights)) path ≡ to - from
+  node-candidates asked =
       candidates-is q path (node .candidates .depth) (node .candidates .deep)
       ∙ sym (listing-length (length (q .rights)) (λ s. isCandidate (d - 1) path (rightAt q s)) (slice from to w)
-      (node .candidates .listing))
+      (node .candidates .listing asked))
       ∙ part-length
-
-  -- the candidates are no more than the right sets
-  pub candidates-few : to - from ≤ length (q .rights)
-  candidates-few =
-      omega (
-        arith,
-        listing-length (length (q .rights)) (λ s. isCandidate (d - 1) path (rightAt q s)) (slice from to w)
-            (node .candidates .listing),
-        part-length,
-        count-bound (λ s. isCandidate (d - 1) path (rightAt q s)) (upto (length (q .rights))),
-        length-range 0 (length (q .rights)),
-      )
 
   last-on : lastOf path ≡ getD path (d - 1) 0
   last-on = ap (λ (n : ℕ). getD path (n - 1) 0) (node .candidates .depth)
@@ -131,9 +122,9 @@ module _ {lay : Layout} {q : Query} {path w : List ℕ} {d lo hi from to : ℕ} 
   last-read read = node-last (read q path (node-path (d - 1) (omega (arith, node .candidates .deep))))
 
   -- the decision
-  pub node-goes : (t : ℕ) → t ≡ count (λ s. seen (firstOf path) (rightAt q s)) (invertedList q (lastOf path))
+  pub node-goes : asksSeen (q .rule) ≡ true → (t : ℕ) → t ≡ count (λ s. seen (firstOf path) (rightAt q s)) (invertedList q (lastOf path))
       → goes q path ≡ goesOn (q .rule) (to - from) t (hi - lo)
-  node-goes t e = goes-is q path (to - from) t (hi - lo) node-candidates (holders-is q path ∙ sym e) node-lefts
+  node-goes asked t e = goes-is q path (to - from) t (hi - lo) (node-candidates asked) (holders-is q path ∙ sym e) node-lefts
 
 -- how many of an inverted list are seen is no more than the right sets
 pub seen-few : (q : Query) (r : ℕ) (p : ℕ → Bool) → count p (invertedList q r) ≤ length (q .rights)
@@ -153,6 +144,37 @@ merge-goes q path e = rw e
 pub check-stops : (q : Query) (path : List ℕ) → q .rule ≡ Check → false ≡ goes q path
 unfolding goes goesOnAt goesOn
 check-stops q path e = rw e
+
+-- Merge alone doesn't ask which right sets are seen
+pub weighed-asks : {weights : Weights} (q : Query) → q .rule ≡ Weighed weights → asksSeen (q .rule) ≡ true
+unfolding asksSeen
+weighed-asks q e = rw e refl
+
+stopping-asks : (rule : Rule) (c t m : ℕ) → false ≡ goesOn rule c t m → asksSeen rule ≡ true
+unfolding asksSeen goesOn
+stopping-asks Merge c t m stop = true-false refl (sym stop)
+stopping-asks Check c t m stop = refl
+stopping-asks (Weighed w) c t m stop = refl
+
+pub stop-asks : (q : Query) (path : List ℕ) → false ≡ goes q path → asksSeen (q .rule) ≡ true
+unfolding goes goesOnAt
+stop-asks q path stop =
+    let lefts = map (inOrder q) (q .lefts) in
+    let rights = map (inOrder q) (q .rights) in
+    stopping-asks (q .rule) (candidates rights path) (holders rights path) (beginning lefts path) stop
+
+going-unasked : (rule : Rule) (c t m : ℕ) → asksSeen rule ≡ false → true ≡ goesOn rule c t m
+unfolding asksSeen goesOn
+going-unasked Merge c t m unasked = refl
+going-unasked Check c t m unasked = true-false refl unasked
+going-unasked (Weighed w) c t m unasked = true-false refl unasked
+
+pub unasked-goes : (q : Query) (path : List ℕ) → asksSeen (q .rule) ≡ false → true ≡ goes q path
+unfolding goes goesOnAt
+unasked-goes q path unasked =
+    let lefts = map (inOrder q) (q .lefts) in
+    let rights = map (inOrder q) (q .rights) in
+    going-unasked (q .rule) (candidates rights path) (holders rights path) (beginning lefts path) unasked
 
 -- an inverted list is a list of right places
 pub inverted-there : {lay : Layout} {q : Query} {w : List ℕ} (r first last : ℕ) → Index lay q w → r < q .T
@@ -181,7 +203,7 @@ module _ {lay : Layout} {q : Query} {path w : List ℕ} {d lo hi from to t : ℕ
   pub counted-few : t ≤ length (q .rights)
   counted-few = omega (arith, counted-in, seen-few q (lastOf path) (λ s. seen root (rightAt q s)))
 
-  pub counted-goes : root ≡ firstOf path → goes q path ≡ goesOn (q .rule) (to - from) t (hi - lo)
-  counted-goes is =
-      node-goes node t
+  pub counted-goes : asksSeen (q .rule) ≡ true → root ≡ firstOf path → goes q path ≡ goesOn (q .rule) (to - from) t (hi - lo)
+  counted-goes asked is =
+      node-goes node asked t
       (counted-in ∙ ap (λ (r : ℕ). count (λ s. seen r (rightAt q s)) (invertedList q (lastOf path))) is)

@@ -28,7 +28,7 @@ use Rattle.join_nodes.specs.declared.Progress.{Progress}
 use Rattle.join_nodes.specs.declared.Settings.{Settings}
 use Rattle.join_nodes.specs.declared.Walked.{Walked}
 use Rattle.join_nodes.proofs.RunLaws.{run-length}
-use Rattle.join_nodes.proofs.NodeFacts.{candidates-few}
+use Rattle.join_nodes.proofs.NodeFacts.{stop-asks}
 use Rattle.join_nodes.proofs.BlockLaws.{Begin, Rooted, runs-there, rows-stop}
 use Rattle.join_nodes.proofs.BlockVisits.{block-visited}
 use Rattle.join_nodes.proofs.FrameLaws.{framed-none}
@@ -76,14 +76,15 @@ module _ {lay : Layout} {st : Settings} {q : Query} {path w : List ℕ} {d lo hi
     goes-not test = sym (not-true b test) ∙ decision
 
   -- not going on
-  pub stop-there : RunsThere lay q w (d - 1) lo hi from to
-  stop-there = runs-there node-rooted index part-within (node .at .few) (cands .listing) (omega arith)
+  pub stop-there : false ≡ goes q path → RunsThere lay q w (d - 1) lo hi from to
+  stop-there stop =
+      runs-there node-rooted index part-within (node .at .few) (cands .listing (stop-asks q path stop)) (omega arith)
 
   pub stop-small : Small (st .budget) lo hi from to (p .tally)
   stop-small =
       record {
         lefts = lefts-few;
-        rights = omega (arith, candidates-few (node .at), index .ground .rightFew);
+        rights = omega (arith, cands .few, index .ground .rightFew);
         rise = omega (arith, node .at .some);
         part = cands .rise;
         covered = node .underway .budget;
@@ -94,7 +95,7 @@ module _ {lay : Layout} {st : Settings} {q : Query} {path w : List ℕ} {d lo hi
   stop-visited {r} stop block =
       record {
         framed = framed-none (slotOf lay w (lastOf path)) w;
-        visited = block-visited stop-there (run-length lay q w lo hi index (node .at .few)) (length-slice from to w part-within)
-            (λ is met. rows-stop node-rooted (slice from to w) is met (sym stop) (cands .listing)) block;
+        visited = block-visited (stop-there stop) (run-length lay q w lo hi index (node .at .few)) (length-slice from to w part-within)
+            (λ is met. rows-stop node-rooted (slice from to w) is met (sym stop) (cands .listing (stop-asks q path stop))) block;
         rows = λ calm. subst (RowsKept lay q w) (sym (block .top)) (node .rows);
       }

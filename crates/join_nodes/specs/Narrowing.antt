@@ -3,13 +3,14 @@
 use Prim.Native.Nat.{ℕ, suc, _+_, _-_, _≤_, _<_}
 use mathlib.Core.Path.{_≡_}
 use mathlib.Core.List.{List}
+use mathlib.Core.Bool.{true}
 use lib.ListN.{length, take, drop}
 use Rattle.lists.specs.Lists.{keep, upto, slice}
 use Rattle.join_spec.specs.Query.{Query}
 use Rattle.join_spec.specs.Node.{lastOf}
 use Rattle.join_spec.specs.Walk.{isCandidate}
 use Rattle.join_index.specs.Grouping.{rightAt}
-use Rattle.join_index.specs.Ground.{Listing, offsetOf}
+use Rattle.join_index.specs.Ground.{Listing, offsetOf, asksSeen}
 use Rattle.join_index.specs.declared.Layout.{Layout}
 use Rattle.join_check.specs.Asking.{Index}
 use Rattle.join_nodes.specs.declared.narrow.Part.{Part}
@@ -29,7 +30,7 @@ abbrev pub slotOf : Layout → List ℕ → ℕ → ℕ
 slotOf lay w r = lay .slots + offsetOf lay w r
 
 -- the words from lo up to hi are the candidates of a node at depth d, all below the slot of its last rank; in rising order but
--- for the first depth
+-- for the first depth, where they are those that are seen, if the rule asks for these
 pub record Candidates (lay : Layout) (q : Query) (path w : List ℕ) (d lo hi : ℕ) : Type 0 where
   pub index : Index lay q w
   pub depth : length path ≡ d
@@ -37,7 +38,9 @@ pub record Candidates (lay : Layout) (q : Query) (path w : List ℕ) (d lo hi : 
   pub last : lastOf path < q .T
   pub rise : lo ≤ hi
   pub below : hi ≤ slotOf lay w (lastOf path)
-  pub listing : Listing (length (q .rights)) (λ s. isCandidate (d - 1) path (rightAt q s)) (slice lo hi w)
+  pub few : hi - lo ≤ length (q .rights)
+  pub listing :
+      asksSeen (q .rule) ≡ true → Listing (length (q .rights)) (λ s. isCandidate (d - 1) path (rightAt q s)) (slice lo hi w)
   pub sorted : 1 < d → slice lo hi w ≡ candidateList q path (d - 1)
 
 -- the candidates after the node, and w became w′: the kept rows are as they were

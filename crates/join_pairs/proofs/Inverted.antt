@@ -21,10 +21,10 @@ use Rattle.join_index.proofs.GroundLaws.{slot-bound}
 use Rattle.word_lists.specs.Words.{Word}
 use Rattle.word_lists.specs.Merges.{Rising}
 use Rattle.word_lists.specs.Flags.{flagRoom, Below}
-use Rattle.join_check.specs.Asking.{PlacesThere}
+use Rattle.join_check.specs.Asking.{RankThere, PlacesThere}
 use Rattle.join_check.proofs.Places.{places-below}
 use Rattle.join_pairs.specs.declared.candidates.Span.{Span}
-use Rattle.join_pairs.specs.Containing.{RankThere, RanksThere}
+use Rattle.join_pairs.specs.Containing.{RanksThere}
 use Rattle.join_pairs.specs.Shortlists.{Located}
 
 -- the inverted list of a rank lies between two offsets, and its slot below the rows

@@ -19,10 +19,9 @@ use Rattle.join_index.specs.Grouping.{rightAt}
 use Rattle.join_index.specs.declared.Layout.{Layout}
 use Rattle.join_index.proofs.GroundLaws.{offsets-rise}
 use Rattle.word_lists.specs.Words.{Word}
-use Rattle.join_check.specs.Asking.{PlacesThere}
+use Rattle.join_check.specs.Asking.{RankThere, PlacesThere}
 use Rattle.join_check.proofs.Reading.{index-frame}
 use Rattle.join_pairs.specs.declared.candidates.Span.{Span}
-use Rattle.join_pairs.specs.Containing.{RankThere}
 use Rattle.join_pairs.specs.Shortlists.{Located, SpanThere, RankMet, FindThere, ShortlistOf}
 use Rattle.join_pairs.proofs.Inverted.{inverted-stored, list-part, list-places, list-rising, slice-at, slice-memb}
 

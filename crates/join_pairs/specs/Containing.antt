@@ -36,11 +36,6 @@ pub record CheckThere (lay : Layout) (q : Query) (w : List ℕ) (p : Probe) (k s
   pub signed : p .signature ≡ signature (getD (q .lefts) k [])
   pub decides : subset (slice (p .from) (p .to) w) (rightAt q s) ≡ containedAt q k s
 
--- a rank whose inverted list is there
-pub record RankThere (lay : Layout) (q : Query) (w : List ℕ) (r : ℕ) : Type 0 where
-  pub index : Index lay q w
-  pub below : r < q .T
-
 -- the words from one place up to another are ranks, and not none
 pub record RanksThere (lay : Layout) (q : Query) (w : List ℕ) (from to : ℕ) : Type 0 where
   pub index : Index lay q w

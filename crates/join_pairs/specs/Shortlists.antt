@@ -11,10 +11,9 @@ use Rattle.lists.specs.Parts.{Changed}
 use Rattle.join_spec.specs.Query.{Query}
 use Rattle.join_index.specs.Grouping.{rightAt}
 use Rattle.join_index.specs.declared.Layout.{Layout}
-use Rattle.join_check.specs.Asking.{Index, PlacesThere}
+use Rattle.join_check.specs.Asking.{Index, RankThere, PlacesThere}
 use Rattle.join_pairs.specs.declared.candidates.Span.{Span}
 use Rattle.join_pairs.specs.declared.candidates.Shortlist.{Shortlist}
-use Rattle.join_pairs.specs.Containing.{RankThere}
 
 -- the span lies between the offsets of the rank
 pub record Located (lay : Layout) (w : List ℕ) (r : ℕ) (s : Span) : Type 0 where

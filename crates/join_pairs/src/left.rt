@@ -9,10 +9,10 @@ ghost use mathlib.Core.Bool.{true};
 ghost use Prim.Native.Nat.{ℕ};
 ghost use Rattle.lists.specs.Lists.{memb, slice};
 ghost use Rattle.join_spec.specs.Query.{Query};
-ghost use Rattle.join_check.specs.Asking.{Some, RightThere};
+ghost use Rattle.join_check.specs.Asking.{Some, RightThere, RankThere};
 ghost use Rattle.word_lists.specs.Merges.{Rising};
 ghost use Rattle.kept_rows.specs.Kept.{containedAt};
-ghost use Rattle.join_pairs.specs.Containing.{RankThere, RanksThere, CheckThere};
+ghost use Rattle.join_pairs.specs.Containing.{RanksThere, CheckThere};
 
 // How many right sets hold a rank.
 pub fn holders(work: &[u32], lay: Layout, r: usize) -> usize

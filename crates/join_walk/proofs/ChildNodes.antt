@@ -20,7 +20,7 @@ use Rattle.join_spec.specs.Walk.{isCandidate}
 use Rattle.join_index.specs.Grouping.{leftAt, rightAt}
 use Rattle.join_index.specs.Ground.{Listing}
 use Rattle.join_index.specs.declared.Layout.{Layout}
-use Rattle.join_index.proofs.GroundLaws.{offsets-rise}
+use Rattle.join_index.proofs.GroundLaws.{offsets-rise, slot-bound}
 use Rattle.join_index.proofs.Ordering.{left-rising}
 use Rattle.join_check.specs.Runs.{run, leftIn, RunEnd}
 use Rattle.join_nodes.specs.Narrowing.{candidateList, slotOf}
@@ -30,7 +30,7 @@ use Rattle.join_nodes.specs.declared.Progress.{Progress}
 use Rattle.join_nodes.specs.declared.Settings.{Settings}
 use Rattle.join_nodes.specs.declared.Walked.{Walked}
 use Rattle.join_nodes.proofs.Prefixes.{prefix-take, prefix-length}
-use Rattle.join_nodes.proofs.Narrowing.{candidate-path, listing-kept}
+use Rattle.join_nodes.proofs.Narrowing.{candidate-path, listing-kept, listing-few}
 use Rattle.join_nodes.proofs.RunLaws.{begins-first}
 use Rattle.join_nodes.proofs.PartLoop.{PartDone}
 use Rattle.join_nodes.proofs.FrameLaws.{slot-framed, framed-lower}
@@ -105,6 +105,12 @@ module _ {lay : Layout} {st : Settings} {q : Query} {path w : List ℕ} {d i hi 
       (upto (length (q .rights)))
       (λ s. sym (same-candidates s))
 
+  child-listing : Listing (length (q .rights)) (λ s. isCandidate (suc d - 1) longer (rightAt q s)) (slice from to w)
+  child-listing =
+      subst (λ (l : List ℕ). Listing (length (q .rights)) (λ s. isCandidate (suc d - 1) longer (rightAt q s)) l)
+      (sym child-sorted)
+      (listing-kept (length (q .rights)) (λ s. isCandidate (suc d - 1) longer (rightAt q s)))
+
   child-node : Node lay st q longer w (suc d) i j from to p
   child-node =
       record {
@@ -116,10 +122,11 @@ module _ {lay : Layout} {st : Settings} {q : Query} {path w : List ℕ} {d i hi 
             last = child .last;
             rise = after .rise;
             below = omega (arith, after .below, slot-beyond);
-            listing =
-                subst (λ (l : List ℕ). Listing (length (q .rights)) (λ s. isCandidate (suc d - 1) longer (rightAt q s)) l)
-                (sym child-sorted)
-                (listing-kept (length (q .rights)) (λ s. isCandidate (suc d - 1) longer (rightAt q s)));
+            few =
+                listing-few (length (q .rights)) (λ s. isCandidate (suc d - 1) longer (rightAt q s)) from to w
+                (omega (arith, after .below, slot-bound (child .index .ground) (lastOf path) (after .last)))
+                child-listing;
+            listing = λ asked. child-listing;
             sorted = λ deeper. child-sorted;
           };
           within = child .within;

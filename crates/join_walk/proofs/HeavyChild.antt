@@ -132,9 +132,11 @@ module _ {lay : Layout} {st : Settings} {q : Query} {path w w′ : List ℕ} {sl
             last = c .last;
             rise = c .rise;
             below = omega (arith, c .below, slot-framed (c .index) framed low (lastOf path) (omega (arith, c .last)));
+            few = c .few;
             listing =
+                λ asked.
                 subst (λ (l : List ℕ). Listing (length (q .rights)) (λ s. isCandidate (d - 1) path (rightAt q s)) l) (sym same)
-                (c .listing);
+                (c .listing asked);
             sorted = λ deeper. same ∙ c .sorted deeper;
           };
           within = node .at .within;

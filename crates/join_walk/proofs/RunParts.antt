@@ -19,6 +19,7 @@ use Rattle.join_index.specs.declared.Layout.{Layout}
 use Rattle.join_check.specs.Asking.{RunThere}
 use Rattle.join_check.specs.Runs.{leftIn, RunEnd}
 use Rattle.join_check.proofs.Orders.{run-none}
+use Rattle.join_check.proofs.RunEnds.{reaching-start, reaching-end}
 use Rattle.join_nodes.proofs.Groups.{FirstGroup}
 use Rattle.join_nodes.proofs.RunLaws.{Cut, run-split}
 use Rattle.join_nodes.proofs.GroupSteps.{group-first, group-cut}
@@ -136,6 +137,17 @@ module _ {lay : Layout} {w : List ℕ} {d lo hi : ℕ} where
                 ∙ sym (groups-parted (keyAt q d) x (at .key) (suc own - x) rest (at .low) (omega (arith, at .low, first .low)));
             back = parts .back ∙ ap (λ (m : ℕ). groupsFrom (keyAt q d) (suc own) m rest) same;
           }
+
+  -- an only left set
+  pub chosen-only : lo < hi → hi - lo ≡ 1 → RunChosen lay w d lo hi (record { lo = lo; hi = hi })
+  chosen-only some one =
+      let next : lo + 1 ≡ hi = omega (arith, some, one) in
+      record {
+        begins = begins-start (omega (arith, some));
+        rise = omega (arith, some);
+        within = omega arith;
+        end = λ more. subst (λ (j : ℕ). RunEnd lay w d lo hi j) next (reaching-end (reaching-start some) (omega (arith, next)));
+      }
 
   -- no run at all
   pub chosen-none : lo ≤ hi → RunChosen lay w d lo hi (record { lo = hi; hi = hi })

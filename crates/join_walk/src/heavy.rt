@@ -8,8 +8,8 @@ ghost use lib.Dec.{ltb};
 ghost use Rattle.join_check.specs.Asking.{Some, RunThere};
 ghost use Rattle.join_walk.specs.Heaviest.{RunChosen};
 
-// At a depth below this no child is preferred. Visits lie above each other at most so often there, whatever the limit, and the
-// nodes with many children, whose runs would be looked for twice, stand there.
+// At a depth below this no child is preferred to another. Visits lie above each other at most so often there, whatever the limit,
+// and the nodes with many children, whose runs would be looked for twice, stand there.
 const SHALLOW: usize = 16;
 
 // Places lo up to hi of the order.
@@ -29,11 +29,15 @@ fn longer(best: Span, other: Span) -> Span
     best
 }
 
-// The longest of the runs with the same key at depth d, among the left sets at the places lo up to hi; none at a shallow depth.
+// The longest of the runs with the same key at depth d, among the left sets at the places lo up to hi; none at a shallow depth, but
+// for an only left set, which most nodes have and which costs no search.
 pub fn heaviest_run(work: &[u32], lay: Layout, d: usize, lo: usize, hi: usize) -> Span
     requires { ⌜ Some (λ q. RunThere lay q (now work) lo hi) ⌝ }
     ensures { λ r. ⌜ RunChosen lay (now (work .entry)) d lo hi r ⌝ }
 {
+    if hi - lo == 1 {
+        return Span { lo: lo, hi: hi };
+    }
     let mut best = Span { lo: hi, hi: hi };
     if d < SHALLOW {
         return best;

@@ -28,13 +28,13 @@ input c =
 -- the index that was built, and what the walk over it found
 index : (c : tie.After-build)
     → let a = begun c .args in
-    Index (c .build .result) (queryBy (input (begun c)) (a .limit) (a .ranks .now) (a .rule)) (c .build .last .1 .1 .1 .1 .1 .1 .1 .0)
+    Index (c .build .result) (queryBy (input (begun c)) (a .limit) (a .ranks .now) (a .rule)) (c .build .last .1 .1 .1 .1 .1 .1 .1 .1 .0)
 index c = walk-index (begun c .pre) (begun c .args .rule) (c .build .ensures .0) (c .build .ensures .1)
 
 done : (c : tie.After-walk)
     → let a = start c .args in
     WalkDone (built c .build .result) (queryBy (input (start c)) (a .limit) (a .ranks .now) (a .rule)) (a .budget)
-    (built c .build .last .1 .1 .1 .1 .1 .1 .1 .0) (c .walk .last .0) (c .walk .result)
+    (built c .build .last .1 .1 .1 .1 .1 .1 .1 .1 .0) (c .walk .last .0) (c .walk .result)
 done c =
     walk-made (start c .pre) (start c .args .rule) (built c .build .ensures .0) (built c .build .ensures .1) (c .walk .ensures .0)
 

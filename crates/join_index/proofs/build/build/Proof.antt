@@ -99,8 +99,7 @@ returns c =
     let left = before-least least in
     let right = before-left left in
     let out = before-right right in (
-      λ rule.
-          ground-items (start out .args .limit) rule (start out .pre)
+      ground-items (start out .args .limit) (start out .args .rule) (start out .pre)
           (ground
           record {
             plan = planned out;
@@ -109,8 +108,7 @@ returns c =
             leastBuilt = least .build-least .ensures;
             orderBuilt = order .build-order .ensures;
             signed = signed .sign-collections .ensures;
-          }
-          rule),
+          }),
       omega (
         arith,
         wide (planned out),

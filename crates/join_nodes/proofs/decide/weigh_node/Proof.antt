@@ -8,8 +8,8 @@ use lib.ListN.{length}
 use Rattle.join_spec.specs.declared.Rule.{Rule}
 use Rattle.join_spec.specs.Node.{goesOn, lastOf}
 use Rattle.join_nodes.proofs.Asked.{some-path, some-query}
-use Rattle.join_nodes.proofs.NodeFacts.{node-path, first-read, last-read, candidates-few, inverted-there, counted-few}
-use Rattle.join_nodes.proofs.NodeFacts.{counted-goes}
+use Rattle.join_nodes.proofs.NodeFacts.{node-path, first-read, last-read, inverted-there, counted-few}
+use Rattle.join_nodes.proofs.NodeFacts.{counted-goes, weighed-asks}
 use Rattle.join_nodes.proofs.CandidateLaws.{inverted-read}
 use Rattle.join_nodes.proofs.decide.weigh_node.Statement.{statement}
 use Rattle.join_nodes.proofs.decide.weigh_node.Tie as tie
@@ -89,7 +89,7 @@ sub-weigh c = search needs
 cast-weigh : tie.Need-cast-weigh
 cast-weigh c =
     let node = c .before .before .before .before .before .before .pre .holds in
-    omega (arith, candidates-few node, node .candidates .index .ground .rightFew)
+    omega (arith, node .candidates .few, node .candidates .index .ground .rightFew)
 
 cast-weigh-2 : tie.Need-cast-weigh-2
 cast-weigh-2 c =
@@ -113,7 +113,7 @@ weigh-requires : tie.Need-weigh-requires
 weigh-requires c κs =
     let node = c .before .before .before .before .before .before .pre .holds in
     let ground = node .candidates .index .ground in
-    (omega (arith, candidates-few node, ground .rightFew), omega (arith, node .few, ground .leftFew))
+    (omega (arith, node .candidates .few, ground .rightFew), omega (arith, node .few, ground .leftFew))
 
 returns : tie.Need-returns
 returns c =
@@ -127,7 +127,7 @@ returns c =
     let rank = last-read node (ranked .rank-on2 .ensures) in
     let held = inverted-read (node .candidates) rank (first .word-at .ensures) (last .word-at2 .ensures) in
     c .weigh .ensures
-    ∙ sym (counted-goes _ _ _ node held (counted .count-seen .ensures) (first-read node (rooted .rank-on .ensures))
+    ∙ sym (counted-goes _ _ _ node held (counted .count-seen .ensures) (weighed-asks q weighed) (first-read node (rooted .rank-on .ensures))
     ∙ ap (λ (rule : Rule). goesOn rule (a .to - a .from) (counted .count-seen .result) (a .hi - a .lo)) weighed)
 
 pub weigh-node-spec : {M : Type 1} → statement M

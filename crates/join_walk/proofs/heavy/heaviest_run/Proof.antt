@@ -4,7 +4,7 @@ use Prim.Native.Nat.{_-_}
 use native.Mathlib.Omega.{arith}
 use lib.Dec.{ltb}
 use Rattle.join_walk.specs.Heaviest.{RunBegins, RunChosen}
-use Rattle.join_walk.proofs.RunParts.{begins-start, begins-step, chosen-none, chosen-step}
+use Rattle.join_walk.proofs.RunParts.{begins-start, begins-step, chosen-only, chosen-none, chosen-step}
 use Rattle.join_walk.proofs.heavy.heaviest_run.Statement.{statement}
 use Rattle.join_walk.proofs.heavy.heaviest_run.Tie as tie
 
@@ -14,16 +14,22 @@ Inv-loop work lay d lo hi best₀ i₀ best i = RunBegins lay work d lo hi i × 
 abbrev μ-loop : tie.MeasureT-loop
 μ-loop work lay d lo hi best₀ i₀ best i = hi - i
 
+sub-if1 : tie.Need-sub-if1 Inv-loop μ-loop
+sub-if1 c = omega (arith, c .before .pre .holds .some)
+
 returns : tie.Need-returns Inv-loop μ-loop
-returns c = let start = c .before .before in chosen-none (omega (arith, start .pre .holds .some))
+returns c = chosen-only (c .before .before .pre .holds .some) (c .if1 .taken)
+
+returns-2 : tie.Need-returns-2 Inv-loop μ-loop
+returns-2 c = chosen-none (omega (arith, c .before .before .before .pre .holds .some))
 
 loop-holds : tie.Need-loop-holds Inv-loop μ-loop
 loop-holds c =
-    let some = c .before .before .pre .holds .some in (begins-start (omega (arith, some)), chosen-none (omega (arith, some)))
+    let some = c .before .before .before .pre .holds .some in (begins-start (omega (arith, some)), chosen-none (omega (arith, some)))
 
 run-end-requires : tie.Need-run-end-requires Inv-loop μ-loop
 run-end-requires c κs =
-    let asked = c .before .before .before .before .pre in
+    let asked = c .before .before .before .before .before .pre in
     record {
       query = asked .query;
       holds = record { index = asked .holds .index; some = c .loop-test .taken; within = asked .holds .within };
@@ -48,8 +54,8 @@ loop-again c =
       chosen-step (ltb (best .hi - best .lo) (end .run-end .result - test .before .loop .i)) (inv .0) (end .run-end .ensures) (inv .1) (c .longer .ensures),
     )
 
-returns-2 : tie.Need-returns-2 Inv-loop μ-loop
-returns-2 c = c .before .loop .inv .1
+returns-3 : tie.Need-returns-3 Inv-loop μ-loop
+returns-3 c = c .before .loop .inv .1
 
 pub heaviest-run-spec : {M : Type 1} → statement M
 heaviest-run-spec =
@@ -57,10 +63,12 @@ heaviest-run-spec =
     (tie.spec
     Inv-loop
     μ-loop
+    sub-if1
     returns
+    returns-2
     loop-holds
     run-end-requires
     longer-requires
     loop-less
     loop-again
-    returns-2)
+    returns-3)

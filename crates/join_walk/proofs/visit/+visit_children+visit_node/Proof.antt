@@ -221,8 +221,12 @@ module _ (t : ℕ) where
 
   check-block-requires : node-lts.Need-check-block-requires (node-callees t) (node-at t) visit-node.Post Inv-down μ-down
   check-block-requires c κs =
-      let some = here (c .before .before .before .before) in
-      (some-query some (λ q path node. stop-there node), stop-small (some .holds))
+      let stop = c .before in
+      let some = here (stop .before .before .before) in (
+        some-query some
+            (λ q path node. stop-there node (goes-not node (stop .before .decide .ensures) (stop .if1 .taken))),
+        stop-small (some .holds),
+      )
 
   node-same-length : node-lts.Need-same-length (node-callees t) (node-at t) visit-node.Post Inv-down μ-down
   node-same-length c = c .before .before .before .before .before .before .loop .inv .0 .size
