@@ -28,7 +28,7 @@ use Rattle.join_check.proofs.Reading.{left-stored, right-stored}
 use Rattle.join_check.proofs.Tallying.{tallied-each}
 
 -- what remains of a left set whose starts were read
-module _ {lay : Layout} {q : Query} {w : List ℕ} {k start next sign : ℕ} (e : ℕ)
+module _ {lay : Layout} {q : Query} {w : List ℕ} {k start next sign : ℕ} (e : ℕ) (upward : Bool)
     (first : Word w (lay .«left_starts» + k) start) (second : Word w (lay .«left_starts» + k + 1) next)
     (signed : sign ≡ double w (lay .«left_signatures» + 2 * k)) (there : LeftThere lay q w k)
   where
@@ -36,7 +36,8 @@ module _ {lay : Layout} {q : Query} {w : List ℕ} {k start next sign : ℕ} (e 
     left-signed = signed ∙ there .index .ground .leftSignature k (there .below)
 
     pub probe-none : lay .«left_ranks» + next - (lay .«left_ranks» + start) ≤ e
-        → ProbeOf q w k e (record { signature = sign; from = lay .«left_ranks» + next; to = lay .«left_ranks» + next })
+        → ProbeOf q w k e
+        (record { signature = sign; from = lay .«left_ranks» + next; to = lay .«left_ranks» + next; upward = upward })
     probe-none few =
         let s = left-stored there in
         record {
@@ -47,7 +48,8 @@ module _ {lay : Layout} {q : Query} {w : List ℕ} {k start next sign : ℕ} (e 
         }
 
     pub probe-some :
-        ProbeOf q w k e (record { signature = sign; from = lay .«left_ranks» + start + e; to = lay .«left_ranks» + next })
+        ProbeOf q w k e
+        (record { signature = sign; from = lay .«left_ranks» + start + e; to = lay .«left_ranks» + next; upward = upward })
     probe-some =
         let s = left-stored there in
         record {

@@ -14,11 +14,16 @@ ghost use Rattle.join_check.specs.Checks.{RowThere, RowChecked};
 ghost use Rattle.join_check.specs.Counters.{checksIn};
 ghost use Rattle.join_check.specs.Probes.{Probed, outcomeOf, probeOutcome, OneChecked};
 
-// What remains of a left set to be checked: its signature, and where its ranks that are not on the merged path lie.
+// From so many ranks on, a left set of which none is on the merged path is compared from its lowest rank on.
+const MANY_RANKS: usize = 16;
+
+// What remains of a left set to be checked: its signature, and where its ranks that are not on the merged path lie. The lowest of them
+// or the highest are compared first.
 pub struct Probe {
     pub signature: u64,
     pub from: usize,
     pub to: usize,
+    pub upward: bool,
 }
 
 // How a check ends: by the signatures, or by the ranks.
@@ -26,6 +31,15 @@ pub enum Checked {
     Dropped,
     FalseDrop,
     Confirmed,
+}
+
+// Whether a left set with so many ranks is compared from the lowest of them on, after its first e. Where a right set is known to
+// hold the first ones, which fewest hold, it mostly holds the next too; the highest then tell it sooner.
+fn is_upward(e: usize, ranks: usize) -> bool {
+    if e == 0 {
+        return MANY_RANKS <= ranks;
+    }
+    false
 }
 
 // What remains of the left set k after its first e ranks; no rank where it has fewer.
@@ -44,12 +58,15 @@ pub fn probe_left(work: &[u32], lay: Layout, k: usize, e: usize) -> Probe
             signature: signature,
             from: to,
             to: to,
+            upward: false,
         };
     }
+    let upward = is_upward(e, to - from);
     Probe {
         signature: signature,
         from: from + e,
         to: to,
+        upward: upward,
     }
 }
 
@@ -71,7 +88,7 @@ pub fn check_probe(work: &[u32], lay: Layout, p: Probe, s: usize) -> Checked
     }
     let from = ranks + word_at(work, starts + s);
     let to = ranks + word_at(work, starts + s + 1);
-    if subset_words(work, p.from, p.to, from, to) {
+    if subset_words(work, p.upward, p.from, p.to, from, to) {
         return Checked::Confirmed;
     }
     Checked::FalseDrop

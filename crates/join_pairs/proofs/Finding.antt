@@ -2,7 +2,7 @@
 use Prim.Native.Nat.{ℕ, _+_, _-_, _≤_, _<_}
 use mathlib.Core.Path.{_≡_, sym, ap, _∙_}
 use mathlib.Core.List.{List}
-use mathlib.Core.Bool.{Bool, true}
+use mathlib.Core.Bool.{Bool, true, false}
 use native.Mathlib.Omega.{arith}
 use lib.Dec.{ltb}
 use lib.ListN.{length, take}
@@ -114,7 +114,7 @@ module _ {lay : Layout} {w : List ℕ} {k : ℕ} {p : Probe} (found : Probed lay
       rest-same = frame-slice (c .rest) (p .to) (lay .slots) w v (found .within) (listed .changed .low)
 
       pub shortlist-room :
-          RowRoom lay q v (record { signature = p .signature; from = c .rest; to = p .to }) k (c .from) (c .to) at was
+          RowRoom lay q v (record { signature = p .signature; from = c .rest; to = p .to; upward = false }) k (c .from) (c .to) at was
       shortlist-room =
           record {
             left = record { index = index-frame (listed .changed .low) (listed .changed .size) (there .left .index); below = there .left .below };

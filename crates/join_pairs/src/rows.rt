@@ -114,6 +114,7 @@ fn search_left(
         signature: p.signature,
         from: c.rest,
         to: p.to,
+        upward: false,
     };
     write_row(work, lay, rest, k, c.from, c.to, pairs, at)
 }

@@ -1,4 +1,4 @@
--- Containment of two rising parts, the last word first: the invariants of `skip_words` and `skip_higher`, with their steps and
+-- Containment of two rising parts, the last word first: the invariants of `search_down` and `skip_higher`, with their steps and
 -- ends.
 use Prim.Native.Nat.{ℕ, _-_, _≤_, _<_}
 use mathlib.Core.Path.{_≡_, sym, ap₂, _∙_}

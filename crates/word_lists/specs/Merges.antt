@@ -21,6 +21,13 @@ pub record Skipped (a b c e : ℕ) (w : List ℕ) (r : ℕ) : Type 0 where
   pub rise : rising (slice c r w) ≡ true
   pub same : subset (slice a b w) (slice c r w) ≡ subset (slice a b w) (slice c e w)
 
+-- of the part from c up to e, what lies before r does not bear on whether it has the words of the part from a up to b, and the word
+-- at r, if there is one, is not below the first of those
+pub record Passed (a b c e : ℕ) (w : List ℕ) (r : ℕ) : Type 0 where
+  pub stop : r < e → getD w a 0 ≤ getD w r 0
+  pub rise : rising (slice r e w) ≡ true
+  pub same : subset (slice a b w) (slice r e w) ≡ subset (slice a b w) (slice c e w)
+
 -- parts that end at b and e lie below out, and from out on there is room for the second, which begins at c
 pub record Apart (b c e out : ℕ) (w : List ℕ) : Type 0 where
   pub first : b ≤ out

@@ -1,12 +1,9 @@
-// Whether the second of two rising parts of a list of words has every word of the first. There are two ways, and how long the first
-// part is decides which is taken.
+// Whether the second of two rising parts of a list of words has every word of the first. Each word of the first part is looked for in
+// the second, from either end, and the caller says from which: the one that ends sooner where a word is missing.
 ghost use mathlib.Core.Path.{_≡_};
 ghost use Prim.Native.Nat.{_<_};
 ghost use Rattle.lists.specs.Lists.{subset, slice};
-ghost use Rattle.word_lists.specs.Merges.{Rising, Skipped};
-
-// From so many words in the first part on, a merge of both parts takes less time than to look for each word.
-const MANY_WORDS: usize = 16;
+ghost use Rattle.word_lists.specs.Merges.{Rising, Skipped, Passed};
 
 // Goes back in the second part to the last word that is not above the last word of the first part, and returns the place after it.
 fn skip_higher(work: &[u32], a: usize, b: usize, c: usize, e: usize) -> usize
@@ -26,9 +23,8 @@ fn skip_higher(work: &[u32], a: usize, b: usize, c: usize, e: usize) -> usize
     j
 }
 
-// Whether every word of the first part is among those of the second: each is looked for in turn, the last first, since the words
-// that are looked for are mostly high ones. For a short first part.
-fn skip_words(work: &[u32], a: usize, b: usize, c: usize, e: usize) -> bool
+// Whether every word of the first part is among those of the second, the last looked for first.
+fn search_down(work: &[u32], a: usize, b: usize, c: usize, e: usize) -> bool
     requires { ⌜ Rising a b (now work) ⌝ }
     requires { ⌜ Rising c e (now work) ⌝ }
     ensures { λ r. ⌜ r ≡ subset (slice a b (now (work .entry))) (slice c e (now (work .entry))) ⌝ }
@@ -49,8 +45,26 @@ fn skip_words(work: &[u32], a: usize, b: usize, c: usize, e: usize) -> bool
     true
 }
 
-// The same by a merge, with fewer branches that depend on the words. For a long first part.
-fn merge_words(work: &[u32], a: usize, b: usize, c: usize, e: usize) -> bool
+// Goes on in the second part to the first word that is not below the first word of the first part, and returns its place.
+fn skip_lower(work: &[u32], a: usize, b: usize, c: usize, e: usize) -> usize
+    requires { ⌜ a < b ⌝ }
+    requires { ⌜ Rising a b (now work) ⌝ }
+    requires { ⌜ Rising c e (now work) ⌝ }
+    ensures { λ r. ⌜ Passed a b c e (now (work .entry)) r ⌝ }
+{
+    let x = work[a];
+    let mut j = c;
+    while j < e {
+        if x <= work[j] {
+            return j;
+        }
+        j += 1;
+    }
+    j
+}
+
+// The same, the first looked for first.
+fn search_up(work: &[u32], a: usize, b: usize, c: usize, e: usize) -> bool
     requires { ⌜ Rising a b (now work) ⌝ }
     requires { ⌜ Rising c e (now work) ⌝ }
     ensures { λ r. ⌜ r ≡ subset (slice a b (now (work .entry))) (slice c e (now (work .entry))) ⌝ }
@@ -58,33 +72,27 @@ fn merge_words(work: &[u32], a: usize, b: usize, c: usize, e: usize) -> bool
     let mut i = a;
     let mut j = c;
     while i < b {
+        j = skip_lower(work, i, b, j, e);
         if e <= j {
             return false;
         }
-        let x = work[i];
-        let y = work[j];
-        if x < y {
+        if work[i] != work[j] {
             return false;
         }
-        if x == y {
-            i += 1;
-        }
+        i += 1;
         j += 1;
     }
     true
 }
 
-// The same by whichever of the two takes less time.
-pub fn subset_words(work: &[u32], a: usize, b: usize, c: usize, e: usize) -> bool
+// The same, from the end that is asked for.
+pub fn subset_words(work: &[u32], upward: bool, a: usize, b: usize, c: usize, e: usize) -> bool
     requires { ⌜ Rising a b (now work) ⌝ }
     requires { ⌜ Rising c e (now work) ⌝ }
     ensures { λ r. ⌜ r ≡ subset (slice a b (now (work .entry))) (slice c e (now (work .entry))) ⌝ }
 {
-    if b <= a {
-        return true;
+    if upward {
+        return search_up(work, a, b, c, e);
     }
-    if b - a < MANY_WORDS {
-        return skip_words(work, a, b, c, e);
-    }
-    merge_words(work, a, b, c, e)
+    search_down(work, a, b, c, e)
 }

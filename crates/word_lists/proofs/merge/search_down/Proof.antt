@@ -1,10 +1,10 @@
--- `word_lists::merge::skip_words` meets its contract. The invariant is `Trimming`; the measure is what remains of the first part.
+-- `word_lists::merge::search_down` meets its contract. The invariant is `Trimming`; the measure is what remains of the first part.
 use mathlib.Core.Path.{refl}
 use Prim.Native.Nat.{_-_}
 use native.Mathlib.Omega.{arith}
 use Rattle.word_lists.proofs.Trimming.{Trimming, trimming-stop, trimming-other, trimming-same, trimming-end}
-use Rattle.word_lists.proofs.merge.skip_words.Statement.{statement}
-use Rattle.word_lists.proofs.merge.skip_words.Tie as tie
+use Rattle.word_lists.proofs.merge.search_down.Statement.{statement}
+use Rattle.word_lists.proofs.merge.search_down.Tie as tie
 
 abbrev Inv-loop : tie.InvT-loop
 Inv-loop work a b c e i₀ j₀ i j = Trimming work a b c e i j
@@ -82,8 +82,8 @@ loop-again c =
 returns-3 : tie.Need-returns-3 Inv-loop μ-loop
 returns-3 c = trimming-end (c .before .loop .inv) (c .loop-test .left)
 
-pub skip-words-spec : {M : Type 1} → statement M
-skip-words-spec =
+pub search-down-spec : {M : Type 1} → statement M
+search-down-spec =
     tie.close
     (tie.spec
     Inv-loop
