@@ -114,6 +114,17 @@ share-swap xs ys rx ry =
     (λ s.
     memb-keep (λ x. memb x xs) ys s ∙ and-comm (memb s ys) (memb s xs) ∙ sym (memb-keep (λ y. memb y ys) xs s))
 
+-- the words of the second part that are among those of the first
+pub found-shared : {a b c e out : ℕ} {w w′ : List ℕ} {r : ℕ} → Rising a b w → Rising c e w
+    → Kept (λ s. memb s (slice a b w)) c e out w w′ r → Intersected a b c e out w w′ r
+found-shared {a} {b} {c} {e} {w = w} first second k =
+    record {
+      changed = k .changed;
+      low = k .low;
+      high = k .high;
+      is = k .is ∙ share-swap (slice a b w) (slice c e w) (first .rise) (second .rise);
+    }
+
 -- the words of the second part that are kept by the flags of the first
 pub kept-shared : {a b c e out : ℕ} {w w′ flags : List ℕ} {r : ℕ} → Rising a b w → Rising c e w → Below (length flags) c e w
     → Flagged (λ s. memb s (slice a b w)) flags → Kept (isFlagged flags) c e out w w′ r → Intersected a b c e out w w′ r

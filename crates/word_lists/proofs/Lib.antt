@@ -2,5 +2,6 @@
 pub mod Lasts
 pub mod Trimming
 pub mod Advancing
+pub mod Halving
 pub mod Flagging
 pub mod Keeping

@@ -28,6 +28,13 @@ pub record Passed (a b c e : ℕ) (w : List ℕ) (r : ℕ) : Type 0 where
   pub rise : rising (slice r e w) ≡ true
   pub same : subset (slice a b w) (slice r e w) ≡ subset (slice a b w) (slice c e w)
 
+-- the words from a up to r are below x, and those from r up to b are not
+pub record Parted (a b x : ℕ) (w : List ℕ) (r : ℕ) : Type 0 where
+  pub low : a ≤ r
+  pub high : r ≤ b
+  pub under : (i : ℕ) → a ≤ i → i < r → getD w i 0 < x
+  pub over : (i : ℕ) → r ≤ i → i < b → x ≤ getD w i 0
+
 -- parts that end at b and e lie below out, and from out on there is room for the second, which begins at c
 pub record Apart (b c e out : ℕ) (w : List ℕ) : Type 0 where
   pub first : b ≤ out
