@@ -1,6 +1,7 @@
 /* A kiosk in C: reads a tag file of any size, orders its tags, joins kits and stacks, and prints each kit that a stack holds whole.
+ * A wide kiosk has two pads: with the file of the second, stacks of one number are pooled.
  * Ends with 0 for a list, 1 for a refusal, 2 where reading, writing or memory failed.
- * Usage: kiosk FILE */
+ * Usage: kiosk FILE [SECOND] */
 #include <errno.h>
 #include <inttypes.h>
 #include <stdio.h>
@@ -57,23 +58,43 @@ static void need_accepted(const uint64_t *answer)
     if (!answer[0])
         return;
     fprintf(stderr, "kiosk: refused with %" PRIu64 ": %s", answer[0], kitfinder_refusal_name(answer[0]));
-    if (answer[0] <= KITFINDER_TOO_MANY)
+    if (answer[0] <= KITFINDER_TOO_MANY || answer[0] == KITFINDER_OVERLONG)
         fprintf(stderr, ", at byte %" PRIu64, answer[1]);
     fprintf(stderr, "\n");
     exit(1);
 }
 
-int main(int argc, char **argv)
+/* Loads the file of one pad. */
+static void load(const char *name, uint64_t loaded[KITFINDER_LOAD_ANSWER])
 {
-    if (argc != 2)
-        fail("usage", "kiosk FILE");
     size_t length;
-    uint8_t *file = read_file(argv[1], &length);
-
-    uint64_t loaded[KITFINDER_LOAD_ANSWER];
+    uint8_t *file = read_file(name, &length);
     kitfinder_load(file, length, tags, sizeof tags, kit_numbers, SETS, kit_ends, SETS, kit_items, ENTRIES, stack_numbers, SETS,
                    stack_ends, SETS, stack_items, ENTRIES, loaded);
     free(file);
+}
+
+/* Loads the files of two pads: the kits of the first, the stacks of both. */
+static void load_pooled(const char *first_name, const char *second_name, uint64_t loaded[KITFINDER_LOAD_POOLED_ANSWER])
+{
+    size_t first_length, second_length;
+    uint8_t *first = read_file(first_name, &first_length);
+    uint8_t *second = read_file(second_name, &second_length);
+    kitfinder_load_pooled(first, first_length, second, second_length, tags, sizeof tags, kit_numbers, SETS, kit_ends, SETS, kit_items,
+                          ENTRIES, stack_numbers, SETS, stack_ends, SETS, stack_items, ENTRIES, loaded);
+    free(first);
+    free(second);
+}
+
+int main(int argc, char **argv)
+{
+    if (argc != 2 && argc != 3)
+        fail("usage", "kiosk FILE [SECOND]");
+    uint64_t loaded[KITFINDER_LOAD_POOLED_ANSWER]; /* as many words as of kitfinder_load */
+    if (argc == 2)
+        load(argv[1], loaded);
+    else
+        load_pooled(argv[1], argv[2], loaded);
     need_accepted(loaded);
     size_t kits = loaded[3], stacks = loaded[4], kit_entries = loaded[5], stack_entries = loaded[6];
     uint32_t t = (uint32_t)loaded[7];

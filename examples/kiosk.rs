@@ -1,7 +1,9 @@
-//! A kiosk in Rust: reads a tag file, and prints each kit that a stack holds whole. Ends with 0 for a list, 1 for a refusal, 2 where
-//! reading or writing failed. Usage: kiosk FILE
+//! A kiosk in Rust: reads a tag file, and prints each kit that a stack holds whole. A wide kiosk has two pads: with the file of the
+//! second, stacks of one number are pooled. Ends with 0 for a list, 1 for a refusal, 2 where reading or writing failed.
+//! Usage: kiosk FILE [SECOND]
 
 use kitfinder::TagFile;
+use std::ffi::OsStr;
 use std::io::{self, Write};
 use std::process::ExitCode;
 
@@ -18,16 +20,22 @@ fn print(pairs: &[(u16, u16)]) -> io::Result<()> {
     output.flush()
 }
 
+fn read(path: &OsStr) -> Result<Vec<u8>, String> {
+    std::fs::read(path).map_err(|error| format!("{}: {error}", path.to_string_lossy()))
+}
+
 fn main() -> ExitCode {
-    let mut arguments = std::env::args_os().skip(1);
-    let (Some(path), None) = (arguments.next(), arguments.next()) else {
-        return fail("usage: kiosk FILE");
+    let paths: Vec<_> = std::env::args_os().skip(1).collect();
+    let files: Vec<Vec<u8>> = match paths.iter().map(|path| read(path)).collect() {
+        Ok(files) => files,
+        Err(error) => return fail(&error),
     };
-    let file = match std::fs::read(&path) {
-        Ok(file) => file,
-        Err(error) => return fail(&format!("{}: {error}", path.to_string_lossy())),
+    let loaded = match &files[..] {
+        [file] => TagFile::load(file),
+        [first, second] => TagFile::load_pooled(first, second),
+        _ => return fail("usage: kiosk FILE [SECOND]"),
     };
-    let pairs = match TagFile::load(&file).and_then(|loaded| loaded.whole_kits()) {
+    let pairs = match loaded.and_then(|loaded| loaded.whole_kits()) {
         Ok(pairs) => pairs,
         Err(refusal) => {
             eprintln!("kiosk: {refusal}");

@@ -1,4 +1,5 @@
-/* The kit finder: a set containment join of kits and stacks, the order of tags, and the tag file's loader and writer.
+/* The kit finder: a set containment join of kits and stacks, the order of tags, and the tag file's loader and writer, for one pad or
+ * two.
  *
  * Link libkitfinder.a, which `rt staticlib kitfinder` writes to target/staticlib (x86-64 Linux); scripts/install puts it, this header
  * and a pkg-config file below a prefix. Every function is proved to meet its contract (crates/kitfinder/src/lib.rt).
@@ -31,10 +32,11 @@
  *   7   the work list is too short                              0               0          as they were
  *   8   more checks than the allowance                          0               0          pairs zeros, work free
  *   9   the pair list is too short                              0               0          pairs zeros, work free
+ *   10  the pooled stack of a record has over 255 tags          its byte place  0          all zeros
  *
  * A side is 0 for kits, 1 for stacks. Where numbers and sets differ in count, the place is the smaller count. Of several causes the
- * first decides: in the loader by record, then by number, 4 last; elsewhere in the order 6, 5 of kits, 5 of stacks, 7, 8, 9, and 4
- * last. A function refuses only with the numbers named at it. Where it accepts, answer[1] and answer[2] are 0.
+ * first decides: in the loaders by record, then by number, 4 after all records and 10 last; elsewhere in the order 6, 5 of kits, 5 of
+ * stacks, 7, 8, 9, and 4 last. A function refuses only with the numbers named at it. Where it accepts, answer[1] and answer[2] are 0.
  */
 #ifndef KITFINDER_H
 #define KITFINDER_H
@@ -63,6 +65,7 @@ extern "C" {
 #define KITFINDER_JOIN_ANSWER 9
 #define KITFINDER_ORDER_ANSWER 3
 #define KITFINDER_LOAD_ANSWER 8
+#define KITFINDER_LOAD_POOLED_ANSWER 8
 #define KITFINDER_WRITE_ANSWER 4
 #define KITFINDER_READ_RECORD_ANSWER 9
 
@@ -72,6 +75,7 @@ extern "C" {
 #define KITFINDER_JOIN_STACK 131072
 #define KITFINDER_ORDER_STACK 32768
 #define KITFINDER_LOAD_STACK 131072
+#define KITFINDER_LOAD_POOLED_STACK 131072
 #define KITFINDER_WRITE_STACK 8192
 #define KITFINDER_READ_RECORD_STACK 1024
 
@@ -92,7 +96,8 @@ enum {
     KITFINDER_BAD_SETTINGS = 6,
     KITFINDER_SHORT_WORK = 7,
     KITFINDER_SPENT = 8,
-    KITFINDER_SHORT_PAIRS = 9
+    KITFINDER_SHORT_PAIRS = 9,
+    KITFINDER_OVERLONG = 10
 };
 
 /* Lists every pair of a kit and a stack that contains it: two places a pair, kit then stack, rising by kit, then stack.
@@ -138,6 +143,26 @@ void kitfinder_load(const uint8_t *file, size_t file_len,
                     uint32_t *right_ends, size_t right_ends_len,
                     uint16_t *right_items, size_t right_items_len,
                     uint64_t answer[KITFINDER_LOAD_ANSWER]);
+
+/* Loads the tag files of two pads into the lists of kitfinder_load, over one tag table. Stacks with the same number in both files belong
+ * to one borrower and are pooled: the set is the union of their tags. The kits are the first file's; the stacks are the first file's in
+ * its order, each with what the second has under its number, and then the second's others in its order. The second file's kit records are
+ * tested for 1 only, and nothing of them is kept. An empty second file gives what kitfinder_load gives of the first.
+ * Refuses with 1 to 4 and 10. The first file is tested as by kitfinder_load, and its faults come first. In the second a stack's number
+ * may be used once (2), and the limits of 3 are for the pooled stacks, and for the tags of these and of the kits. Byte places of the
+ * second file count on from first_len. 4 is judged over what both give, and 10 after it, with the first record of the second file whose
+ * stack has over 255 tags once it is pooled.
+ * answer[3] kits, [4] pooled stacks, [5] kit entries, [6] pooled stack entries, [7] tags. */
+void kitfinder_load_pooled(const uint8_t *first, size_t first_len,
+                           const uint8_t *second, size_t second_len,
+                           uint8_t *tags, size_t tags_len,
+                           uint16_t *left_numbers, size_t left_numbers_len,
+                           uint32_t *left_ends, size_t left_ends_len,
+                           uint16_t *left_items, size_t left_items_len,
+                           uint16_t *right_numbers, size_t right_numbers_len,
+                           uint32_t *right_ends, size_t right_ends_len,
+                           uint16_t *right_items, size_t right_items_len,
+                           uint64_t answer[KITFINDER_LOAD_POOLED_ANSWER]);
 
 /* Writes a tag file: kits, then stacks, by place, tags by item. tags_len must be 12 times t. The file needs kitfinder_file_bytes,
  * and stays as it was beyond its length. Refuses with 4 to 6.
@@ -210,6 +235,7 @@ static inline const char *kitfinder_refusal_name(uint64_t number)
     case KITFINDER_SHORT_WORK: return "the work list is too short";
     case KITFINDER_SPENT: return "more checks than the allowance";
     case KITFINDER_SHORT_PAIRS: return "the pair list is too short";
+    case KITFINDER_OVERLONG: return "the pooled stack of a record has over 255 tags";
     default: return "no refusal of this library";
     }
 }

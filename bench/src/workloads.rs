@@ -12,7 +12,7 @@ pub struct Sets {
 }
 
 impl Sets {
-    fn of(sets: &[Vec<u16>]) -> Sets {
+    pub fn of(sets: &[Vec<u16>]) -> Sets {
         let mut all = Sets::default();
         for set in sets {
             all.items.extend(set);
@@ -259,9 +259,9 @@ pub fn growth() -> Vec<Workload> {
     [256, 512, 1024, 2048].iter().map(|&n| even(&n.to_string(), n)).collect()
 }
 
-/// A tag file of about so many bytes: four records in ten are left sets. A record has a few distinct tags, and in a large file each is read many
-/// times over.
-pub fn tag_file(bytes: usize) -> Vec<u8> {
+/// The tag files of two pads over the same tags, each of about so many bytes: four records in ten are left sets. A record has a few distinct
+/// tags, and in a large file each is read many times over. Half of the second file's right sets are of numbers that the first has.
+pub fn pad_files(bytes: usize) -> [Vec<u8>; 2] {
     let random = &mut Random(11);
     let tags = (bytes / 48).clamp(8, 4000);
     let serials: Vec<[u8; 12]> = (0..tags)
@@ -271,21 +271,24 @@ pub fn tag_file(bytes: usize) -> Vec<u8> {
         })
         .collect();
     let zipf = Zipf::new(tags, 0.5, random);
-    let mut file = Vec::new();
     let mut numbers = [0u16; 2];
-    while file.len() < bytes {
-        let side = usize::from(random.below(10) >= 4);
-        let distinct = if side == 0 { random.within(2, 12) } else { random.within(4, 20) }.min(tags);
-        let reads = if bytes > 1_000_000 { random.within(60, 120) } else { distinct + random.below(4) };
-        let set = zipf.set(&[], distinct, random);
-        file.extend([b"KT", b"SK"][side]);
-        file.extend(numbers[side].to_be_bytes());
-        numbers[side] += 1;
-        file.push(reads as u8);
-        for read in 0..reads {
-            let item = if read < distinct { set[read] } else { set[random.below(distinct)] };
-            file.extend(serials[item as usize]);
+    [0, 1].map(|_| {
+        numbers[1] /= 2;
+        let mut file = Vec::new();
+        while file.len() < bytes {
+            let side = usize::from(random.below(10) >= 4);
+            let distinct = if side == 0 { random.within(2, 12) } else { random.within(4, 20) }.min(tags);
+            let reads = if bytes > 1_000_000 { random.within(60, 120) } else { distinct + random.below(4) };
+            let set = zipf.set(&[], distinct, random);
+            file.extend([b"KT", b"SK"][side]);
+            file.extend(numbers[side].to_be_bytes());
+            numbers[side] += 1;
+            file.push(reads as u8);
+            for read in 0..reads {
+                let item = if read < distinct { set[read] } else { set[random.below(distinct)] };
+                file.extend(serials[item as usize]);
+            }
         }
-    }
-    file
+        file
+    })
 }

@@ -67,6 +67,29 @@ extern "C" {
         answer: *mut [u64; 8],
     );
 
+    /// Loads the tag files of two pads, pooled.
+    pub fn kitfinder_load_pooled(
+        first: *const u8,
+        first_len: usize,
+        second: *const u8,
+        second_len: usize,
+        tags: *mut u8,
+        tags_len: usize,
+        left_numbers: *mut u16,
+        left_numbers_len: usize,
+        left_ends: *mut u32,
+        left_ends_len: usize,
+        left_items: *mut u16,
+        left_items_len: usize,
+        right_numbers: *mut u16,
+        right_numbers_len: usize,
+        right_ends: *mut u32,
+        right_ends_len: usize,
+        right_items: *mut u16,
+        right_items_len: usize,
+        answer: *mut [u64; 8],
+    );
+
     /// Writes a tag file.
     pub fn kitfinder_write(
         t: u32,

@@ -1,8 +1,8 @@
 //! Safe Rust functions over the proved static library of the kit finder: a set containment join of kits and stacks, the order of
-//! tags, and the tag file's loader and writer.
+//! tags, and the tag file's loader and writer, for one pad or two.
 //!
-//! Two levels. [`join`], [`order`], [`load`], [`write()`] and [`read_record`] each call one function of the library on lists that the
-//! caller lends, and allocate nothing. [`TagFile`], [`Sets`] and [`Query::run`] own their lists.
+//! Two levels. [`join`], [`order`], [`load`], [`load_pooled`], [`write()`] and [`read_record`] each call one function of the library on
+//! lists that the caller lends, and allocate nothing. [`TagFile`], [`Sets`] and [`Query::run`] own their lists.
 //!
 //! ```
 //! # fn main() -> Result<(), kitfinder::Refusal> {
@@ -52,6 +52,8 @@ pub const JOIN_STACK: usize = 131072;
 pub const ORDER_STACK: usize = 32768;
 /// The bytes of stack that loading may take.
 pub const LOAD_STACK: usize = 131072;
+/// The bytes of stack that a pooled load may take.
+pub const LOAD_POOLED_STACK: usize = 131072;
 /// The bytes of stack that writing may take.
 pub const WRITE_STACK: usize = 8192;
 /// The bytes of stack that reading a record may take.
@@ -137,7 +139,7 @@ pub struct Counts {
     pub false_drops: u32,
 }
 
-/// The seven lists that the loader fills.
+/// The seven lists that a loader fills.
 #[derive(Debug)]
 pub struct Lists<'a> {
     /// The tag table: [`TAG_BYTES`] for each item.
@@ -156,13 +158,13 @@ pub struct Lists<'a> {
     pub right_items: &'a mut [u16],
 }
 
-/// How much the loader filled.
+/// How much a loader filled.
 #[derive(Clone, Copy, Debug, PartialEq, Eq)]
 #[non_exhaustive]
 pub struct Loaded {
     /// Left sets: kit records.
     pub left_sets: usize,
-    /// Right sets: stack records.
+    /// Right sets: stack records, those of one number pooled.
     pub right_sets: usize,
     /// Items of the left sets.
     pub left_entries: usize,
@@ -341,7 +343,12 @@ pub fn load(file: &[u8], lists: Lists) -> Result<Loaded, Refusal> {
             &mut answer,
         );
     }
-    refusal::accepted(&answer)?;
+    loaded(&answer)
+}
+
+/// What a loader's answer says.
+fn loaded(answer: &[u64; 8]) -> Result<Loaded, Refusal> {
+    refusal::accepted(answer)?;
     Ok(Loaded {
         left_sets: answer[3] as usize,
         right_sets: answer[4] as usize,
@@ -349,6 +356,62 @@ pub fn load(file: &[u8], lists: Lists) -> Result<Loaded, Refusal> {
         right_entries: answer[6] as usize,
         tags: answer[7] as usize,
     })
+}
+
+/// Loads the tag files of two pads into the seven lists, over one tag table. Stacks with the same number in both files are pooled: the
+/// set is the union of their tags. The kits are the first file's; the stacks are the first file's in its order, each with what the
+/// second has under its number, and then the second's others in its order. Of the second file's kit records nothing is kept.
+/// [`TagFile::load_pooled`] brings its own lists.
+///
+/// The first file is refused as by [`load`]. In the second, a kit record can only be [`Refusal::Malformed`]; the number of a stack may be
+/// used once, and [`Refusal::TooMany`] counts the pooled stacks, and the tags of these and of the kits. Byte places of the second file
+/// count on from the first file's length. [`Refusal::ShortOutput`] comes after all of these, and [`Refusal::Overlong`] last, with the
+/// first record of the second file whose stack has over [`MAX_SET_LENGTH`] tags once it is pooled.
+///
+/// ```
+/// let (first, second) = (b"KT\x00\x07\x00SK\x00\x09\x00", b"SK\x00\x08\x00SK\x00\x09\x00");
+/// let (mut kits, mut kit_ends) = ([0; 1], [0; 1]);
+/// let (mut stacks, mut stack_ends) = ([0; 2], [0; 2]);
+/// let lists = kitfinder::Lists {
+///     tags: &mut [],
+///     left_numbers: &mut kits,
+///     left_ends: &mut kit_ends,
+///     left_items: &mut [],
+///     right_numbers: &mut stacks,
+///     right_ends: &mut stack_ends,
+///     right_items: &mut [],
+/// };
+/// assert_eq!(kitfinder::load_pooled(first, second, lists)?.right_sets, 2);
+/// assert_eq!((kits, stacks), ([7], [9, 8]));
+/// # Ok::<(), kitfinder::Refusal>(())
+/// ```
+pub fn load_pooled(first: &[u8], second: &[u8], lists: Lists) -> Result<Loaded, Refusal> {
+    let mut answer = [0u64; 8];
+    // SAFETY: each pointer comes from a slice of the length that follows it, and no two of the lent lists overlap.
+    unsafe {
+        ffi::kitfinder_load_pooled(
+            first.as_ptr(),
+            first.len(),
+            second.as_ptr(),
+            second.len(),
+            lists.tags.as_mut_ptr(),
+            lists.tags.len(),
+            lists.left_numbers.as_mut_ptr(),
+            lists.left_numbers.len(),
+            lists.left_ends.as_mut_ptr(),
+            lists.left_ends.len(),
+            lists.left_items.as_mut_ptr(),
+            lists.left_items.len(),
+            lists.right_numbers.as_mut_ptr(),
+            lists.right_numbers.len(),
+            lists.right_ends.as_mut_ptr(),
+            lists.right_ends.len(),
+            lists.right_items.as_mut_ptr(),
+            lists.right_items.len(),
+            &mut answer,
+        );
+    }
+    loaded(&answer)
 }
 
 /// Writes a tag file of both collections, kits first, and answers its length. It needs [`file_bytes`], and a tag table of `t` tags.

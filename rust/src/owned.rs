@@ -1,8 +1,8 @@
 //! Lists that are owned: a collection under construction, a loaded tag file, and the result of a join.
 
 use crate::{
-    file_bytes, join, load, order, pair_places, pairs, work_words, write, Collection, Counts, Lists, Loaded, Query, Refusal, Rule,
-    MAX_ENTRIES, MAX_ITEMS, MAX_SETS, RECORD_HEAD_BYTES, TAG_BYTES,
+    file_bytes, join, load, load_pooled, order, pair_places, pairs, work_words, write, Collection, Counts, Lists, Loaded, Query, Refusal,
+    Rule, MAX_ENTRIES, MAX_ITEMS, MAX_SETS, RECORD_HEAD_BYTES, TAG_BYTES,
 };
 
 /// A collection that is built set by set.
@@ -125,7 +125,7 @@ impl Query<'_> {
     }
 }
 
-/// A loaded tag file: its tags, its kits (left sets) and its stacks (right sets).
+/// A loaded tag file, or those of two pads pooled: its tags, its kits (left sets) and its stacks (right sets).
 #[derive(Clone, Debug, Default, PartialEq, Eq)]
 pub struct TagFile {
     tags: Vec<u8>,
@@ -138,28 +138,58 @@ pub struct TagFile {
 impl TagFile {
     /// Loads a tag file.
     pub fn load(file: &[u8]) -> Result<TagFile, Refusal> {
-        // As much as the file can need: a record has its head, an entry or a tag its bytes.
-        let sets = (file.len() / RECORD_HEAD_BYTES).min(MAX_SETS);
-        let entries = (file.len() / TAG_BYTES).min(MAX_ENTRIES);
-        let mut loaded = TagFile {
-            tags: vec![0; TAG_BYTES * entries.min(MAX_ITEMS)],
-            left_numbers: vec![0; sets],
-            left: Sets { ends: vec![0; sets], items: vec![0; entries] },
-            right_numbers: vec![0; sets],
-            right: Sets { ends: vec![0; sets], items: vec![0; entries] },
-        };
-        let lists = Lists {
-            tags: &mut loaded.tags,
-            left_numbers: &mut loaded.left_numbers,
-            left_ends: &mut loaded.left.ends,
-            left_items: &mut loaded.left.items,
-            right_numbers: &mut loaded.right_numbers,
-            right_ends: &mut loaded.right.ends,
-            right_items: &mut loaded.right.items,
-        };
-        let counts = load(file, lists)?;
+        let mut loaded = TagFile::with_room(file.len(), file.len());
+        let counts = load(file, loaded.lists())?;
         loaded.cut(counts);
         Ok(loaded)
+    }
+
+    /// Loads the tag files of two pads: the kits of the first, and the stacks of both, those of one number pooled to one set. See
+    /// [`load_pooled`](crate::load_pooled()).
+    ///
+    /// ```
+    /// # fn main() -> Result<(), kitfinder::Refusal> {
+    /// // Kit 7 has two tags. The first pad reads one of them, the second pad the other.
+    /// let first = [&b"KT\x00\x07\x02"[..], &[1; 12], &[2; 12], b"SK\x00\x09\x01", &[1; 12]].concat();
+    /// let second = [&b"SK\x00\x09\x01"[..], &[2; 12]].concat();
+    /// assert_eq!(kitfinder::TagFile::load(&first)?.whole_kits()?, []);
+    /// assert_eq!(kitfinder::TagFile::load_pooled(&first, &second)?.whole_kits()?, [(7, 9)]);
+    /// # Ok(())
+    /// # }
+    /// ```
+    pub fn load_pooled(first: &[u8], second: &[u8]) -> Result<TagFile, Refusal> {
+        let mut loaded = TagFile::with_room(first.len(), first.len() + second.len());
+        let counts = load_pooled(first, second, loaded.lists())?;
+        loaded.cut(counts);
+        Ok(loaded)
+    }
+
+    /// Lists as long as so many bytes of files can need, those with kits and those with stacks: a record has its head, an entry or a tag
+    /// its bytes. Every tag is in the files with stacks.
+    fn with_room(left_bytes: usize, right_bytes: usize) -> TagFile {
+        let sets = |bytes: usize| (bytes / RECORD_HEAD_BYTES).min(MAX_SETS);
+        let entries = |bytes: usize| (bytes / TAG_BYTES).min(MAX_ENTRIES);
+        let side = |bytes: usize| Sets { ends: vec![0; sets(bytes)], items: vec![0; entries(bytes)] };
+        TagFile {
+            tags: vec![0; TAG_BYTES * entries(right_bytes).min(MAX_ITEMS)],
+            left_numbers: vec![0; sets(left_bytes)],
+            left: side(left_bytes),
+            right_numbers: vec![0; sets(right_bytes)],
+            right: side(right_bytes),
+        }
+    }
+
+    /// The lists as they are lent.
+    fn lists(&mut self) -> Lists<'_> {
+        Lists {
+            tags: &mut self.tags,
+            left_numbers: &mut self.left_numbers,
+            left_ends: &mut self.left.ends,
+            left_items: &mut self.left.items,
+            right_numbers: &mut self.right_numbers,
+            right_ends: &mut self.right.ends,
+            right_items: &mut self.right.items,
+        }
     }
 
     /// Cuts the lists to what was filled.

@@ -31,6 +31,8 @@ pub enum Refusal {
     Spent,
     /// 9: the pair list is too short.
     ShortPairs,
+    /// 10: the pooled stack of a record of the second file has over 255 tags; the record's byte place.
+    Overlong(usize),
 }
 
 impl Refusal {
@@ -46,6 +48,7 @@ impl Refusal {
             Refusal::ShortWork => 7,
             Refusal::Spent => 8,
             Refusal::ShortPairs => 9,
+            Refusal::Overlong(_) => 10,
         }
     }
 }
@@ -66,6 +69,7 @@ impl fmt::Display for Refusal {
             Refusal::ShortWork => write!(f, "the work list is too short"),
             Refusal::Spent => write!(f, "more checks than the allowance"),
             Refusal::ShortPairs => write!(f, "the pair list is too short"),
+            Refusal::Overlong(at) => write!(f, "the pooled stack of a record has over 255 tags, at byte {at}"),
         }
     }
 }
@@ -87,6 +91,7 @@ pub(crate) fn accepted(answer: &[u64]) -> Result<(), Refusal> {
         7 => Refusal::ShortWork,
         8 => Refusal::Spent,
         9 => Refusal::ShortPairs,
+        10 => Refusal::Overlong(place),
         n => unreachable!("the library has no refusal {n}"),
     })
 }

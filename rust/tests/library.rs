@@ -146,6 +146,75 @@ fn the_loader_refuses() {
     assert_eq!(lists(&mut [0; 23]), Err(Refusal::ShortOutput));
 }
 
+/// A record whose tags are two-byte numbers.
+fn wide_record(number: u16, tags: std::ops::Range<u16>) -> Vec<u8> {
+    let mut bytes = record(b"SK", number, &[]);
+    bytes[4] = tags.len() as u8;
+    bytes.extend(tags.flat_map(|tag| [tag.to_be_bytes(); 6].concat()));
+    bytes
+}
+
+#[test]
+fn stacks_of_two_pads_are_pooled() {
+    let first = [record(b"SK", 9, &[5, 1, 5]), record(b"KT", 9, &[1]), record(b"SK", 4, &[]), record(b"KT", 8, &[7, 1])].concat();
+    let second = [record(b"SK", 2, &[3]), record(b"KT", 8, &[250]), record(b"SK", 9, &[7, 5]), record(b"KT", 8, &[1])].concat();
+    let pooled = TagFile::load_pooled(&first, &second).expect("the files are in order");
+    assert!(pooled.tags().eq([[1; 12], [3; 12], [5; 12], [7; 12]]));
+    assert_eq!(pooled.left_numbers(), [9, 8]);
+    assert_eq!(pooled.left().collection(), Collection { ends: &[1, 3], items: &[0, 0, 3] });
+    assert_eq!(pooled.right_numbers(), [9, 4, 2]);
+    assert_eq!(pooled.right().collection(), Collection { ends: &[3, 3, 4], items: &[0, 2, 3, 1] });
+    assert_eq!(pooled.whole_kits(), Ok(vec![(9, 9), (8, 9)]));
+    assert_eq!(TagFile::load(&first).and_then(|alone| alone.whole_kits()), Ok(vec![(9, 9)]));
+    assert_eq!(TagFile::load_pooled(&first, b""), TagFile::load(&first));
+    assert_eq!(TagFile::load_pooled(b"", b""), Ok(TagFile::default()));
+    let of_second = TagFile::load_pooled(b"", &second).expect("the files are in order");
+    assert_eq!((of_second.left().len(), of_second.right_numbers(), of_second.t()), (0, &[2, 9][..], 3));
+    let written = pooled.write().expect("it can be written");
+    assert_eq!(TagFile::load(&written).as_ref(), Ok(&pooled));
+}
+
+#[test]
+fn the_pooled_load_has_room_for_what_is_in_the_second_file_alone() {
+    let heads = |numbers: std::ops::Range<u16>| numbers.flat_map(|number| record(b"SK", number, &[])).collect::<Vec<u8>>();
+    assert_eq!(TagFile::load_pooled(&heads(0..96), &heads(90..4096)).map(|file| file.right().len()), Ok(4096));
+    assert_eq!(TagFile::load_pooled(&heads(0..96), &heads(90..4097)), Err(Refusal::TooMany(5 * (96 + 4006))));
+    let tags: Vec<u8> = (0..16).flat_map(|k| wide_record(k, 255 * k..255 * k + 255)).collect();
+    assert_eq!(TagFile::load_pooled(b"", &tags).map(|file| (file.t(), file.right().collection().items.len())), Ok((4080, 4080)));
+}
+
+#[test]
+fn the_pooled_load_refuses() {
+    let first = [record(b"KT", 7, &[1, 2]), record(b"SK", 7, &[1])].concat();
+    let (stack, base) = (record(b"SK", 7, &[2]), first.len());
+    let pooled = |second: &[u8]| TagFile::load_pooled(&first, second).map(|file| file.t());
+    assert_eq!(pooled(&stack), Ok(2));
+    assert_eq!(pooled(&stack[..16]), Err(Refusal::Malformed(base)));
+    assert_eq!(pooled(&[&stack[..], &stack].concat()), Err(Refusal::NumberUsed(base + 17)));
+    assert_eq!(TagFile::load_pooled(&first[..base - 1], b"K"), Err(Refusal::Malformed(29)));
+    let (full, more) = (wide_record(5, 0..255), [stack.clone(), wide_record(5, 1..256)].concat());
+    assert_eq!(TagFile::load_pooled(&full, &full).map(|file| file.t()), Ok(255));
+    assert_eq!(TagFile::load_pooled(&full, &more), Err(Refusal::Overlong(full.len() + 17)));
+    assert_eq!(TagFile::load_pooled(&full, &[&more[..], b"S"].concat()), Err(Refusal::Malformed(full.len() + more.len())));
+    let lists = |tags: &mut [u8], items: &mut [u16]| {
+        let lists = kitfinder::Lists {
+            tags,
+            left_numbers: &mut [],
+            left_ends: &mut [],
+            left_items: &mut [],
+            right_numbers: &mut [0; 2],
+            right_ends: &mut [0; 2],
+            right_items: items,
+        };
+        kitfinder::load_pooled(&full, &more, lists)
+    };
+    assert_eq!(lists(&mut [0; 12 * 257], &mut [0; 257]), Err(Refusal::Overlong(full.len() + 17)));
+    assert_eq!(lists(&mut [0; 12 * 257], &mut [0; 256]), Err(Refusal::ShortOutput));
+    let mut tags = [9; 12 * 257 - 1];
+    assert_eq!(lists(&mut tags, &mut [0; 257]), Err(Refusal::ShortOutput));
+    assert_eq!(tags, [0; 12 * 257 - 1]);
+}
+
 #[test]
 fn records_are_read_one_after_the_other() {
     let file = [record(b"KT", 7, &[1, 2]), record(b"SK", 258, &[])].concat();
@@ -169,6 +238,7 @@ fn refusals_are_errors_with_numbers_and_words() {
         Refusal::ShortWork,
         Refusal::Spent,
         Refusal::ShortPairs,
+        Refusal::Overlong(3),
     ];
     for (refusal, number) in refusals.iter().zip(1..) {
         assert_eq!(refusal.number(), number);
@@ -180,11 +250,15 @@ fn refusals_are_errors_with_numbers_and_words() {
 #[test]
 fn calls_run_on_several_threads_with_the_stack_that_is_stated() {
     let file = repository("examples/library.tags");
-    let stack = kitfinder::JOIN_STACK.max(kitfinder::LOAD_STACK) + (64 << 10);
+    let stack = kitfinder::JOIN_STACK.max(kitfinder::LOAD_STACK).max(kitfinder::LOAD_POOLED_STACK) + (64 << 10);
     let threads: Vec<_> = (0..4)
         .map(|_| {
             let file = file.clone();
-            let work = move || TagFile::load(&file).and_then(|loaded| loaded.whole_kits());
+            let work = move || {
+                let pooled = TagFile::load_pooled(&file, &file)?;
+                assert_eq!(TagFile::load(&file).as_ref(), Ok(&pooled));
+                pooled.whole_kits()
+            };
             std::thread::Builder::new().stack_size(stack).spawn(work).expect("a thread")
         })
         .collect();
@@ -210,6 +284,7 @@ fn constants_are_the_headers() {
         ("JOIN_STACK", kitfinder::JOIN_STACK),
         ("ORDER_STACK", kitfinder::ORDER_STACK),
         ("LOAD_STACK", kitfinder::LOAD_STACK),
+        ("LOAD_POOLED_STACK", kitfinder::LOAD_POOLED_STACK),
         ("WRITE_STACK", kitfinder::WRITE_STACK),
         ("READ_RECORD_STACK", kitfinder::READ_RECORD_STACK),
     ];

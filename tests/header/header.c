@@ -100,6 +100,36 @@ static void test_largest(void)
     free(file);
 }
 
+/* A stack record of number 1 with tags of so many numbers, from one on. */
+static size_t make_stack(uint8_t *file, size_t from, size_t count)
+{
+    const uint8_t head[KITFINDER_RECORD_HEAD_BYTES] = { 0x53, 0x4B, 0, 1, (uint8_t)count };
+    memcpy(file, head, sizeof head);
+    memset(file + sizeof head, 0, KITFINDER_TAG_BYTES * count);
+    for (size_t i = 0; i < count; i++) {
+        uint8_t *tag = file + sizeof head + KITFINDER_TAG_BYTES * i;
+        tag[0] = (uint8_t)((from + i) >> 8);
+        tag[1] = (uint8_t)(from + i);
+    }
+    return sizeof head + KITFINDER_TAG_BYTES * count;
+}
+
+/* The greatest set length is that of a pooled stack, and what a pooled load counts is in its answer's words. */
+static void test_pooled(void)
+{
+    static uint8_t first[KITFINDER_RECORD_HEAD_BYTES + KITFINDER_TAG_BYTES * KITFINDER_MAX_SET_LENGTH], second[sizeof first];
+    uint64_t words[KITFINDER_LOAD_POOLED_ANSWER];
+    size_t longest = KITFINDER_MAX_SET_LENGTH, first_len = make_stack(first, 0, 200);
+    for (size_t more = longest - 200; more <= longest - 199; more++) {
+        size_t second_len = make_stack(second, 200, more);
+        kitfinder_load_pooled(first, first_len, second, second_len, tags, sizeof tags, numbers, 0, left_ends, 0, left_items, 0, numbers,
+                              1, right_ends, 1, right_items, longest + 1, words);
+        int over = 200 + more > longest;
+        HOLD(words[0] == (over ? KITFINDER_OVERLONG : KITFINDER_ACCEPTED) && words[1] == (over ? first_len : 0));
+        HOLD(words[4] == !over && words[6] == (over ? 0 : longest) && words[7] == words[6]);
+    }
+}
+
 /* Empty lists with a null pointer, in every function. */
 static void test_null(void)
 {
@@ -123,6 +153,15 @@ static void test_null(void)
     HOLD(answer[0] == 0 && answer[3] == 0 && answer[7] == 0);
     kitfinder_load((const uint8_t *)"KT\0\1\0", 5, NULL, 0, NULL, 0, NULL, 0, NULL, 0, NULL, 0, NULL, 0, NULL, 0, answer);
     HOLD(answer[0] == KITFINDER_SHORT_OUTPUT);
+    const uint8_t *kit = (const uint8_t *)"KT\0\1\0", *stack = (const uint8_t *)"SK\0\1\0";
+    kitfinder_load_pooled(NULL, 0, NULL, 0, NULL, 0, NULL, 0, NULL, 0, NULL, 0, NULL, 0, NULL, 0, NULL, 0, answer);
+    HOLD(answer[0] == 0 && answer[3] == 0 && answer[4] == 0 && answer[7] == 0);
+    kitfinder_load_pooled(NULL, 0, kit, 5, NULL, 0, NULL, 0, NULL, 0, NULL, 0, NULL, 0, NULL, 0, NULL, 0, answer);
+    HOLD(answer[0] == 0 && answer[3] == 0);
+    kitfinder_load_pooled(NULL, 0, stack, 5, NULL, 0, NULL, 0, NULL, 0, NULL, 0, NULL, 0, NULL, 0, NULL, 0, answer);
+    HOLD(answer[0] == KITFINDER_SHORT_OUTPUT);
+    kitfinder_load_pooled(stack, 5, NULL, 0, NULL, 0, NULL, 0, NULL, 0, NULL, 0, numbers, 1, empty, 1, NULL, 0, answer);
+    HOLD(answer[0] == 0 && answer[4] == 1);
     kitfinder_write(0, NULL, 0, NULL, 0, NULL, 0, NULL, 0, NULL, 0, NULL, 0, NULL, 0, NULL, 0, answer);
     HOLD(answer[0] == 0 && answer[3] == 0);
     kitfinder_write(0, NULL, 0, numbers, 1, empty, 1, NULL, 0, NULL, 0, NULL, 0, NULL, 0, NULL, 0, answer);
@@ -135,15 +174,16 @@ static void test_null(void)
 
 static void test_names(void)
 {
-    for (uint64_t n = 0; n < 11; n++)
+    for (uint64_t n = 0; n <= KITFINDER_OVERLONG + 1; n++)
         for (uint64_t m = 0; m < n; m++)
             HOLD(strcmp(kitfinder_refusal_name(n), kitfinder_refusal_name(m)) != 0);
-    HOLD(strcmp(kitfinder_refusal_name(UINT64_MAX), kitfinder_refusal_name(10)) == 0);
+    HOLD(strcmp(kitfinder_refusal_name(UINT64_MAX), kitfinder_refusal_name(KITFINDER_OVERLONG + 1)) == 0);
 }
 
 int main(void)
 {
     test_largest();
+    test_pooled();
     test_null();
     test_names();
     printf("header: %s\n", failures ? "FAILED" : "helpers, limits, null and names hold");

@@ -96,8 +96,8 @@ static size_t taken(const char *name, size_t stated, void (*call)(void))
 /* What the calls are made with. */
 static uint32_t t, limit, budget, rule, falling;
 static double weight;
-static uint8_t file[16 << 20], tags[12 * TAGS];
-static size_t file_len, file_room = sizeof file, at;
+static uint8_t file[16 << 20], second[2 << 20], tags[12 * TAGS];
+static size_t file_len, file_room = sizeof file, second_len, tags_room = sizeof tags, at;
 static uint32_t left_ends[SETS], right_ends[SETS], work[WORDS];
 static uint16_t left_numbers[SETS], right_numbers[SETS], left_items[ENTRIES], right_items[ENTRIES], ranks[TAGS], pairs[PLACES];
 static size_t lefts, rights, places;
@@ -124,6 +124,12 @@ static void load(void)
 {
     kitfinder_load(file, file_len, tags, sizeof tags, left_numbers, SETS, left_ends, SETS, left_items, ENTRIES, right_numbers, SETS,
                    right_ends, SETS, right_items, ENTRIES, answer);
+}
+
+static void load_pooled(void)
+{
+    kitfinder_load_pooled(file, file_len, second, second_len, tags, tags_room, left_numbers, SETS, left_ends, SETS, left_items, ENTRIES,
+                          right_numbers, SETS, right_ends, SETS, right_items, ENTRIES, answer);
 }
 
 static void write_file(void)
@@ -219,22 +225,86 @@ static size_t join_at(uint32_t depth, uint32_t by)
     return bytes;
 }
 
-/* A file of records with 255 tags each, so many tags distinct. */
+/* Puts records into a file, kits and stacks in turn: so many tags each, from one place of the record's 255 on, and so many distinct in
+ * all. Answers the file's length. */
 enum { TAGS_A_RECORD = 255 };
-static void make_file(uint32_t records, uint32_t distinct)
+static size_t put_records(uint8_t *to, uint32_t records, uint32_t from, uint32_t count, uint32_t distinct)
 {
-    file_len = 0;
+    size_t length = 0;
     for (uint32_t k = 0; k < records; k++) {
-        const uint8_t head[5] = { k % 2 ? 0x53 : 0x4B, k % 2 ? 0x4B : 0x54, (uint8_t)(k >> 8), (uint8_t)k, TAGS_A_RECORD };
-        memcpy(file + file_len, head, sizeof head);
-        file_len += sizeof head;
-        for (uint32_t i = 0; i < TAGS_A_RECORD; i++, file_len += 12) {
+        const uint8_t head[5] = { k % 2 ? 0x53 : 0x4B, k % 2 ? 0x4B : 0x54, (uint8_t)(k >> 8), (uint8_t)k, (uint8_t)count };
+        memcpy(to + length, head, sizeof head);
+        length += sizeof head;
+        for (uint32_t i = from; i < from + count; i++, length += 12) {
             uint32_t tag = (k * TAGS_A_RECORD + i) * 2654435761u % distinct;
-            memset(file + file_len, 0, 12);
-            file[file_len + 10] = (uint8_t)(tag >> 8);
-            file[file_len + 11] = (uint8_t)tag;
+            memset(to + length, 0, 12);
+            to[length + 10] = (uint8_t)(tag >> 8);
+            to[length + 11] = (uint8_t)tag;
         }
     }
+    return length;
+}
+
+/* A file of records with 255 tags each, so many tags distinct. */
+static void make_file(uint32_t records, uint32_t distinct)
+{
+    file_len = put_records(file, records, 0, TAGS_A_RECORD, distinct);
+}
+
+/* A pooled load of what the two files hold, and the answer's number. */
+static void pool(uint64_t number)
+{
+    more(taken("kitfinder_load_pooled", KITFINDER_LOAD_POOLED_STACK, load_pooled));
+    refused("kitfinder_load_pooled", number);
+}
+
+/* Pooled loads: files as full as can be on both pads, where every stack of the second is in the first, all of its tags, some or none;
+ * either file alone; and each refusal. */
+static void pool_files(void)
+{
+    enum { FULL = 2 * (ENTRIES / TAGS_A_RECORD) };
+    static const uint32_t files[][4] = { /* records; tags in the first; from and how many in the second */
+        { FULL, TAGS_A_RECORD, 0, TAGS_A_RECORD },
+        { FULL, 128, 128, 127 },
+        { FULL, 200, 55, 200 },
+        { FULL, 0, 0, TAGS_A_RECORD },
+        { FULL, TAGS_A_RECORD, 0, 0 },
+        { 2 * SETS, 15, 0, 15 },
+        { 2 * SETS, 8, 8, 7 },
+        { 2 * SETS, 0, 0, 0 },
+        { 4, 3, 1, 3 },
+    };
+    for (size_t k = 0; k < sizeof files / sizeof *files; k++) {
+        const uint32_t *of = files[k];
+        file_len = put_records(file, of[0], 0, of[1], TAGS);
+        second_len = put_records(second, of[0], of[2], of[3], TAGS);
+        pool(0);
+        second_len--;
+        pool(1);
+        tags_room = 0;
+        second_len++;
+        pool(of[1] + of[3] > 0 ? 4 : 0);
+        tags_room = sizeof tags;
+        file_len--;
+        pool(1);
+        file_len = 0;
+        pool(0);
+    }
+    second_len = 0;
+    pool(0);
+    make_file(FULL, TAGS);
+    pool(0);
+    second_len = put_records(second, FULL, 1, TAGS_A_RECORD, TAGS);
+    pool(3);
+    make_file(FULL / 2, TAGS);
+    second_len = put_records(second, FULL / 2, 1, TAGS_A_RECORD, TAGS);
+    pool(10);
+    second_len += put_records(second + second_len, 2, 0, TAGS_A_RECORD, TAGS);
+    pool(2);
+    second_len = put_records(second, FULL / 2, 0, TAGS_A_RECORD, 2 * TAGS);
+    pool(3);
+    make_file(FULL / 2, 2 * TAGS);
+    pool(3);
 }
 
 static int failures;
@@ -269,6 +339,11 @@ int main(void)
     refused("kitfinder_load", 1);
     say("kitfinder_load", KITFINDER_LOAD_STACK);
 
+    pool_files();
+    say("kitfinder_load_pooled", KITFINDER_LOAD_POOLED_STACK);
+
+    make_file(64, TAGS);
+    file_len--;
     for (at = 0; at <= file_len + 1; at += 5 + 12 * TAGS_A_RECORD)
         more(taken("kitfinder_read_record", KITFINDER_READ_RECORD_STACK, read_record));
     say("kitfinder_read_record", KITFINDER_READ_RECORD_STACK);

@@ -17,10 +17,10 @@ use Rattle.bit_sets.specs.BitSets.{bitAt, digitsFrom}
 halves : (word j : ℕ) → word / 2 ^ suc j ≡ word / 2 / 2 ^ j
 halves word j = ap (λ (p : ℕ). word / p) (pow-succ' 2 j) ∙ sym (div-div-eq-div-mul word 2 (2 ^ j))
 
-bit-half : (word j : ℕ) → bitAt word (suc j) ≡ bitAt (word / 2) j
+pub bit-half : (word j : ℕ) → bitAt word (suc j) ≡ bitAt (word / 2) j
 bit-half word j = ap (λ (x : ℕ). eqb (x % 2) 1) (halves word j)
 
-bit-lowest : (word : ℕ) → bitAt word 0 ≡ eqb (word % 2) 1
+pub bit-lowest : (word : ℕ) → bitAt word 0 ≡ eqb (word % 2) 1
 bit-lowest word = ap (λ (x : ℕ). eqb (x % 2) 1) (div-one word)
 
 pub bit-of-zero : (j : ℕ) → bitAt 0 j ≡ false

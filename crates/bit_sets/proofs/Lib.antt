@@ -5,3 +5,5 @@ pub mod Digits
 pub mod Members
 -- the members being written
 pub mod Draining
+-- how many members a word has, and a range of numbers
+pub mod Counted

@@ -11,6 +11,7 @@ ghost use Rattle.inputs.specs.Input.{inputOf};
 ghost use Rattle.join.specs.Numbered.{weightsOf, numberedAnswer};
 ghost use Rattle.item_order.specs.Order.{orderAnswer, orderRanks, orderWords};
 ghost use Rattle.tag_file.specs.Loading.{listsOf, loadAnswer, loadWords, LoadCall};
+ghost use Rattle.tag_pooling.specs.Pooling.{pooledAnswer, PooledCall};
 ghost use Rattle.tag_writer.specs.Writer.{writeAnswer, writtenFile, writeWords};
 
 // Joins two collections.
@@ -127,6 +128,45 @@ pub extern "C" fn kitfinder_load(
 {
     *answer = tag_file::load_words(tag_loader::load(
         file,
+        tags,
+        left_numbers,
+        left_ends,
+        left_items,
+        right_numbers,
+        right_ends,
+        right_items,
+    ));
+}
+
+// Loads two tag files, the right sets of both united by number.
+#[no_mangle]
+pub extern "C" fn kitfinder_load_pooled(
+    first: &[u8],
+    second: &[u8],
+    tags: &mut [u8],
+    left_numbers: &mut [u16],
+    left_ends: &mut [u32],
+    left_items: &mut [u16],
+    right_numbers: &mut [u16],
+    right_ends: &mut [u32],
+    right_items: &mut [u16],
+    answer: &mut [u64; 8],
+)
+    ensures answer { λ _. ⌜ now (answer .exit) ≡ loadWords (pooledAnswer (now (first .entry)) (now (second .entry))
+        (listsOf (now (tags .entry)) (now («left_numbers» .entry)) (now («left_ends» .entry)) (now («left_items» .entry))
+        (now («right_numbers» .entry)) (now («right_ends» .entry)) (now («right_items» .entry)))) ⌝ }
+    ensures lists { λ _. ⌜ PooledCall (now (first .entry)) (now (second .entry))
+        (listsOf (now (tags .entry)) (now («left_numbers» .entry)) (now («left_ends» .entry)) (now («left_items» .entry))
+        (now («right_numbers» .entry)) (now («right_ends» .entry)) (now («right_items» .entry)))
+        (listsOf (now (tags .exit)) (now («left_numbers» .exit)) (now («left_ends» .exit)) (now («left_items» .exit))
+        (now («right_numbers» .exit)) (now («right_ends» .exit)) (now («right_items» .exit)))
+        (pooledAnswer (now (first .entry)) (now (second .entry))
+        (listsOf (now (tags .entry)) (now («left_numbers» .entry)) (now («left_ends» .entry)) (now («left_items» .entry))
+        (now («right_numbers» .entry)) (now («right_ends» .entry)) (now («right_items» .entry)))) ⌝ }
+{
+    *answer = tag_file::load_words(pool_loader::load_pooled(
+        first,
+        second,
         tags,
         left_numbers,
         left_ends,

@@ -14,12 +14,11 @@ use Rattle.sets.specs.declared.Side.{Side}
 use Rattle.sets.specs.declared.Side.the-variants.{Left, Right}
 use Rattle.sets.specs.declared.Tested.the-variants.{Passed}
 use Rattle.tag_file.specs.Format.{tagLength}
-use Rattle.tag_file.specs.Reading.{readAt}
 use Rattle.tag_file.specs.Records.{TagRecord, records, totalLength, sameSide, ofSide, entriesOf, collapse, tagTable}
-use Rattle.tag_file.specs.Loading.{Lists, refusalOf, fileFault, filled, fits, roomFor}
+use Rattle.tag_file.specs.Loading.{Lists, fileFault, filled, fits, roomFor}
 use Rattle.tag_file.proofs.ItemCount.{length-tagBytes, length-numbersOf, length-endsOf, length-joinedItems}
 use Rattle.tag_round_trip.proofs.Sorted.{length-collapse}
-use Rattle.tag_round_trip.proofs.Faults.{FaultFree, free-from, free-nil}
+use Rattle.tag_file.proofs.FaultFree.{FaultFree, file-free}
 use Rattle.tag_containment.proofs.Covered.{records-cover}
 use Rattle.listing.specs.Listing.{maxFile}
 use Rattle.listing.specs.Inner.{tableBytes, sideItems}
@@ -47,8 +46,7 @@ pub record ProgramLists (lent : Lists) : Type 0 where
 
 module _ (file : List ℕ) (clear : fileFault file ≡ Passed) where
   pub fault-free : FaultFree (records file)
-  unfolding fileFault
-  fault-free = free-from [] (records file) (refusalOf (readAt file (totalLength (records file)))) free-nil clear .0
+  fault-free = file-free file clear
 
   few-entries : length file ≤ maxFile → (side : Side) → entriesOf side (records file) ≤ sideItems
   few-entries short side = omega (arith, entries-bytes side (records file), records-cover file clear)

@@ -8,7 +8,7 @@ use Rattle.sets.specs.declared.Side.{Side}
 use Rattle.sets.specs.declared.Side.the-variants.{Left, Right}
 use Rattle.sets.specs.declared.Refusal.{Refusal}
 use Rattle.sets.specs.declared.Refusal.the-variants.{Malformed, NumberUsed, TooMany, ShortOutput, BadSet, BadSettings}
-use Rattle.sets.specs.declared.Refusal.the-variants.{ShortWork, Spent, ShortPairs}
+use Rattle.sets.specs.declared.Refusal.the-variants.{ShortWork, Spent, ShortPairs, Overlong}
 use Rattle.sets.specs.declared.Verdict.{Verdict}
 use Rattle.sets.specs.declared.Verdict.the-variants.{Good, Bad}
 use Rattle.sets.specs.declared.Tested.{Tested}
@@ -43,6 +43,7 @@ rowOf BadSettings = keeping 6 0 0
 rowOf ShortWork = keeping 7 0 0
 rowOf Spent = clearing 8 0
 rowOf ShortPairs = clearing 9 0
+rowOf (Overlong place) = clearing 10 place
 
 -- whether the outputs become zeros
 abbrev pub clears : Refusal → Bool

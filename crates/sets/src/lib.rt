@@ -34,6 +34,7 @@ pub enum Refusal {
     ShortWork,
     Spent,
     ShortPairs,
+    Overlong(usize),
 }
 
 // Whether a collection has a bad set, and the place of the first.
@@ -125,6 +126,11 @@ pub fn head_of(why: Refusal) -> Head
         Refusal::ShortPairs => Head {
             number: 9,
             first: 0,
+            second: 0,
+        },
+        Refusal::Overlong(place) => Head {
+            number: 10,
+            first: place as u64,
             second: 0,
         },
     }

@@ -22,7 +22,7 @@ use Rattle.tag_file.specs.declared.ReadAnswer.{ReadAnswer}
 use Rattle.tag_file.specs.declared.ReadAnswer.the-variants.{Record, NoMore, Refused}
 use Rattle.tag_file.proofs.AnswerLaws.{accepted}
 use Rattle.tag_file.proofs.RecordLaws.{read-whole, length-tagsAt}
-use Rattle.tag_round_trip.proofs.Faults.{free-from, free-nil}
+use Rattle.tag_file.proofs.FaultFree.{free-from, free-nil}
 
 -- whether a whole record was read
 unfoldable isRecord : ReadAnswer → Bool

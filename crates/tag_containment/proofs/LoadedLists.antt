@@ -1,5 +1,6 @@
--- What a load that is accepted filled, by what its contract says of a call: the counts are the records', each set is the items of
--- the record at its place, each number that record's, no number stands twice on a side, and the tag table rises as bytes.
+-- What lists hold that records filled: each set is the items of the record at its place, each number that record's, and the tag
+-- table rises as bytes. Then of a load that is accepted, by what its contract says of a call, with the counts, and no number
+-- twice on a side.
 use mathlib.Core.Path.{_≡_, refl, sym, ap, _∙_}
 use Prim.Native.Nat.{ℕ, _+_, _<_}
 use mathlib.Core.List.{List, [], _∷_, _++_, append-assoc}
@@ -15,16 +16,16 @@ use Rattle.sets.specs.declared.Side.the-variants.{Left, Right}
 use Rattle.inputs.specs.Input.{Input, inputOf, leftSets, rightSets}
 use Rattle.tag_file.specs.declared.Loaded.{Loaded}
 use Rattle.tag_file.specs.declared.LoadAnswer.the-variants as load
-use Rattle.tag_file.specs.Reading.{readAt}
-use Rattle.tag_file.specs.Records.{records, totalLength, ofSide, allTags, tagTable, setsOfSide}
-use Rattle.tag_file.specs.Loading.{Lists, refusalOf, fileFault, numbersOf, endsFrom, join, filled, totalsOf, loadAnswer, LoadCall}
+use Rattle.tag_file.specs.Records.{TagRecord, records, ofSide, allTags, tagTable, setsOfSide}
+use Rattle.tag_file.specs.Loading.{Lists, numbersOf, endsFrom, join, filled, totalsOf, loadAnswer, LoadCall}
 use Rattle.tag_file.proofs.AnswerLaws.{accepted, call-lists}
+use Rattle.tag_file.proofs.FaultFree.{file-free}
 use Rattle.tag_file.proofs.Tables.{rising-collapse}
-use Rattle.tag_round_trip.specs.Trips.{partsOf, loadedFrom}
-use Rattle.tag_round_trip.proofs.Accepted.{parts-filled}
+use Rattle.tag_round_trip.specs.Trips.{partsOf, Fills}
+use Rattle.tag_round_trip.proofs.Accepted.{lists-fill}
 use Rattle.tag_round_trip.proofs.Decoding.{between-joined}
-use Rattle.tag_round_trip.proofs.Faults.{free-from, free-nil}
 use Rattle.tag_round_trip.proofs.FileRecords.{table-fit, file-fit}
+use Rattle.tag_round_trip.proofs.Printing.{recordsFit}
 use Rattle.tag_containment.proofs.ByteOrder.{bytesBelow, tagIn, table-order}
 use Rattle.tag_containment.proofs.ItemTags.{noRecord, recordOf}
 
@@ -71,62 +72,81 @@ sets-begin sets items n begins =
     (sym (take-append-drop n items) ∙ ap (λ (l : List ℕ). l ++ drop n items) begins)
     ∙ sets-from [] 0 sets (drop n items) refl
 
+-- ---- lists that hold what records give
+
+module _ {rs : List TagRecord} {loaded : Loaded} {got : Lists} (fills : Fills rs loaded got) where
+  -- the sets by place of an input made of them are the records' items
+  module _ (i : Input) (over : OverLoaded loaded got i) where
+    pub fills-left-sets : leftSets i ≡ setsOfSide Left (tagTable rs) rs
+    fills-left-sets =
+        ap (λ (ends : List ℕ). setsOf ends (i .left .items)) (over .leftEnds ∙ ap (λ (p : Lists). p .leftEnds) (fills .lists))
+        ∙ sets-begin (setsOfSide Left (tagTable rs) rs) (i .left .items) (loaded .«left_entries»)
+        (over .leftItems ∙ ap (λ (p : Lists). p .leftItems) (fills .lists))
+
+    pub fills-right-sets : rightSets i ≡ setsOfSide Right (tagTable rs) rs
+    fills-right-sets =
+        ap (λ (ends : List ℕ). setsOf ends (i .right .items)) (over .rightEnds ∙ ap (λ (p : Lists). p .rightEnds) (fills .lists))
+        ∙ sets-begin (setsOfSide Right (tagTable rs) rs) (i .right .items) (loaded .«right_entries»)
+        (over .rightItems ∙ ap (λ (p : Lists). p .rightItems) (fills .lists))
+
+  -- the number at a place is the record's
+  number-at : (side : Side) (numbers : List ℕ) (n k : ℕ) → take n numbers ≡ numbersOf side rs
+      → n ≡ length (ofSide side rs) → k < n → getD numbers k 0 ≡ recordOf side rs k .number
+  number-at side numbers n k same many within =
+      sym (getD-take n numbers k 0 within) ∙ ap (λ (l : List ℕ). getD l k 0) same
+      ∙ map-at (λ r. r .number) (ofSide side rs) k noRecord 0 (omega arith)
+
+  pub fills-left-number : (l : ℕ) → l < loaded .«left_sets» → getD (got .leftNumbers) l 0 ≡ recordOf Left rs l .number
+  fills-left-number l within =
+      number-at Left (got .leftNumbers) (loaded .«left_sets») l (ap (λ (p : Lists). p .leftNumbers) (fills .lists))
+      (ap (λ (c : Loaded). c .«left_sets») (fills .counted)) within
+
+  pub fills-right-number : (r : ℕ) → r < loaded .«right_sets» → getD (got .rightNumbers) r 0 ≡ recordOf Right rs r .number
+  fills-right-number r within =
+      number-at Right (got .rightNumbers) (loaded .«right_sets») r (ap (λ (p : Lists). p .rightNumbers) (fills .lists))
+      (ap (λ (c : Loaded). c .«right_sets») (fills .counted)) within
+
+  -- the tag of a lesser item is below that of a greater one, as unsigned bytes
+  pub fills-tags-rise : recordsFit rs ≡ true → (i j : ℕ) → i < j → j < loaded .tags
+      → bytesBelow (tagIn (partsOf loaded got .tags) i) (tagIn (partsOf loaded got .tags) j) ≡ true
+  fills-tags-rise fit i j less within =
+      let many : loaded .tags ≡ length (tagTable rs) = ap (λ (c : Loaded). c .tags) (fills .counted) in
+      ap (λ (l : Lists). bytesBelow (tagIn (l .tags) i) (tagIn (l .tags) j)) (fills .lists)
+      ∙ table-order (tagTable rs) (rising-collapse (allTags rs)) (table-fit rs fit) i j less (omega arith)
+
+-- ---- after a load that is accepted
+
 module _ (file : List ℕ) {lent got : Lists} {loaded : Loaded} (loads : LoadCall file lent got (load.Loaded loaded)) where
   -- its counts are the records'
   pub load-counts : loaded ≡ totalsOf (records file)
   load-counts = sym (accepted file lent loaded (sym (loads .answered)) .counted)
 
-  -- what it filled is what the records give
-  pub load-filled : partsOf loaded got ≡ filled (records file)
-  load-filled =
-      let e : loadAnswer file lent ≡ load.Loaded loaded = sym (loads .answered) in
-      ap (partsOf loaded) (call-lists loads) ∙ ap (loadedFrom file lent) load-counts
-      ∙ parts-filled file lent (e ∙ ap (λ (c : Loaded). load.Loaded c) load-counts)
+  -- its lists hold what the records give
+  pub load-fills : Fills (records file) loaded got
+  load-fills =
+      lists-fill (records file) lent got (loadAnswer file lent) loaded (sym (loads .answered)) load-counts (call-lists loads)
 
-  -- the sets by place of an input made of them are the records' items
+  pub load-filled : partsOf loaded got ≡ filled (records file)
+  load-filled = load-fills .lists
+
   module _ (i : Input) (over : OverLoaded loaded got i) where
     pub load-left-sets : leftSets i ≡ setsOfSide Left (tagTable (records file)) (records file)
-    load-left-sets =
-        ap (λ (ends : List ℕ). setsOf ends (i .left .items)) (over .leftEnds ∙ ap (λ (p : Lists). p .leftEnds) load-filled)
-        ∙ sets-begin (setsOfSide Left (tagTable (records file)) (records file)) (i .left .items) (loaded .«left_entries»)
-        (over .leftItems ∙ ap (λ (p : Lists). p .leftItems) load-filled)
+    load-left-sets = fills-left-sets load-fills i over
 
     pub load-right-sets : rightSets i ≡ setsOfSide Right (tagTable (records file)) (records file)
-    load-right-sets =
-        ap (λ (ends : List ℕ). setsOf ends (i .right .items)) (over .rightEnds ∙ ap (λ (p : Lists). p .rightEnds) load-filled)
-        ∙ sets-begin (setsOfSide Right (tagTable (records file)) (records file)) (i .right .items) (loaded .«right_entries»)
-        (over .rightItems ∙ ap (λ (p : Lists). p .rightItems) load-filled)
-
-  -- the number at a place is the record's
-  number-at : (side : Side) (numbers : List ℕ) (n k : ℕ) → take n numbers ≡ numbersOf side (records file)
-      → n ≡ length (ofSide side (records file)) → k < n → getD numbers k 0 ≡ recordOf side (records file) k .number
-  number-at side numbers n k same many within =
-      sym (getD-take n numbers k 0 within) ∙ ap (λ (l : List ℕ). getD l k 0) same
-      ∙ map-at (λ r. r .number) (ofSide side (records file)) k noRecord 0 (omega arith)
+    load-right-sets = fills-right-sets load-fills i over
 
   pub load-left-number : (l : ℕ) → l < loaded .«left_sets» → getD (got .leftNumbers) l 0 ≡ recordOf Left (records file) l .number
-  load-left-number l within =
-      number-at Left (got .leftNumbers) (loaded .«left_sets») l (ap (λ (p : Lists). p .leftNumbers) load-filled)
-      (ap (λ (c : Loaded). c .«left_sets») load-counts) within
+  load-left-number l within = fills-left-number load-fills l within
 
   pub load-right-number : (r : ℕ) → r < loaded .«right_sets»
       → getD (got .rightNumbers) r 0 ≡ recordOf Right (records file) r .number
-  load-right-number r within =
-      number-at Right (got .rightNumbers) (loaded .«right_sets») r (ap (λ (p : Lists). p .rightNumbers) load-filled)
-      (ap (λ (c : Loaded). c .«right_sets») load-counts) within
+  load-right-number r within = fills-right-number load-fills r within
 
   -- no number stands twice on a side, so a number tells its record
   pub load-numbers-distinct : (side : Side) → distinct (numbersOf side (records file)) ≡ true
-  unfolding fileFault
-  load-numbers-distinct side =
-      let clear = accepted file lent loaded (sym (loads .answered)) .clear in
-      free-from [] (records file) (refusalOf (readAt file (totalLength (records file)))) free-nil clear .0 .numbers side
+  load-numbers-distinct side = file-free file (accepted file lent loaded (sym (loads .answered)) .clear) .numbers side
 
-  -- the tag of a lesser item is below that of a greater one, as unsigned bytes
   pub load-tags-rise : ((i : ℕ) → getD file i 0 < 256) → (i j : ℕ) → i < j → j < loaded .tags
       → bytesBelow (tagIn (partsOf loaded got .tags) i) (tagIn (partsOf loaded got .tags) j) ≡ true
-  load-tags-rise low i j less within =
-      let rs = records file in
-      let many : loaded .tags ≡ length (tagTable rs) = ap (λ (c : Loaded). c .tags) load-counts in
-      ap (λ (l : Lists). bytesBelow (tagIn (l .tags) i) (tagIn (l .tags) j)) load-filled
-      ∙ table-order (tagTable rs) (rising-collapse (allTags rs)) (table-fit rs (file-fit file low)) i j less (omega arith)
+  load-tags-rise low i j less within = fills-tags-rise load-fills (file-fit file low) i j less within

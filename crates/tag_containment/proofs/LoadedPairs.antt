@@ -23,7 +23,8 @@ use Rattle.tag_file.specs.declared.Loaded.{Loaded}
 use Rattle.tag_file.specs.declared.LoadAnswer.the-variants as load
 use Rattle.tag_file.specs.Records.{TagRecord, records, ofSide, tagTable, itemsOf, setsOfSide}
 use Rattle.tag_file.specs.Loading.{Lists, LoadCall}
-use Rattle.tag_containment.proofs.LoadedLists.{OverLoaded, load-left-sets, load-right-sets}
+use Rattle.tag_round_trip.specs.Trips.{Fills}
+use Rattle.tag_containment.proofs.LoadedLists.{OverLoaded, fills-left-sets, fills-right-sets, load-fills}
 use Rattle.tag_containment.proofs.ItemTags.{noRecord, recordOf, contained-records}
 
 -- what is asked of a pair of places: that they are places of records, and that the left record's tags are the right one's too
@@ -32,7 +33,7 @@ tagsContained rs l r =
     ltb l (length (ofSide Left rs))
     && (ltb r (length (ofSide Right rs)) && subset (recordOf Left rs l .tags) (recordOf Right rs r .tags))
 
-and-where : (a b c : Bool) → (a ≡ true → b ≡ c) → (a && b) ≡ (a && c)
+pub and-where : (a b c : Bool) → (a ≡ true → b ≡ c) → (a && b) ≡ (a && c)
 and-where true b c same = same refl
 and-where false b c same = refl
 
@@ -59,13 +60,18 @@ sets-tags rs l r lefts rights left right =
     )
     (contained-records rs Left l (ltb-true l A in-left) (recordOf Right rs r .tags)))))
 
+module _ {loaded : Loaded} {got : Lists} (i : Input) (over : OverLoaded loaded got i) (s : Settings) {counts : Counts}
+    {work before work′ after : List ℕ} (runs : RunCall i s work before work′ after (Joined counts)) where
+  -- over lists that hold what records give
+  pub fills-pairs : {rs : List TagRecord} → Fills rs loaded got → (l r : ℕ)
+      → pairOccurs l r (take (2 * counts .pairs) after) ≡ one (tagsContained rs l r)
+  fills-pairs {rs} fills l r =
+      call-once i s runs l r
+      ∙ ap one (sets-tags rs l r (leftSets i) (rightSets i) (fills-left-sets fills i over) (fills-right-sets fills i over))
+
 module _ (file : List ℕ) {lent got : Lists} {loaded : Loaded} (loads : LoadCall file lent got (load.Loaded loaded))
     (i : Input) (over : OverLoaded loaded got i) (s : Settings) {counts : Counts} {work before work′ after : List ℕ}
     (runs : RunCall i s work before work′ after (Joined counts)) where
   -- a pair of places stands in the list once where the left record's tags are the right one's too, else not at all
   pub loaded-pairs : (l r : ℕ) → pairOccurs l r (take (2 * counts .pairs) after) ≡ one (tagsContained (records file) l r)
-  loaded-pairs l r =
-      call-once i s runs l r
-      ∙ ap one
-      (sets-tags (records file) l r (leftSets i) (rightSets i)
-      (load-left-sets file loads i over) (load-right-sets file loads i over))
+  loaded-pairs l r = fills-pairs i over s runs (load-fills file loads) l r

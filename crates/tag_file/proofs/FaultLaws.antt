@@ -39,15 +39,15 @@ module _ (seen : List TagRecord) (r : TagRecord) where
 -- ---- a fault makes zeros
 
 -- whether what a test refuses with, if anything, makes zeros
-abbrev clearing : Tested → Bool
+abbrev pub clearing : Tested → Bool
 clearing Passed = true
 clearing (Failed why) = clears why
 
-clearing-both : (first later : Tested) → clearing first ≡ true → clearing later ≡ true → clearing (unless Failed first later) ≡ true
+pub clearing-both : (first later : Tested) → clearing first ≡ true → clearing later ≡ true → clearing (unless Failed first later) ≡ true
 clearing-both Passed later a b = b
 clearing-both (Failed why) later a b = a
 
-clearing-if : (wrong : Bool) (why : Refusal) → clears why ≡ true → clearing (refuseIf wrong why) ≡ true
+pub clearing-if : (wrong : Bool) (why : Refusal) → clears why ≡ true → clearing (refuseIf wrong why) ≡ true
 clearing-if true why c = c
 clearing-if false why c = refl
 

@@ -2,8 +2,10 @@
 pub mod ReadLaws
 pub mod Tables
 pub mod RecordLaws
+pub mod FoundRecords
 pub mod Ended
 pub mod FaultLaws
+pub mod FaultFree
 pub mod AnswerLaws
 pub mod Bytes
 pub mod ItemCount

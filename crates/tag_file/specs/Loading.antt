@@ -134,18 +134,22 @@ abbrev pub lentAfter : LoadAnswer → List ℕ → List ℕ → List ℕ
 lentAfter (load.Loaded totals) part lent = filledOver part lent
 lentAfter (load.Refused why) part lent = afterRefusal why lent
 
--- the seven lent lists at the end
-abbrev pub listsAfter : List ℕ → Lists → Lists
-listsAfter file lent =
+-- the seven lent lists at the end, by the answer and what it fills
+abbrev pub listsBy : LoadAnswer → Lists → Lists → Lists
+listsBy answer part lent =
     record {
-      tags = lentAfter (loadAnswer file lent) (filled (records file) .tags) (lent .tags);
-      leftNumbers = lentAfter (loadAnswer file lent) (filled (records file) .leftNumbers) (lent .leftNumbers);
-      leftEnds = lentAfter (loadAnswer file lent) (filled (records file) .leftEnds) (lent .leftEnds);
-      leftItems = lentAfter (loadAnswer file lent) (filled (records file) .leftItems) (lent .leftItems);
-      rightNumbers = lentAfter (loadAnswer file lent) (filled (records file) .rightNumbers) (lent .rightNumbers);
-      rightEnds = lentAfter (loadAnswer file lent) (filled (records file) .rightEnds) (lent .rightEnds);
-      rightItems = lentAfter (loadAnswer file lent) (filled (records file) .rightItems) (lent .rightItems);
+      tags = lentAfter answer (part .tags) (lent .tags);
+      leftNumbers = lentAfter answer (part .leftNumbers) (lent .leftNumbers);
+      leftEnds = lentAfter answer (part .leftEnds) (lent .leftEnds);
+      leftItems = lentAfter answer (part .leftItems) (lent .leftItems);
+      rightNumbers = lentAfter answer (part .rightNumbers) (lent .rightNumbers);
+      rightEnds = lentAfter answer (part .rightEnds) (lent .rightEnds);
+      rightItems = lentAfter answer (part .rightItems) (lent .rightItems);
     }
+
+-- the same after the load of a file
+abbrev pub listsAfter : List ℕ → Lists → Lists
+listsAfter file lent = listsBy (loadAnswer file lent) (filled (records file)) lent
 
 -- seven lists by their names
 abbrev pub listsOf : List ℕ → List ℕ → List ℕ → List ℕ → List ℕ → List ℕ → List ℕ → Lists

@@ -2,7 +2,7 @@
 -- and what the records still to come give are together what is wanted.
 use mathlib.Core.Path.{_≡_, refl, ap, subst, _∙_}
 use mathlib.Core.List.{List, [], _∷_, _++_}
-use mathlib.Core.Bool.{Bool, true, false, _||_}
+use mathlib.Core.Bool.{Bool, true, false}
 use Prim.Native.Nat.{ℕ, zero, suc, _+_, _<_, _≤_}
 use native.Mathlib.Nat.{not-suc-le-zero, le-of-suc-le-suc}
 use native.Mathlib.Omega.{arith}
@@ -20,20 +20,18 @@ use Rattle.sets.specs.Lent.{filledOver}
 use Rattle.sets.specs.declared.Side.{Side}
 use Rattle.tag_file.specs.Format.{tagLength, tagAt}
 use Rattle.tag_file.specs.Reading.{readAt, pastTags, tagsAt}
-use Rattle.tag_file.specs.Records.{TagRecord, sameSide, recordsAt, records, allTags, tagTable, itemsOf, setsOfSide}
-use Rattle.tag_file.specs.Loading.{numbersOf, endsFrom, endsOf, join, joinedItems}
+use Rattle.tag_file.specs.Records.{TagRecord, sameSide, recordsAt, records, ofSide, allTags, itemsOf, setsOfSide}
+use Rattle.tag_file.specs.Loading.{numbersOf, endsFrom, join}
 use Rattle.tag_file.specs.declared.ReadAnswer.the-variants.{Record}
 use Rattle.tag_file.proofs.RecordLaws.{read-past, read-within, records-next}
-use Rattle.tag_file.proofs.Tables.{memb-collapse}
 use Rattle.tag_index.specs.Index.{tableOf, Sorted, Ranked}
-use Rattle.tag_index.proofs.Ids.{sorted-size}
-use Rattle.tag_fill.specs.Fill.{markWords, Unmarked, Marking, TagsKnown, RoomForOne, OneFilled, FillReady}
+use Rattle.tag_fill.specs.Fill.{markWords, Unmarked, MarkedMore, TagsKnown, RoomForOne, OneFilled, FillReady}
 use Rattle.tag_fill.specs.declared.Filled.{Filled}
-use Rattle.tag_fill.proofs.Marks.{unmarked-zeros, marked-items}
+use Rattle.tag_fill.proofs.Marks.{unmarked-zeros, more-fresh, marked-items}
 use Rattle.tag_fill.proofs.Runs.{join-one, numbers-cons, sets-cons, join-onto, ends-onto}
 
 -- a tag of a record is among its tags
-memb-tagsAt : (n : ℕ) (file : List ℕ) (at k : ℕ) → k < n → memb (tagAt file (pastTags at k)) (tagsAt n file at) ≡ true
+pub memb-tagsAt : (n : ℕ) (file : List ℕ) (at k : ℕ) → k < n → memb (tagAt file (pastTags at k)) (tagsAt n file at) ≡ true
 unfolding tagsAt memb
 memb-tagsAt zero file at k h = absurd (not-suc-le-zero h)
 memb-tagsAt (suc n) file at zero h =
@@ -46,54 +44,53 @@ memb-tagsAt (suc n) file at (suc k) h =
     or-right (eqb (tagAt file (pastTags at (suc k))) (tagAt file at)) (memb (tagAt file (pastTags at (suc k))) rest)
     (subst (λ (m : ℕ). memb (tagAt file m) rest ≡ true) e (memb-tagsAt n file (at + tagLength) k (le-of-suc-le-suc h)))
 
-pub record SideFilling (file : List ℕ) (side : Side) (numbers₀ ends₀ items₀ : List ℕ)
+pub record SideFilling (file : List ℕ) (side : Side) (table numbers₀ ends₀ items₀ : List ℕ)
     (marks numbers ends items : List ℕ) (done : Filled) (at : ℕ) : Type 0 where
   pub for-numbers : Writing numbers₀ 0 (numbersOf side (records file)) numbers (done .sets) (numbersOf side (recordsAt file at))
-  pub for-ends : Writing ends₀ 0 (endsOf side (records file)) ends (done .sets)
-      (endsFrom (done .entries) (setsOfSide side (tagTable (records file)) (recordsAt file at)))
-  pub for-items : Writing items₀ 0 (joinedItems side (records file)) items (done .entries)
-      (join (setsOfSide side (tagTable (records file)) (recordsAt file at)))
-  pub held : (y : ℕ) → memb y (allTags (recordsAt file at)) ≡ true → memb y (tagTable (records file)) ≡ true
+  pub for-ends : Writing ends₀ 0 (endsFrom 0 (setsOfSide side table (records file))) ends (done .sets)
+      (endsFrom (done .entries) (setsOfSide side table (recordsAt file at)))
+  pub for-items : Writing items₀ 0 (join (setsOfSide side table (records file))) items (done .entries)
+      (join (setsOfSide side table (recordsAt file at)))
+  pub held : (y : ℕ) → memb y (allTags (ofSide side (recordsAt file at))) ≡ true → memb y table ≡ true
   pub unmarked : Unmarked marks
 
 pub side-filling-start : {file heads tails : List ℕ} {n : ℕ} {order ranks : List ℕ} {side : Side} {numbers ends items : List ℕ}
     → FillReady file heads tails n order ranks side numbers ends items
-    → SideFilling file side numbers ends items (replicate markWords 0) numbers ends items (record { sets = 0; entries = 0 }) 0
+    → SideFilling file side (tableOf heads tails n order) numbers ends items (replicate markWords 0) numbers ends items
+    (record { sets = 0; entries = 0 }) 0
 side-filling-start {file} {heads} {tails} {n} {order} {ranks} {side} {numbers} {ends} {items} r =
+    let sets = setsOfSide side (tableOf heads tails n order) (records file) in
     record {
       for-numbers = writing-start numbers 0 (numbersOf side (records file)) (omega (arith, r .for-numbers));
-      for-ends = writing-start ends 0 (endsOf side (records file)) (omega (arith, r .for-ends));
-      for-items = writing-start items 0 (joinedItems side (records file)) (omega (arith, r .for-items));
-      held = λ y m. memb-collapse y (allTags (records file)) ∙ m;
+      for-ends = writing-start ends 0 (endsFrom 0 sets) (omega (arith, r .for-ends));
+      for-items = writing-start items 0 (join sets) (omega (arith, r .for-items));
+      held = r .held;
       unmarked = unmarked-zeros markWords refl;
     }
 
-module _ {file : List ℕ} {side : Side} {numbers₀ ends₀ items₀ marks numbers ends items : List ℕ} {done : Filled} {at : ℕ}
-    (f : SideFilling file side numbers₀ ends₀ items₀ marks numbers ends items done at) where
+module _ {file : List ℕ} {side : Side} {table numbers₀ ends₀ items₀ marks numbers ends items : List ℕ} {done : Filled} {at : ℕ}
+    (f : SideFilling file side table numbers₀ ends₀ items₀ marks numbers ends items done at) where
   module _ (stop : recordsAt file at ≡ []) where
     pub filled-numbers : numbers ≡ filledOver (numbersOf side (records file)) numbers₀
     unfolding keep
     filled-numbers = written-whole (writing-end (f .for-numbers) (ap (numbersOf side) stop)) (omega (arith, f .for-numbers .room))
 
-    pub filled-ends : ends ≡ filledOver (endsOf side (records file)) ends₀
+    pub filled-ends : ends ≡ filledOver (endsFrom 0 (setsOfSide side table (records file))) ends₀
     unfolding keep endsFrom
     filled-ends =
-        let end = ap (λ (l : List TagRecord). endsFrom (done .entries) (setsOfSide side (tagTable (records file)) l)) stop in
+        let end = ap (λ (l : List TagRecord). endsFrom (done .entries) (setsOfSide side table l)) stop in
         written-whole (writing-end (f .for-ends) end) (omega (arith, f .for-ends .room))
 
-    pub filled-items : items ≡ filledOver (joinedItems side (records file)) items₀
+    pub filled-items : items ≡ filledOver (join (setsOfSide side table (records file))) items₀
     unfolding keep join
     filled-items =
-        let end = ap (λ (l : List TagRecord). join (setsOfSide side (tagTable (records file)) l)) stop in
+        let end = ap (λ (l : List TagRecord). join (setsOfSide side table l)) stop in
         written-whole (writing-end (f .for-items) end) (omega (arith, f .for-items .room))
 
   -- the record here, of this side or the other
   module _ {kind : Side} {n c p next : ℕ} (e : readAt file at ≡ Record kind n c p next) where
     abbrev this : TagRecord
     this = record { side = kind; number = n; tags = tagsAt c file p }
-
-    abbrev table : List ℕ
-    table = tagTable (records file)
 
     abbrev new : List ℕ
     new = itemsOf table (tagsAt c file p)
@@ -119,34 +116,52 @@ module _ {file : List ℕ} {side : Side} {numbers₀ ends₀ items₀ marks numb
     items-next : join (setsOfSide side table (recordsAt file at)) ≡ join (onto (sameSide side kind) new []) ++ join to-come
     items-next = ap join sets-next ∙ join-onto (sameSide side kind) new to-come
 
-    abbrev later : List ℕ
-    later = allTags (recordsAt file next)
+    abbrev later : List TagRecord
+    later = ofSide side (recordsAt file next)
 
-    tags-next : (y : ℕ) → memb y (allTags (recordsAt file at)) ≡ (memb y (tagsAt c file p) || memb y later)
+    side-next : ofSide side (recordsAt file at) ≡ onto (sameSide side kind) this later
+    unfolding keep
+    side-next = ap (ofSide side) rest
+
+    -- the tags of later records, and of this one where it is of the side, are known
+    held-later : (y : ℕ) → memb y (allTags later) ≡ true → memb y table ≡ true
     unfolding allTags
-    tags-next y = ap (λ (rs : List TagRecord). memb y (allTags rs)) rest ∙ memb-append y (tagsAt c file p) later
+    held-later y m =
+        f .held y (ap (λ (rs : List TagRecord). memb y (allTags rs)) side-next ∙ by-mine (sameSide side kind))
+      where
+        by-mine : (b : Bool) → memb y (allTags (onto b this later)) ≡ true
+        by-mine true =
+            memb-append y (tagsAt c file p) (allTags later) ∙ or-right (memb y (tagsAt c file p)) (memb y (allTags later)) m
+        by-mine false = m
+
+    held-here : sameSide side kind ≡ true → (y : ℕ) → memb y (tagsAt c file p) ≡ true → memb y table ≡ true
+    unfolding allTags
+    held-here mine y m =
+        f .held y (ap (λ (rs : List TagRecord). memb y (allTags rs)) (side-next ∙ ap (λ (b : Bool). onto b this later) mine)
+        ∙ memb-append y (tagsAt c file p) (allTags later)
+        ∙ or-left (memb y (tagsAt c file p)) (memb y (allTags later)) m)
 
     pub filling-known : {heads tails : List ℕ} {m : ℕ} {order ranks : List ℕ} → Sorted heads tails m order → Ranked m order ranks
-        → tableOf heads tails m order ≡ table → m ≤ maxItems → TagsKnown file heads tails m order ranks p c
-    filling-known sorted ranked same small =
+        → tableOf heads tails m order ≡ table → m ≤ maxItems → sameSide side kind ≡ true
+        → TagsKnown file heads tails m order ranks p c
+    filling-known sorted ranked same small mine =
         record {
           sorted = sorted;
           ranked = ranked;
           small = small;
           inside = omega (arith, read-past file at e, read-within file at e);
-          known = λ k h.
-              let x = tagAt file (pastTags p k) in
-              ap (memb x) same
-              ∙ f .held x (tags-next x ∙ or-left (memb x (tagsAt c file p)) (memb x later) (memb-tagsAt c file p k h));
+          known = λ k h. let x = tagAt file (pastTags p k) in ap (memb x) same ∙ held-here mine x (memb-tagsAt c file p k h);
         }
 
-    -- the items of the record are those of its tags that are marked
-    pub filling-items : {heads tails : List ℕ} {m : ℕ} {order got : List ℕ} → Sorted heads tails m order
-        → tableOf heads tails m order ≡ table → m ≤ maxItems → Marking file heads tails m order p c got → members got ≡ new
-    filling-items sorted same small marking =
-        marked-items marking (omega (arith, sorted-size sorted)) ∙ ap (λ (t : List ℕ). itemsOf t (tagsAt c file p)) same
+    -- the items of the record are those of its tags that were marked
+    module _ {got : List ℕ} (more : MarkedMore table (tagsAt c file p) marks got) where
+      pub filling-wide : length got ≡ markWords
+      filling-wide = more-fresh (f .unmarked) more .wide
 
-    pub filling-room : length (joinedItems side (records file)) ≤ maxEntries → sameSide side kind ≡ true
+      pub filling-items : length table ≤ maxItems → members got ≡ new
+      filling-items small = marked-items (more-fresh (f .unmarked) more) small
+
+    pub filling-room : length (join (setsOfSide side table (records file))) ≤ maxEntries → sameSide side kind ≡ true
         → RoomForOne (done .sets) (done .entries) new numbers ends items
     filling-room few mine =
         let a = writing-room (f .for-numbers) (n ∷ []) (numbersOf side (recordsAt file next)) (rw mine at numbers-next) in
@@ -166,22 +181,22 @@ module _ {file : List ℕ} {side : Side} {numbers₀ ends₀ items₀ marks numb
         → Put numbers (done .sets) (onto mine n []) (r .sets) numbers′
         → Put ends (done .sets) (onto mine (done .entries + length new) []) (r .sets) ends′
         → Put items (done .entries) (join (onto mine new [])) (r .entries) items′
-        → Unmarked marks′ → SideFilling file side numbers₀ ends₀ items₀ marks′ numbers′ ends′ items′ r next
+        → Unmarked marks′ → SideFilling file side table numbers₀ ends₀ items₀ marks′ numbers′ ends′ items′ r next
     filling-by mine is {r} put-number put-end put-items none =
         record {
           for-numbers = writing-step (f .for-numbers) (rw is at numbers-next) put-number;
           for-ends = writing-step (f .for-ends) (rw (is, ← put-items .past) at ends-next) put-end;
           for-items = writing-step (f .for-items) (rw is at items-next) put-items;
-          held = λ y m. f .held y (tags-next y ∙ or-right (memb y (tagsAt c file p)) (memb y later) m);
+          held = held-later;
           unmarked = none;
         }
 
     pub filling-own : sameSide side kind ≡ true → {r : Filled} {marks′ numbers′ ends′ items′ : List ℕ}
         → OneFilled (done .sets) (done .entries) n new numbers ends items r numbers′ ends′ items′
-        → Unmarked marks′ → SideFilling file side numbers₀ ends₀ items₀ marks′ numbers′ ends′ items′ r next
+        → Unmarked marks′ → SideFilling file side table numbers₀ ends₀ items₀ marks′ numbers′ ends′ items′ r next
     filling-own is o none = filling-by true is (o .put-number) (o .put-end) (rw join-one (o .put-items)) none
 
-    pub filling-other : sameSide side kind ≡ false → SideFilling file side numbers₀ ends₀ items₀ marks numbers ends items done next
+    pub filling-other : sameSide side kind ≡ false → SideFilling file side table numbers₀ ends₀ items₀ marks numbers ends items done next
     unfolding join
     filling-other is =
         filling-by false is (record { written = refl; past = omega arith }) (record { written = refl; past = omega arith })

@@ -1,27 +1,28 @@
--- One more tag of a record in the index: the tag is known, and was seen again at this turn, or it is new, and is put
--- where the search found its position. Either way what `Adding` says holds of one tag more.
+-- One more tag of a set in the index: the tag is known, and is seen, or it is new, and is put where the search found its
+-- position. Either way what `Adding` says holds of one tag more.
 use mathlib.Core.Path.{_≡_, refl, sym, ap, subst, _∙_}
-use mathlib.Core.List.{List, [], _∷_, _++_}
-use mathlib.Core.Bool.{Bool, true, false, not, _||_, or-false}
+use mathlib.Core.List.{List, [], _∷_, _++_, append-nil, append-assoc}
+use mathlib.Core.Bool.{Bool, true, false, not, _||_, or-false, or-comm}
 use Prim.Native.Nat.{ℕ, _+_, _<_, _≤_}
 use native.Mathlib.Numerals.{add-one}
 use native.Mathlib.Omega.{arith}
-use borrow.Author.Tests.{le-leb, lt-leb, eq-eqb, ne-eqb, eqb-true, eqb-false, ltb-true, ltb-false}
-use lib.Dec.{leb, ltb, eqb}
-use lib.ListN.{length, getD, set, length-set}
-use lib.Seq.{getD-set-same, getD-set-other}
+use borrow.Author.Tests.{eq-eqb, ne-eqb, eqb-true}
+use lib.Dec.{eqb}
+use lib.ListN.{length, getD, replicate, length-set, length-replicate}
 use Rattle.lists.specs.Lists.{one, memb, rising}
-use Rattle.lists.proofs.Bools.{by-test, true-false, refuted, or-right}
+use Rattle.lists.proofs.Bools.{true-false, refuted, same-test, or-left, or-right}
 use Rattle.lists.proofs.Membership.{memb-append, memb-place}
 use Rattle.lists.proofs.Rising.{rising-below}
-use Rattle.tag_file.specs.Format.{tagAt, tagLength}
+use Rattle.bit_sets.specs.BitSets.{member}
+use Rattle.bit_sets.proofs.Members.{no-member}
+use Rattle.tag_file.specs.Format.{tagAt}
 use Rattle.tag_file.specs.Reading.{tagsAt, pastTags}
 use Rattle.tag_file.specs.Records.{insert, insertAll, collapse}
 use Rattle.tag_file.proofs.Tables.{three-ways, memb-insert, rising-insert, length-insert, insert-known, insert-new}
-use Rattle.tag_file.proofs.Tables.{insertAll-last, length-insertAll-bound, rising-collapse, memb-collapse}
+use Rattle.tag_file.proofs.Tables.{insertAll-append, insertAll-last, length-insertAll-bound, rising-collapse, memb-collapse}
 use Rattle.tag_file.proofs.RecordLaws.{length-tagsAt, tagsAt-last}
-use Rattle.tag_index.specs.Index.{tagOfId, tableOf, tagValue, Lower, Seen, NewTag, Adding, OneMore, AddReady, AllAdded}
-use Rattle.tag_index.specs.Index.{indexRoom}
+use Rattle.tag_index.specs.Index.{indexRoom, seenWords, tagOfId, tableOf, tagValue, Sorted, Lower, Seen, NewTag, Adding}
+use Rattle.tag_index.specs.Index.{OneMore, AllAdded}
 use Rattle.tag_index.specs.declared.Tag.{Tag}
 use Rattle.tag_index.proofs.Ids.{id-position, sorted-size, sorted-at, sorted-lower, same-id}
 use Rattle.tag_index.proofs.Ids.{last-id, listed-put, tag-other, tag-this, table-put}
@@ -42,101 +43,78 @@ fresh-last xs x =
     ap length (insertAll-last [] xs x) ∙ length-insert x (collapse xs) (rising-collapse xs)
     ∙ ap (λ (b : Bool). length (collapse xs) + one (not b)) (memb-collapse x xs)
 
-not-leb : (a b : ℕ) → not (leb a b) ≡ ltb b a
-not-leb a b =
-    by-test (ltb b a) (λ t. rw (lt-leb a b (ltb-true b a t)) (sym t))
-    (λ f. rw (le-leb a b (ltb-false b a f)) (sym f))
+-- a set starts without tags: none is seen
+pub adding-start : {heads tails order : List ℕ} {n : ℕ} → Sorted heads tails n order
+    → Adding [] heads tails n 0 order (replicate seenWords 0)
+unfolding insertAll memb
+adding-start s =
+    record {
+      sorted = s;
+      wide = length-replicate {A = ℕ} seenWords 0;
+      marks = λ id h. no-member seenWords id;
+      held = λ y m. true-false m refl;
+      counted = refl;
+    }
 
--- ---- the tag at place pastTags start k
+-- ---- the tag x
 
-module _ {file heads tails : List ℕ} {start k turn tags fresh : ℕ} {order seen : List ℕ}
-    (a : Adding file heads tails start k turn tags fresh order seen) (inside : pastTags start k + tagLength ≤ length file) where
-  abbrev place : ℕ
-  place = pastTags start k
-
-  abbrev x : ℕ
-  x = tagAt file place
-
+module _ {done heads tails : List ℕ} {tags fresh : ℕ} {order seen : List ℕ} (a : Adding done heads tails tags fresh order seen)
+    (x : ℕ) where
   abbrev table : List ℕ
   table = tableOf heads tails tags order
 
-  abbrev done : List ℕ
-  done = tagsAt k file start
+  abbrev next : List ℕ
+  next = done ++ (x ∷ [])
 
-  memb-next : (y : ℕ) → memb y (tagsAt (k + 1) file start) ≡ (memb y done || eqb y x)
-  memb-next y = ap (memb y) (tagsAt-next k file start) ∙ memb-last y done x
+  -- whether a tag y is seen after x, where it is told before, and whether it is x
+  mark-next : {now was this : Bool} (y : ℕ) → now ≡ (this || was) → was ≡ memb y done → this ≡ eqb y x → now ≡ memb y next
+  mark-next {now} {was} {this} y n w t = n ∙ rw (w, t) (or-comm (eqb y x) (memb y done)) ∙ sym (memb-last y done x)
 
-  -- what the turn of a tag says after one tag more: of another tag as before, of this one that it is there
-  mark-other : (q y : ℕ) → (y ≡ x → ⊥) → leb turn q ≡ memb y done → leb turn q ≡ memb y (tagsAt (k + 1) file start)
-  mark-other q y ne e = e ∙ sym (memb-next y ∙ ap (λ (b : Bool). memb y done || b) (ne-eqb y x ne) ∙ or-false (memb y done))
+  counted-next : {f : ℕ} → f ≡ fresh + one (not (memb x done)) → f ≡ length (collapse next)
+  counted-next e = e ∙ ap (λ (m : ℕ). m + one (not (memb x done))) (a .counted) ∙ sym (fresh-last done x)
 
-  mark-this : leb turn turn ≡ memb x (tagsAt (k + 1) file start)
-  mark-this = le-leb turn turn (omega arith) ∙ sym (memb-next x ∙ or-right (memb x done) (eqb x x) (eq-eqb x x refl))
-
-  counted-next : {f : ℕ} → f ≡ fresh + one (not (memb x done)) → f ≡ length (collapse (tagsAt (k + 1) file start))
-  counted-next {f} e =
-      e ∙ ap (λ (m : ℕ). m + one (not (memb x done))) (a .counted)
-      ∙ sym (ap (λ (l : List ℕ). length (collapse l)) (tagsAt-next k file start) ∙ fresh-last done x)
-
-  held-next : (new : List ℕ) → new ≡ insert x table → (y : ℕ) → memb y (tagsAt (k + 1) file start) ≡ true → memb y new ≡ true
+  held-next : (new : List ℕ) → new ≡ insert x table → (y : ℕ) → memb y next ≡ true → memb y new ≡ true
   held-next new e y m = ap (memb y) e ∙ memb-insert y x table ∙ here (eqb y x) refl
     where
       here : (b : Bool) → eqb y x ≡ b → (b || memb y table) ≡ true
       here true t = refl
       here false f =
-          a .held y (sym (or-false (memb y done)) ∙ ap (λ (b : Bool). memb y done || b) (sym f) ∙ sym (memb-next y) ∙ m)
+          a .held y (sym (or-false (memb y done)) ∙ ap (λ (b : Bool). memb y done || b) (sym f) ∙ sym (memb-last y done x) ∙ m)
 
-  module _ (id : ℕ) (h : id < tags) (e : tagOfId heads tails id ≡ x) where
-    known : OneMore file start k turn tags heads tails order tags (fresh + one (ltb (getD seen id 0) turn))
-        heads tails order (set seen id turn)
-    known =
-        record {
-          adding = record {
-            sorted = a .sorted;
-            wide = length-set seen id turn ∙ a .wide;
-            inside = omega arith;
-            before = each (λ q y. q ≤ turn) (omega arith) (λ j g ne. omega (arith, a .before j g));
-            marks = each (λ q y. leb turn q ≡ memb y (tagsAt (k + 1) file start)) mark-this
-                (λ j g ne. mark-other (getD seen j 0) (tagOfId heads tails j)
-                (λ q. ne (same-id (a .sorted) j id g h (q ∙ sym e))) (a .marks j g));
-            held = held-next table (sym kept);
-            counted = counted-next (ap (λ (b : Bool). fresh + one b)
-                (sym (not-leb turn (getD seen id 0)) ∙ ap not (a .marks id h ∙ ap (λ (y : ℕ). memb y done) e)));
-          };
-          table = sym kept;
-          bound = omega arith;
-        }
-      where
-        kept : insert x table ≡ table
-        kept =
-            let p = id-position (a .sorted .listed) id h in
-            let here : tagOfId heads tails (getD order (p .at) 0) ≡ x = ap (tagOfId heads tails) (p .here) ∙ e in
-            insert-known x table (p .at) (omega (arith, p .below, sorted-size (a .sorted)))
-            (sorted-lower (a .sorted) (p .at) x (p .below) here .below)
-            (sorted-at (a .sorted) (p .at) (p .below) ∙ here)
+  pub adding-known : (id : ℕ) → id < tags → tagOfId heads tails id ≡ x → {r : ℕ} {is : List ℕ} → Seen seen id r is
+      → OneMore done x tags heads tails order tags (fresh + r) heads tails order is
+  adding-known id h e {r} {is} s =
+      record {
+        adding = record {
+          sorted = a .sorted;
+          wide = s .marked .size ∙ a .wide;
+          marks = λ j g. mark-next (tagOfId heads tails j) (s .marked .holds j) (a .marks j g) (this j g);
+          held = held-next table (sym kept);
+          counted = counted-next (ap (λ (k : ℕ). fresh + k)
+              (s .counted ∙ ap (λ (b : Bool). one (not b)) (a .marks id h ∙ ap (λ (y : ℕ). memb y done) e)));
+        };
+        table = sym kept;
+      }
+    where
+      this : (j : ℕ) → j < tags → eqb j id ≡ eqb (tagOfId heads tails j) x
+      this j g =
+          same-test (eqb j id) (eqb (tagOfId heads tails j) x)
+          (λ t. eq-eqb (tagOfId heads tails j) x (ap (tagOfId heads tails) (eqb-true j id t) ∙ e))
+          (λ t. eq-eqb j id (same-id (a .sorted) j id g h (eqb-true (tagOfId heads tails j) x t ∙ sym e)))
 
-        each : (P : ℕ → ℕ → Type 0) → P turn x → ((j : ℕ) → j < tags → (j ≡ id → ⊥) → P (getD seen j 0) (tagOfId heads tails j))
-            → (j : ℕ) → j < tags → P (getD (set seen id turn) j 0) (tagOfId heads tails j)
-        each P new old j g = by-test (eqb j id) (λ t. same j (eqb-true j id t)) (λ f. other j g (eqb-false j id f))
-          where
-            here : P (getD (set seen id turn) id 0) (tagOfId heads tails id)
-            here = rw (getD-set-same seen id turn 0 (omega (arith, a .wide, a .sorted .listed .room)), e) new
-
-            same : (j : ℕ) → j ≡ id → P (getD (set seen id turn) j 0) (tagOfId heads tails j)
-            same j q = subst (λ (m : ℕ). P (getD (set seen id turn) m 0) (tagOfId heads tails m)) (sym q) here
-
-            other : (j : ℕ) → j < tags → (j ≡ id → ⊥) → P (getD (set seen id turn) j 0) (tagOfId heads tails j)
-            other j g ne = rw (getD-set-other seen id j turn 0 ne) (old j g ne)
-
-    pub adding-known : {r : ℕ} {is : List ℕ} → Seen seen id turn r is
-        → OneMore file start k turn tags heads tails order tags (fresh + r) heads tails order is
-    adding-known s = rw (s .counted, s .set-to) known
+      kept : insert x table ≡ table
+      kept =
+          let p = id-position (a .sorted .listed) id h in
+          let here : tagOfId heads tails (getD order (p .at) 0) ≡ x = ap (tagOfId heads tails) (p .here) ∙ e in
+          insert-known x table (p .at) (omega (arith, p .below, sorted-size (a .sorted)))
+          (sorted-lower (a .sorted) (p .at) x (p .below) here .below)
+          (sorted-at (a .sorted) (p .at) (p .below) ∙ here)
 
   module _ (at : ℕ) (low : Lower table x at) (free : tags < indexRoom)
       (missing : at < tags → tagOfId heads tails (getD order at 0) ≡ x → ⊥) where
     pub adding-new : {tag : Tag} {now-heads now-tails now-order now-seen : List ℕ} → tagValue tag ≡ x
-        → NewTag heads tails order seen tags at tag turn now-heads now-tails now-order now-seen
-        → OneMore file start k turn tags heads tails order (tags + 1) (fresh + 1) now-heads now-tails now-order now-seen
+        → NewTag heads tails order seen tags at tag now-heads now-tails now-order now-seen
+        → OneMore done x tags heads tails order (tags + 1) (fresh + 1) now-heads now-tails now-order now-seen
     adding-new {tag} {now-heads} {now-tails} {now-order} {now-seen} value p =
         record {
           adding = record {
@@ -149,16 +127,12 @@ module _ {file heads tails : List ℕ} {start k turn tags fresh : ℕ} {order se
               listed = listed-put (a .sorted .listed) free within (p .order-to);
               rises = ap rising wider ∙ rising-insert x table (a .sorted .rises);
             };
-            wide = ap length (p .seen-to) ∙ length-set seen tags turn ∙ a .wide;
-            inside = omega arith;
-            before = each (λ q y. q ≤ turn) (omega arith) (λ j g. omega (arith, a .before j g));
-            marks = each (λ q y. leb turn q ≡ memb y (tagsAt (k + 1) file start)) mark-this
-                (λ j g. mark-other (getD seen j 0) (tagOfId heads tails j) (differs j g) (a .marks j g));
+            wide = p .marked .size ∙ a .wide;
+            marks = last-id (λ j. member now-seen j ≡ memb (tagOfId now-heads now-tails j) next) tags this other;
             held = held-next (tableOf now-heads now-tails (tags + 1) now-order) wider;
             counted = counted-next (ap (λ (b : Bool). fresh + one (not b)) (sym absent));
           };
           table = wider;
-          bound = omega arith;
         }
       where
         within : at ≤ tags
@@ -200,71 +174,108 @@ module _ {file heads tails : List ℕ} {start k turn tags fresh : ℕ} {order se
             refuted (memb x done) (λ m. let q = memb-place x table (a .held x m) in
             apart (q .at) (omega (arith, q .below, sorted-size (a .sorted))) (q .here))
 
-        each : (P : ℕ → ℕ → Type 0) → P turn x → ((j : ℕ) → j < tags → P (getD seen j 0) (tagOfId heads tails j))
-            → (j : ℕ) → j < tags + 1 → P (getD now-seen j 0) (tagOfId now-heads now-tails j)
-        each P new old =
-            let stored = getD-set-same seen tags turn 0 (omega (arith, a .wide)) in
-            last-id (λ j. P (getD now-seen j 0) (tagOfId now-heads now-tails j)) tags
-            (rw (p .seen-to, stored, tag-this p heads-room tails-room, value) new)
-            (λ j g. rw (p .seen-to, getD-set-other seen tags j turn 0 (λ e. omega arith), tag-other p j g) (old j g))
+        this : member now-seen tags ≡ memb (tagOfId now-heads now-tails tags) next
+        this =
+            p .marked .holds tags ∙ or-left (eqb tags tags) (member seen tags) (eq-eqb tags tags refl)
+            ∙ sym (ap (λ (y : ℕ). memb y next) (tag-this p heads-room tails-room ∙ value) ∙ memb-last x done x
+            ∙ or-right (memb x done) (eqb x x) (eq-eqb x x refl))
 
--- a record has at most as many distinct tags as tags
-pub fresh-bound : {file heads tails : List ℕ} {start k turn tags fresh : ℕ} {order seen : List ℕ}
-    → Adding file heads tails start k turn tags fresh order seen → fresh ≤ k
-fresh-bound {file} {heads} {tails} {start} {k} {turn} a =
-    omega (arith, a .counted, length-insertAll-bound [] (tagsAt k file start), length-tagsAt k file start)
+        other : (j : ℕ) → j < tags → member now-seen j ≡ memb (tagOfId now-heads now-tails j) next
+        other j g =
+            mark-next (tagOfId heads tails j) (p .marked .holds j) (a .marks j g)
+            (ne-eqb j tags (λ e. omega arith) ∙ sym (ne-eqb (tagOfId heads tails j) x (differs j g)))
+            ∙ sym (ap (λ (y : ℕ). memb y next) (tag-other p j g))
+
+-- ---- how many more there are with some tags more
+
+module _ {done heads tails : List ℕ} {n old : ℕ} {order seen : List ℕ} (a : Adding done heads tails n old order seen) (xs : List ℕ)
+    {tags : ℕ} {now-heads now-tails now-order : List ℕ} where
+  -- in the index
+  tags-most : Sorted now-heads now-tails tags now-order
+      → tableOf now-heads now-tails tags now-order ≡ insertAll (tableOf heads tails n order) xs → tags ≤ n + length xs
+  tags-most s e =
+      omega (
+        arith,
+        sorted-size s,
+        ap length e,
+        length-insertAll-bound (tableOf heads tails n order) xs,
+        sorted-size (a .sorted),
+      )
+
+  -- among the distinct ones of the set
+  fresh-most : {fresh : ℕ} {now-seen : List ℕ} → Adding (done ++ xs) now-heads now-tails tags fresh now-order now-seen
+      → fresh ≤ old + length xs
+  fresh-most b =
+      omega (
+        arith,
+        b .counted,
+        ap length (insertAll-append [] done xs),
+        length-insertAll-bound (collapse done) xs,
+        a .counted,
+      )
 
 -- ---- the tags of a record one after the other: the invariant of `add_tags`, with its start, step and end
 
-pub record Going (file : List ℕ) (start count turn n : ℕ) (was-heads was-tails was-order : List ℕ) (k tags fresh : ℕ)
+pub record Going (done file : List ℕ) (start count n : ℕ) (was-heads was-tails was-order : List ℕ) (k tags fresh : ℕ)
     (heads tails order seen : List ℕ) : Type 0 where
-  pub adding : Adding file heads tails start k turn tags fresh order seen
+  pub adding : Adding (done ++ tagsAt k file start) heads tails tags fresh order seen
   pub table : tableOf heads tails tags order ≡ insertAll (tableOf was-heads was-tails n was-order) (tagsAt k file start)
   pub within : k ≤ count
-  pub bound : tags ≤ n + k
 
-module _ {file : List ℕ} {start count turn n : ℕ} {was-heads was-tails was-order : List ℕ} where
-  pub going-start : {seen : List ℕ} → AddReady file start count turn n was-heads was-tails was-order seen
-      → Going file start count turn n was-heads was-tails was-order 0 n 0 was-heads was-tails was-order seen
-  unfolding tagsAt insertAll memb
-  going-start {seen} r =
+module _ {done file : List ℕ} {start count n old : ℕ} {was-heads was-tails was-order was-seen : List ℕ}
+    (a : Adding done was-heads was-tails n old was-order was-seen) where
+  pub going-start : Going done file start count n was-heads was-tails was-order 0 n old was-heads was-tails was-order was-seen
+  unfolding tagsAt insertAll
+  going-start =
       record {
-        adding = record {
-          sorted = r .sorted;
-          wide = r .wide;
-          inside = omega (arith, r .inside);
-          before = λ j h. omega (arith, r .before j h);
-          marks = λ j h. lt-leb turn (getD seen j 0) (r .before j h);
-          held = λ y m. true-false m refl;
-          counted = refl;
-        };
+        adding = subst (λ (l : List ℕ). Adding l was-heads was-tails n old was-order was-seen) (sym (append-nil done)) a;
         table = refl;
         within = omega arith;
-        bound = omega arith;
       }
 
   module _ {k tags fresh : ℕ} {heads tails order seen : List ℕ}
-      (g : Going file start count turn n was-heads was-tails was-order k tags fresh heads tails order seen) where
+      (g : Going done file start count n was-heads was-tails was-order k tags fresh heads tails order seen) where
+    pub going-tags : tags ≤ n + k
+    going-tags = omega (arith, tags-most a (tagsAt k file start) (g .adding .sorted) (g .table), length-tagsAt k file start)
+
+    pub going-fresh : fresh ≤ old + k
+    going-fresh = omega (arith, fresh-most a (tagsAt k file start) (g .adding), length-tagsAt k file start)
+
     pub going-step : {now-tags now-fresh : ℕ} {now-heads now-tails now-order now-seen : List ℕ} → k < count
-        → OneMore file start k turn tags heads tails order now-tags now-fresh now-heads now-tails now-order now-seen
-        → Going file start count turn n was-heads was-tails was-order (k + 1) now-tags now-fresh now-heads now-tails now-order now-seen
-    going-step h o =
+        → OneMore (done ++ tagsAt k file start) (tagAt file (pastTags start k)) tags heads tails order now-tags now-fresh
+        now-heads now-tails now-order now-seen
+        → Going done file start count n was-heads was-tails was-order (k + 1) now-tags now-fresh
+        now-heads now-tails now-order now-seen
+    going-step {now-tags} {now-fresh} {now-heads} {now-tails} {now-order} {now-seen} h o =
+        let x = tagAt file (pastTags start k) in
+        let more : (done ++ tagsAt k file start) ++ (x ∷ []) ≡ done ++ tagsAt (k + 1) file start =
+        append-assoc done (tagsAt k file start) (x ∷ []) ∙ ap (λ (l : List ℕ). done ++ l) (sym (tagsAt-next k file start))
+        in
         record {
-          adding = o .adding;
-          table = o .table ∙ ap (insert (tagAt file (pastTags start k))) (g .table)
-              ∙ sym (insertAll-last (tableOf was-heads was-tails n was-order) (tagsAt k file start) (tagAt file (pastTags start k)))
+          adding = subst (λ (l : List ℕ). Adding l now-heads now-tails now-tags now-fresh now-order now-seen) more (o .adding);
+          table = o .table ∙ ap (insert x) (g .table)
+              ∙ sym (insertAll-last (tableOf was-heads was-tails n was-order) (tagsAt k file start) x)
               ∙ sym (ap (insertAll (tableOf was-heads was-tails n was-order)) (tagsAt-next k file start));
           within = omega arith;
-          bound = omega (arith, g .bound, o .bound);
         }
 
-    pub going-end : count ≤ k → AllAdded file start count turn n was-heads was-tails was-order tags fresh heads tails order seen
+    pub going-end : count ≤ k → AllAdded done file start count n was-heads was-tails was-order tags fresh heads tails order seen
     going-end past =
         let here : k ≡ count = omega (arith, g .within) in
         record {
-          sorted = g .adding .sorted;
-          wide = g .adding .wide;
-          before = g .adding .before;
+          adding = subst (λ (m : ℕ). Adding (done ++ tagsAt m file start) heads tails tags fresh order seen) here (g .adding);
           table = g .table ∙ ap (λ (m : ℕ). insertAll (tableOf was-heads was-tails n was-order) (tagsAt m file start)) here;
-          counted = g .adding .counted ∙ ap (λ (m : ℕ). length (collapse (tagsAt m file start))) here;
         }
+
+  module _ {tags fresh : ℕ} {heads tails order seen : List ℕ}
+      (all : AllAdded done file start count n was-heads was-tails was-order tags fresh heads tails order seen) where
+    pub added-tags : tags ≤ n + count
+    added-tags =
+        omega (
+          arith,
+          tags-most a (tagsAt count file start) (all .adding .sorted) (all .table),
+          length-tagsAt count file start,
+        )
+
+    pub added-fresh : fresh ≤ old + count
+    added-fresh = omega (arith, fresh-most a (tagsAt count file start) (all .adding), length-tagsAt count file start)

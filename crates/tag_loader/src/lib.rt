@@ -41,7 +41,7 @@ fn clear_side(numbers: &mut [u16], ends: &mut [u32], items: &mut [u16])
 }
 
 // Fills the seven lists with zeros.
-fn clear_lists(
+pub fn clear_lists(
     tags: &mut [u8],
     left_numbers: &mut [u16],
     left_ends: &mut [u32],
@@ -64,7 +64,7 @@ fn clear_lists(
 }
 
 // Whether lists of these lengths hold what was counted.
-fn has_room(
+pub fn has_room(
     total: Loaded,
     tags: usize,
     left_numbers: usize,

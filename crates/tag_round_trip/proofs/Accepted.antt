@@ -1,4 +1,4 @@
--- What an accepted load fills: the filled parts of the lists are what the file's records give.
+-- What an accepted load fills: the filled parts of the lists are what the records give, which for a load are the file's.
 use mathlib.Core.Path.{_≡_, ap, _∙_}
 use Prim.Native.Nat.{ℕ}
 use mathlib.Core.List.{List}
@@ -9,11 +9,11 @@ use Rattle.tag_file.specs.declared.Loaded.{Loaded}
 use Rattle.tag_file.specs.declared.LoadAnswer.{LoadAnswer}
 use Rattle.tag_file.specs.declared.LoadAnswer.the-variants as load
 use Rattle.tag_file.specs.Format.{tagBytes}
-use Rattle.tag_file.specs.Records.{records, tagTable}
-use Rattle.tag_file.specs.Loading.{Lists, filled, totalsOf, loadAnswer, lentAfter, numbersOf}
+use Rattle.tag_file.specs.Records.{TagRecord, records, tagTable}
+use Rattle.tag_file.specs.Loading.{Lists, filled, totalsOf, loadAnswer, lentAfter, listsBy, numbersOf}
 use Rattle.tag_file.specs.Loading.{endsOf, joinedItems}
 use Rattle.tag_file.proofs.ItemCount.{length-tagBytes, length-numbersOf, length-endsOf, length-joinedItems}
-use Rattle.tag_round_trip.specs.Trips.{loadedFrom}
+use Rattle.tag_round_trip.specs.Trips.{partsOf, Fills, loadedFrom}
 
 -- seven equal lists
 lists-same : {a b c d e f g a′ b′ c′ d′ e′ f′ g′ : List ℕ} → a ≡ a′ → b ≡ b′ → c ≡ c′ → d ≡ d′ → e ≡ e′ → f ≡ f′ → g ≡ g′
@@ -28,11 +28,10 @@ part-filled : (answer : LoadAnswer) (counts : Loaded) (part lent : List ℕ) (n 
 part-filled answer counts part lent n e long =
     ap (λ (a : LoadAnswer). take n (lentAfter a part lent)) e ∙ take-at part (drop (length part) lent) n long
 
--- the filled parts of the lists are what the records give
-pub parts-filled : (file : List ℕ) (lent : Lists) → loadAnswer file lent ≡ load.Loaded (totalsOf (records file))
-    → loadedFrom file lent (totalsOf (records file)) ≡ filled (records file)
-parts-filled file lent e =
-    let rs = records file in
+-- the filled parts of the lists are what the records give, after any answer that accepts
+parts-by : (rs : List TagRecord) (lent : Lists) (answer : LoadAnswer) (counts : Loaded) → answer ≡ load.Loaded counts
+    → partsOf (totalsOf rs) (listsBy answer (filled rs) lent) ≡ filled rs
+parts-by rs lent answer counts e =
     lists-same
     (part-filled _ _ (tagBytes (tagTable rs)) (lent .tags) _ e (length-tagBytes (tagTable rs)))
     (part-filled _ _ (numbersOf Left rs) (lent .leftNumbers) _ e (length-numbersOf Left rs))
@@ -41,3 +40,17 @@ parts-filled file lent e =
     (part-filled _ _ (numbersOf Right rs) (lent .rightNumbers) _ e (length-numbersOf Right rs))
     (part-filled _ _ (endsOf Right rs) (lent .rightEnds) _ e (length-endsOf Right rs))
     (part-filled _ _ (joinedItems Right rs) (lent .rightItems) _ e (length-joinedItems Right rs))
+
+pub lists-fill : (rs : List TagRecord) (lent got : Lists) (answer : LoadAnswer) (counts : Loaded) → answer ≡ load.Loaded counts
+    → counts ≡ totalsOf rs → got ≡ listsBy answer (filled rs) lent → Fills rs counts got
+lists-fill rs lent got answer counts e counted after =
+    record {
+      counted = counted;
+      lists =
+          ap (λ (c : Loaded). partsOf c got) counted ∙ ap (partsOf (totalsOf rs)) after ∙ parts-by rs lent answer counts e;
+    }
+
+-- of a load
+pub parts-filled : (file : List ℕ) (lent : Lists) → loadAnswer file lent ≡ load.Loaded (totalsOf (records file))
+    → loadedFrom file lent (totalsOf (records file)) ≡ filled (records file)
+parts-filled file lent e = parts-by (records file) lent (loadAnswer file lent) (totalsOf (records file)) e

@@ -22,7 +22,6 @@ use Rattle.tag_file.specs.Records.{collapse, itemsOf}
 use Rattle.tag_file.proofs.Tables.{memb-collapse}
 use Rattle.tag_file.proofs.ItemCount.{keep-collapse, item-count}
 use Rattle.tag_writer.specs.Writer.{itemTag, itemTags}
-use Rattle.tag_round_trip.proofs.Sorted.{length-collapse}
 use Rattle.tag_round_trip.proofs.Values.{tagsFit, tagAt-table}
 
 map-keep : (f : ℕ → ℕ) (p : ℕ → Bool) (xs : List ℕ) → map f (keep (λ x. p (f x)) xs) ≡ keep p (map f xs)
@@ -70,10 +69,9 @@ module _ (table tags : List ℕ) (r : rising table ≡ true) (sub : subset tags 
       (ltb-true i (length table) (all-elim _ (itemsOf table tags) (items-below table tags) i there)))
       ∙ items-tags
 
-  pub items-good : length tags ≤ maxSetLength → goodItems (length table) (itemsOf table tags) ≡ true
+  pub items-good : length (collapse tags) ≤ maxSetLength → goodItems (length table) (itemsOf table tags) ≡ true
   items-good few =
       let n = item-count table tags r (subset-elim tags table sub) in
-      let most = length-collapse tags in
       and-both (le-leb (length (itemsOf table tags)) maxSetLength (omega arith))
       (and-both (items-below table tags) (items-rising table tags))
 

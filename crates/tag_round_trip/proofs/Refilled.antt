@@ -2,7 +2,7 @@
 use mathlib.Core.Path.{_≡_, refl, sym, ap, _∙_}
 use Prim.Native.Nat.{ℕ, suc, _+_, _≤_}
 use mathlib.Core.List.{List, [], _∷_, _++_, map, append-assoc}
-use mathlib.Core.Bool.{true, _||_}
+use mathlib.Core.Bool.{Bool, true, _||_}
 use native.Mathlib.Omega.{arith}
 use borrow.Author.Tests.{le-leb, leb-true}
 use lib.Dec.{leb}
@@ -10,7 +10,7 @@ use lib.ListN.{length, length-append, length-map}
 use Rattle.lists.specs.Lists.{all, memb, rising, subset}
 use Rattle.lists.proofs.Bools.{and-both, and-left, and-right, or-left, or-right}
 use Rattle.lists.proofs.Membership.{memb-append}
-use Rattle.lists.proofs.Throughout.{subset-intro}
+use Rattle.lists.proofs.Throughout.{subset-intro, all-weaken}
 use Rattle.lists.proofs.Filtering.{all-keep, all-kept}
 use Rattle.sets.specs.Limits.{maxSets, maxEntries, maxSetLength}
 use Rattle.sets.specs.Collections.{between, setsOf, goodItems, goodEnd, firstBad, firstBadFrom}
@@ -31,7 +31,22 @@ use Rattle.tag_writer.proofs.Tests.{side-even}
 use Rattle.tag_round_trip.specs.Rewritten.{sideRecords, recordsOfLists, collapsed, collapsedSide, rewritten}
 use Rattle.tag_round_trip.proofs.Decoding.{between-joined, sets-joined}
 use Rattle.tag_round_trip.proofs.Items.{tags-of-items, items-good}
+use Rattle.tag_round_trip.proofs.Sorted.{length-collapse}
 use Rattle.tag_round_trip.proofs.Values.{tagsFit}
+
+-- whether each record has no more distinct tags than the greatest set length
+abbrev pub setsFew : List TagRecord → Bool
+setsFew rs = all (λ r. leb (length (collapse (r .tags))) maxSetLength) rs
+
+-- records that have no more tags than that are such
+pub sets-few : (rs : List TagRecord) → all (λ r. leb (length (r .tags)) maxSetLength) rs ≡ true → setsFew rs ≡ true
+sets-few rs few =
+    all-weaken (λ r. leb (length (r .tags)) maxSetLength) (λ r. leb (length (collapse (r .tags))) maxSetLength) rs
+    (λ r short.
+    let most = length-collapse (r .tags) in
+    let raw : length (r .tags) ≤ maxSetLength = leb-true (length (r .tags)) maxSetLength short in
+    le-leb (length (collapse (r .tags))) maxSetLength (omega arith))
+    few
 
 -- every record's tags are in a table that has all tags
 tags-within : (table : List ℕ) (rs : List TagRecord) → ((x : ℕ) → memb x (allTags rs) ≡ true → memb x table ≡ true)
@@ -73,16 +88,16 @@ module _ (side : Side) (table : List ℕ) (r : rising table ≡ true) where
   -- ---- the sets are good
 
   sets-good : (rs : List TagRecord) → all (λ r. subset (r .tags) table) rs ≡ true
-      → all (λ r. leb (length (r .tags)) maxSetLength) rs ≡ true
+      → setsFew rs ≡ true
       → all (goodItems (length table)) (map (λ r. itemsOf table (r .tags)) rs) ≡ true
   unfolding all
   sets-good [] sub few = refl
   sets-good (s ∷ rs) sub few =
       and-both
       (items-good table (s .tags) r (and-left (subset (s .tags) table) (all (λ r. subset (r .tags) table) rs) sub)
-      (leb-true _ _ (and-left (leb (length (s .tags)) maxSetLength) (all (λ r. leb (length (r .tags)) maxSetLength) rs) few)))
+      (leb-true _ _ (and-left (leb (length (collapse (s .tags))) maxSetLength) (setsFew rs) few)))
       (sets-good rs (and-right (subset (s .tags) table) (all (λ r. subset (r .tags) table) rs) sub)
-      (and-right (leb (length (s .tags)) maxSetLength) (all (λ r. leb (length (r .tags)) maxSetLength) rs) few))
+      (and-right (leb (length (collapse (s .tags))) maxSetLength) (setsFew rs) few))
 
 -- good sets that were joined, within the limits, have no bad one among them
 good-joined : (T k start : ℕ) (before : List ℕ) (sets : List (List ℕ)) → length before ≡ start → k + length sets ≤ maxSets
@@ -115,22 +130,28 @@ module _ (rs : List TagRecord) where
   side-sets side = sets-joined (setsOfSide side (tagTable rs) rs)
 
   -- no set of a side is bad, within the limits
-  module _ (side : Side) (few : all (λ r. leb (length (r .tags)) maxSetLength) rs ≡ true) (places : length (ofSide side rs) ≤ maxSets)
+  module _ (side : Side) (few : setsFew rs ≡ true) (places : length (ofSide side rs) ≤ maxSets)
       (entries : entriesOf side rs ≤ maxEntries) where
-    pub side-unbad : firstBad (length (tagTable rs)) (endsOf side rs) (joinedItems side rs) ≡ Good
-    side-unbad =
+    pub sets-unbad : firstBad (length (tagTable rs)) (endsOf side rs) (joinedItems side rs) ≡ Good
+    sets-unbad =
         let table = tagTable rs in
         let sets = setsOfSide side table rs in
         let n : length sets ≡ length (ofSide side rs) = length-map (ofSide side rs) (λ r. itemsOf table (r .tags)) in
         let m : length (join sets) ≡ entriesOf side rs = length-joinedItems side rs in
         good-joined (length table) 0 0 [] sets refl (omega arith) (omega arith)
         (sets-good side table (rising-collapse (allTags rs)) (ofSide side rs) (own-tags side)
-        (all-keep (λ r. leb (length (r .tags)) maxSetLength) (λ r. sameSide side (r .side)) rs few))
+        (all-keep (λ r. leb (length (collapse (r .tags))) maxSetLength) (λ r. sameSide side (r .side)) rs few))
 
     pub side-good : numberedTest (length (tagTable rs)) side (numbersOf side rs) (endsOf side rs) (joinedItems side rs) ≡ Passed
     side-good =
         sym (side-even (length (tagTable rs)) side (numbersOf side rs) (endsOf side rs) (joinedItems side rs)
-        (ap (noBadSet side) side-unbad) (length-numbersOf side rs ∙ sym (length-endsOf side rs)))
+        (ap (noBadSet side) sets-unbad) (length-numbersOf side rs ∙ sym (length-endsOf side rs)))
+
+  -- the same of records that have no more tags than the greatest set length
+  pub side-unbad : (side : Side) → all (λ r. leb (length (r .tags)) maxSetLength) rs ≡ true
+      → length (ofSide side rs) ≤ maxSets → entriesOf side rs ≤ maxEntries
+      → firstBad (length (tagTable rs)) (endsOf side rs) (joinedItems side rs) ≡ Good
+  side-unbad side few places entries = sets-unbad side (sets-few rs few) places entries
 
   pub lists-records : tagsFit (tagTable rs) ≡ true → recordsOfLists (filled rs) ≡ rewritten rs
   unfolding rewritten

@@ -59,11 +59,11 @@ module _ {A : Type 0} where
 
 -- ---- each side
 
-other-left : (s : Side) → sameSide Left s ≡ true → sameSide Right s ≡ false
+pub other-left : (s : Side) → sameSide Left s ≡ true → sameSide Right s ≡ false
 other-left Left e = refl
 other-left Right e = sym e
 
-other-right : (s : Side) → sameSide Right s ≡ true → sameSide Left s ≡ false
+pub other-right : (s : Side) → sameSide Right s ≡ true → sameSide Left s ≡ false
 other-right Left e = sym e
 other-right Right e = refl
 

@@ -9,7 +9,8 @@ use Rattle.tag_file.specs.declared.Loaded.{Loaded}
 use Rattle.tag_file.specs.declared.LoadAnswer.the-variants as load
 use Rattle.tag_writer.specs.declared.WriteAnswer.the-variants as write
 use Rattle.tag_file.specs.Format.{tagLength}
-use Rattle.tag_file.specs.Loading.{Lists, roomFor, loadAnswer, listsAfter}
+use Rattle.tag_file.specs.Records.{TagRecord}
+use Rattle.tag_file.specs.Loading.{Lists, filled, totalsOf, roomFor, loadAnswer, listsAfter}
 use Rattle.tag_writer.specs.Writer.{fileBytes, writeAnswer, writtenFile}
 
 -- the parts of seven lists that a load with these counts filled
@@ -24,6 +25,11 @@ partsOf counts l =
       rightEnds = take (counts .«right_sets») (l .rightEnds);
       rightItems = take (counts .«right_entries») (l .rightItems);
     }
+
+-- seven lists that hold what records give, with their counts
+pub record Fills (rs : List TagRecord) (counts : Loaded) (got : Lists) : Type 0 where
+  pub counted : counts ≡ totalsOf rs
+  pub lists : partsOf counts got ≡ filled rs
 
 -- what the loader filled
 abbrev pub loadedFrom : List ℕ → Lists → Loaded → Lists

@@ -4,7 +4,6 @@ use mathlib.Core.List.{List, [], _∷_, _++_, append-nil, append-assoc}
 use mathlib.Core.Bool.{true, false, _||_}
 use Prim.Native.Nat.{ℕ, _+_}
 use native.Mathlib.Nat.{add-zero}
-use native.Mathlib.Omega.{arith}
 use borrow.Author.Tests.{ltb-false}
 use lib.Dec.{ltb}
 use lib.ListN.{length, length-append}
@@ -19,7 +18,7 @@ use Rattle.tag_file.specs.declared.Loaded.{Loaded}
 use Rattle.tag_file.specs.Records.{TagRecord, sameSide, ofSide, insertAll, collapse, allTags, tagTable, entriesOf}
 use Rattle.tag_file.specs.Loading.{tooMany, totalsOf}
 use Rattle.tag_file.proofs.Tables.{insertAll-append}
-use Rattle.tag_scan.specs.Scan.{grownBy, turnOf, isOver, Limited}
+use Rattle.tag_scan.specs.Scan.{grownBy, isOver, Limited}
 
 allTags-last : (rs : List TagRecord) (r : TagRecord) → allTags (rs ++ (r ∷ [])) ≡ allTags rs ++ r .tags
 unfolding allTags
@@ -80,11 +79,6 @@ grown-counts rs r tags fresh et ef = by-side (r .side) refl
 pub grown-tags : (t : Loaded) (side : Side) (tags fresh : ℕ) → grownBy t side tags fresh .tags ≡ tags
 grown-tags t Left tags fresh = refl
 grown-tags t Right tags fresh = refl
-
--- a record later it is one turn later
-pub grown-turn : (t : Loaded) (side : Side) (tags fresh : ℕ) → turnOf (grownBy t side tags fresh) ≡ turnOf t + 1
-grown-turn t Left tags fresh = omega arith
-grown-turn t Right tags fresh = omega arith
 
 pub over-tooMany : (side : Side) (rs : List TagRecord) → isOver (totalsOf rs) side ≡ tooMany side rs
 unfolding tooMany

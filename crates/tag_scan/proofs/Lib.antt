@@ -1,7 +1,5 @@
 -- Laws of the loader's first pass; each function that needs a proof file has its folder beside them.
 pub mod Numbers
 pub mod Counting
-pub mod AfterFaults
 pub mod Taking
 pub mod Scanning
-pub mod Passes

@@ -158,67 +158,137 @@ pub fn lengths_needed(loaded: &LoadedFile) -> [usize; 7] {
     [12 * loaded.tags.len(), sets(0), sets(0), entries(0), sets(1), sets(1), entries(1)]
 }
 
+/// Whether one of seven lists is shorter than it needs to be.
+pub fn is_short(lengths: [usize; 7], needed: [usize; 7]) -> bool {
+    lengths.iter().zip(needed).any(|(&length, needed)| length < needed)
+}
+
+/// The seven lists that a loader is lent.
+struct Seven {
+    tags: Lent<u8>,
+    left_numbers: Lent<u16>,
+    left_ends: Lent<u32>,
+    left_items: Lent<u16>,
+    right_numbers: Lent<u16>,
+    right_ends: Lent<u32>,
+    right_items: Lent<u16>,
+}
+
+impl Seven {
+    fn new(random: &mut Random, lengths: [usize; 7]) -> Seven {
+        Seven {
+            tags: Lent::new(random, lengths[0]),
+            left_numbers: Lent::new(random, lengths[1]),
+            left_ends: Lent::new(random, lengths[2]),
+            left_items: Lent::new(random, lengths[3]),
+            right_numbers: Lent::new(random, lengths[4]),
+            right_ends: Lent::new(random, lengths[5]),
+            right_items: Lent::new(random, lengths[6]),
+        }
+    }
+
+    /// The answer and the lists are those of a refusal, or of a load that gives `loaded`.
+    fn answers(&self, answer: &[u64; 8], refusal: Option<Refusal>, loaded: Option<&LoadedFile>) -> Result<(), String> {
+        if refusal.is_some() {
+            same_words(answer, &words::<8>(refusal, &[]))?;
+            self.tags.is_zero("tags")?;
+            self.left_numbers.is_zero("left numbers")?;
+            self.left_ends.is_zero("left ends")?;
+            self.left_items.is_zero("left items")?;
+            self.right_numbers.is_zero("right numbers")?;
+            self.right_ends.is_zero("right ends")?;
+            return self.right_items.is_zero("right items");
+        }
+        let loaded = loaded.expect("what is not refused was loaded");
+        let needed = lengths_needed(loaded);
+        let counts = [needed[1], needed[4], needed[3], needed[6], loaded.tags.len()].map(|n| n as u64);
+        same_words(answer, &words::<8>(None, &counts))?;
+        let (left, right) = (loaded.collection(0), loaded.collection(1));
+        self.tags.holds("tags", &loaded.tags.concat())?;
+        self.left_numbers.holds("left numbers", &loaded.sides[0].numbers)?;
+        self.left_ends.holds("left ends", &left.ends)?;
+        self.left_items.holds("left items", &left.items)?;
+        self.right_numbers.holds("right numbers", &loaded.sides[1].numbers)?;
+        self.right_ends.holds("right ends", &right.ends)?;
+        self.right_items.holds("right items", &right.items)
+    }
+}
+
 /// Loads a file once into lists of these lengths. `loaded` is what the oracle says of the file.
 pub fn load_into(random: &mut Random, file: &[u8], lengths: [usize; 7], loaded: &Result<LoadedFile, Refusal>) -> Result<(), String> {
-    let mut tags = Lent::<u8>::new(random, lengths[0]);
-    let mut left_numbers = Lent::<u16>::new(random, lengths[1]);
-    let mut left_ends = Lent::<u32>::new(random, lengths[2]);
-    let mut left_items = Lent::<u16>::new(random, lengths[3]);
-    let mut right_numbers = Lent::<u16>::new(random, lengths[4]);
-    let mut right_ends = Lent::<u32>::new(random, lengths[5]);
-    let mut right_items = Lent::<u16>::new(random, lengths[6]);
+    let mut lists = Seven::new(random, lengths);
     let mut answer = unanswered::<8>();
     // SAFETY: each pointer comes from a list of the length that follows it.
     unsafe {
         ffi::kitfinder_load(
             file.as_ptr(),
             file.len(),
-            tags.pointer(),
-            tags.length(),
-            left_numbers.pointer(),
-            left_numbers.length(),
-            left_ends.pointer(),
-            left_ends.length(),
-            left_items.pointer(),
-            left_items.length(),
-            right_numbers.pointer(),
-            right_numbers.length(),
-            right_ends.pointer(),
-            right_ends.length(),
-            right_items.pointer(),
-            right_items.length(),
+            lists.tags.pointer(),
+            lists.tags.length(),
+            lists.left_numbers.pointer(),
+            lists.left_numbers.length(),
+            lists.left_ends.pointer(),
+            lists.left_ends.length(),
+            lists.left_items.pointer(),
+            lists.left_items.length(),
+            lists.right_numbers.pointer(),
+            lists.right_numbers.length(),
+            lists.right_ends.pointer(),
+            lists.right_ends.length(),
+            lists.right_items.pointer(),
+            lists.right_items.length(),
             &mut answer,
         );
     }
     let refusal = match loaded {
         Err(refusal) => Some(*refusal),
-        Ok(loaded) => {
-            let short = lengths_needed(loaded).iter().zip(lengths).any(|(&needed, lent)| lent < needed);
-            short.then_some(Refusal(4, 0, 0))
-        }
+        Ok(loaded) => is_short(lengths, lengths_needed(loaded)).then_some(Refusal(4, 0, 0)),
     };
-    if refusal.is_some() {
-        same_words(&answer, &words::<8>(refusal, &[]))?;
-        tags.is_zero("tags")?;
-        left_numbers.is_zero("left numbers")?;
-        left_ends.is_zero("left ends")?;
-        left_items.is_zero("left items")?;
-        right_numbers.is_zero("right numbers")?;
-        right_ends.is_zero("right ends")?;
-        return right_items.is_zero("right items");
+    lists.answers(&answer, refusal, loaded.as_ref().ok())
+}
+
+/// The refusal of a pooled load into lists of these lengths, or none.
+pub fn pooled_refusal(lengths: [usize; 7], pooled: &Result<Pooled, Refusal>) -> Option<Refusal> {
+    match pooled {
+        Err(refusal) => Some(*refusal),
+        Ok(pooled) => pooled.refusal(is_short(lengths, lengths_needed(&pooled.loaded))),
     }
-    let loaded = loaded.as_ref().expect("what is not refused was loaded");
-    let needed = lengths_needed(loaded);
-    let counts = [needed[1], needed[4], needed[3], needed[6], loaded.tags.len()].map(|n| n as u64);
-    same_words(&answer, &words::<8>(None, &counts))?;
-    let (left, right) = (loaded.collection(0), loaded.collection(1));
-    tags.holds("tags", &loaded.tags.concat())?;
-    left_numbers.holds("left numbers", &loaded.sides[0].numbers)?;
-    left_ends.holds("left ends", &left.ends)?;
-    left_items.holds("left items", &left.items)?;
-    right_numbers.holds("right numbers", &loaded.sides[1].numbers)?;
-    right_ends.holds("right ends", &right.ends)?;
-    right_items.holds("right items", &right.items)
+}
+
+/// Loads two files once, pooled, into lists of these lengths. `pooled` is what the oracle says of the files.
+pub fn load_pooled_into(
+    random: &mut Random,
+    [first, second]: [&[u8]; 2],
+    lengths: [usize; 7],
+    pooled: &Result<Pooled, Refusal>,
+) -> Result<(), String> {
+    let mut lists = Seven::new(random, lengths);
+    let mut answer = unanswered::<8>();
+    // SAFETY: each pointer comes from a list of the length that follows it.
+    unsafe {
+        ffi::kitfinder_load_pooled(
+            first.as_ptr(),
+            first.len(),
+            second.as_ptr(),
+            second.len(),
+            lists.tags.pointer(),
+            lists.tags.length(),
+            lists.left_numbers.pointer(),
+            lists.left_numbers.length(),
+            lists.left_ends.pointer(),
+            lists.left_ends.length(),
+            lists.left_items.pointer(),
+            lists.left_items.length(),
+            lists.right_numbers.pointer(),
+            lists.right_numbers.length(),
+            lists.right_ends.pointer(),
+            lists.right_ends.length(),
+            lists.right_items.pointer(),
+            lists.right_items.length(),
+            &mut answer,
+        );
+    }
+    lists.answers(&answer, pooled_refusal(lengths, pooled), pooled.as_ref().ok().map(|pooled| &pooled.loaded))
 }
 
 /// Writes once, and answers the file where it was written.

@@ -39,20 +39,31 @@ pub fn record(right: bool, number: u16, tags: &[Tag]) -> Vec<u8> {
     bytes
 }
 
-/// A file of whole records with tags of one pool, in any order and with repeats. Numbers seldom repeat.
-pub fn file(random: &mut Random) -> Vec<u8> {
-    let pool: Vec<Tag> = if random.one_in(6) { steps(random) } else { (0..random.within(1, 24)).map(|_| tag(random)).collect() };
-    let most = random.pick(&[0, 2, 5, 12]);
+/// Tags for the records of a file.
+fn pool(random: &mut Random) -> Vec<Tag> {
+    if random.one_in(6) {
+        return steps(random);
+    }
+    (0..random.within(1, 24)).map(|_| tag(random)).collect()
+}
+
+/// Numbers for the records of a file.
+fn numbers(random: &mut Random) -> Vec<u16> {
     let mut numbers: Vec<u16> = (0..40).map(|k| random.pick(&[k, k * 257, 65535 - k])).collect();
     random.shuffle(&mut numbers);
+    numbers
+}
+
+/// So many whole records with tags of one pool, in any order and with repeats. Their numbers are the first of the list; they seldom repeat.
+fn records(random: &mut Random, pool: &[Tag], numbers: &[u16], many: usize) -> Vec<u8> {
     let mut file = Vec::new();
-    for k in 0..random.within(0, most) {
+    for k in 0..many {
         let count = match random.below(40) {
             0 => 255,
             1 => random.within(100, 254),
             _ => random.within(0, 9),
         };
-        let mut tags: Vec<Tag> = (0..count).map(|_| random.pick(&pool)).collect();
+        let mut tags: Vec<Tag> = (0..count).map(|_| random.pick(pool)).collect();
         if random.one_in(3) && count > 1 {
             tags[0] = tags[count - 1];
         }
@@ -60,6 +71,25 @@ pub fn file(random: &mut Random) -> Vec<u8> {
         file.extend(record(random.one_in(2), number, &tags));
     }
     file
+}
+
+/// A file of whole records.
+pub fn file(random: &mut Random) -> Vec<u8> {
+    let (pool, numbers) = (pool(random), numbers(random));
+    let most = random.pick(&[0, 2, 5, 12]);
+    let many = random.within(0, most);
+    records(random, &pool, &numbers, many)
+}
+
+/// Two files of whole records over one pool of tags, with numbers of which some are in both.
+pub fn pair(random: &mut Random) -> [Vec<u8>; 2] {
+    let (pool, mut numbers) = (pool(random), numbers(random));
+    let many = [0; 2].map(|_| random.pick(&[1, 2, 5, 12, 20])).map(|most| random.within(0, most));
+    let first = records(random, &pool, &numbers, many[0]);
+    let moved = random.pick(&[3, 8, 40]);
+    random.shuffle(&mut numbers[..moved]);
+    let from = random.pick(&[0, 0, pool.len() / 2]);
+    [first, records(random, &pool[from..], &numbers, many[1])]
 }
 
 /// Damages a file in one way: a byte changed, bytes cut off, put in or taken out.

@@ -6,5 +6,6 @@ pub mod files;
 pub mod joins;
 pub mod lent;
 pub mod oracle;
+pub mod pads;
 pub mod random;
 pub mod run;

@@ -1,5 +1,8 @@
-//! The nested-loop oracle: document 01 in plain Rust, sentence by sentence. It shares no code with the library and takes no
-//! short cut: the walk goes down a tree of lists of left sets, and every count is counted where the document says so.
+//! The nested-loop oracle: document 01 and the landed requests of document 02 in plain Rust, sentence by sentence. It shares no code
+//! with the library and takes no short cut: the walk goes down a tree of lists of left sets, and every count is counted where the
+//! document says so.
+
+use std::collections::{BTreeSet, HashMap, HashSet};
 
 /// A collection as it is lent.
 #[derive(Clone, Debug, Default, PartialEq)]
@@ -369,7 +372,7 @@ impl LoadedFile {
 
 /// Loads a file, or gives the refusal of its first record at fault.
 pub fn load(file: &[u8]) -> Result<LoadedFile, Refusal> {
-    let mut tags = std::collections::BTreeSet::new();
+    let mut tags = BTreeSet::new();
     let mut loaded = LoadedFile::default();
     let mut entries = [0, 0];
     let mut at = 0;
@@ -396,6 +399,103 @@ pub fn load(file: &[u8]) -> Result<LoadedFile, Refusal> {
     }
     loaded.tags = tags.into_iter().collect();
     Ok(loaded)
+}
+
+/// Why a record of the second file can't be pooled. 3 has its three limits apart.
+#[derive(Clone, Copy, Debug, PartialEq)]
+pub enum Cause {
+    Malformed,
+    NumberUsed,
+    Sets,
+    Entries,
+    Tags,
+    Overlong,
+}
+
+impl Cause {
+    pub fn number(self) -> u64 {
+        match self {
+            Cause::Malformed => 1,
+            Cause::NumberUsed => 2,
+            Cause::Sets | Cause::Entries | Cause::Tags => 3,
+            Cause::Overlong => 10,
+        }
+    }
+}
+
+/// What two files hold together, and every cause in the second with the byte place of its record, by record and then by number.
+#[derive(Clone, Debug, Default, PartialEq)]
+pub struct Pooled {
+    pub loaded: LoadedFile,
+    pub causes: Vec<(u64, Cause)>,
+}
+
+impl Pooled {
+    /// The cause that decides, where a lent list is too short or none is: the first of the loader's own by record, then 4, then 10.
+    pub fn refusal(&self, short: bool) -> Option<Refusal> {
+        let first = |is: fn(u64) -> bool| self.causes.iter().find(|(_, cause)| is(cause.number()));
+        let refusal = |&(place, cause): &(u64, Cause)| Refusal(cause.number(), place, 0);
+        let own = first(|number| number <= 3).map(refusal);
+        own.or(short.then_some(Refusal(4, 0, 0))).or(first(|number| number == 10).map(refusal))
+    }
+}
+
+/// Pools two files, or gives the refusal of the first file. Stacks are sets of tags by number. A record of the second file whose number
+/// was used there adds nothing.
+pub fn pool(first: &[u8], second: &[u8]) -> Result<Pooled, Refusal> {
+    let mut loaded = load(first)?;
+    let [kits, stacks] = &loaded.sides;
+    let mut places = stacks.numbers.clone();
+    let mut sets: HashMap<u16, BTreeSet<Tag>> =
+        stacks.numbers.iter().copied().zip(stacks.sets.iter().map(|set| set.iter().copied().collect())).collect();
+    let mut entries: usize = sets.values().map(BTreeSet::len).sum();
+    let mut tags: BTreeSet<Tag> = kits.sets.iter().chain(&stacks.sets).flatten().copied().collect();
+    let mut met = HashSet::new();
+    let mut causes = Vec::new();
+    let mut at = 0;
+    loop {
+        let place = (first.len() + at) as u64;
+        let (number, read) = match read_record(second, at) {
+            Read::NoMore => break,
+            Read::Fault => {
+                causes.push((place, Cause::Malformed));
+                break;
+            }
+            Read::Record { right: false, next, .. } => {
+                at = next;
+                continue;
+            }
+            Read::Record { right: true, number, tags, next, .. } => {
+                at = next;
+                let read: BTreeSet<Tag> = second[tags..next].chunks(12).map(|tag| tag.try_into().expect("12 bytes")).collect();
+                (number, read)
+            }
+        };
+        let used = !met.insert(number);
+        let known = sets.get(&number).cloned().unwrap_or_default();
+        let union: BTreeSet<Tag> = known.union(&read).copied().collect();
+        let is = [
+            (used, Cause::NumberUsed),
+            (sets.len() + usize::from(!sets.contains_key(&number)) > 4096, Cause::Sets),
+            (entries - known.len() + union.len() > 65535, Cause::Entries),
+            (tags.len() + read.difference(&tags).count() > 4096, Cause::Tags),
+            (union.len() > 255, Cause::Overlong),
+        ];
+        causes.extend(is.iter().filter(|(is, _)| *is).map(|&(_, cause)| (place, cause)));
+        if used {
+            continue;
+        }
+        if !places.contains(&number) {
+            places.push(number);
+        }
+        entries += union.len() - known.len();
+        tags.extend(read);
+        sets.insert(number, union);
+    }
+    loaded.tags = tags.into_iter().collect();
+    loaded.sides[1].sets = places.iter().map(|number| sets[number].iter().copied().collect()).collect();
+    loaded.sides[1].numbers = places;
+    Ok(Pooled { loaded, causes })
 }
 
 /// What the writer is asked, with the length of the list that is lent.

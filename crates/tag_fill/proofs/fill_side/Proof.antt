@@ -1,7 +1,9 @@
 -- `tag_fill::fill_side` meets its contract. The invariant: what is written of each list and what the records still to come give
 -- are together what is wanted, and no item is marked (`SideFilling`). The measure is how many bytes are left.
-use mathlib.Core.Path.{_≡_, sym, _∙_}
+use mathlib.Core.Path.{_≡_, refl, sym, _∙_}
+use mathlib.Core.List.{[]}
 use Prim.Native.Nat.{_-_}
+use native.Mathlib.Omega.{arith}
 use borrow.Author.Tests.{not-true, not-false}
 use lib.ListN.{length}
 use Rattle.tag_file.specs.Reading.{readAt, tagsAt}
@@ -9,15 +11,16 @@ use Rattle.tag_file.specs.declared.ReadAnswer.the-variants.{Record}
 use Rattle.tag_file.proofs.Ended.{no-records}
 use Rattle.tag_file.proofs.RecordLaws.{read-less}
 use Rattle.tag_index.specs.Index.{tableOf}
+use Rattle.tag_index.proofs.Ids.{sorted-size}
 use Rattle.tag_fill.proofs.Filling.{SideFilling, side-filling-start, filled-numbers, filled-ends, filled-items}
-use Rattle.tag_fill.proofs.Filling.{filling-known, filling-items, filling-room, filling-own, filling-other}
+use Rattle.tag_fill.proofs.Filling.{filling-known, filling-wide, filling-items, filling-room, filling-own, filling-other}
 use Rattle.tag_fill.proofs.Marks.{unmarked-marked}
 use Rattle.tag_fill.proofs.fill_side.Statement.{statement}
 use Rattle.tag_fill.proofs.fill_side.Tie as tie
 
 abbrev Inv-loop : tie.InvT-loop
 Inv-loop file heads tails order ranks hints n side numbers₀ ends₀ items₀ marks₀ done₀ at₀ numbers ends items marks done at =
-    SideFilling file side numbers₀ ends₀ items₀ marks numbers ends items done at
+    SideFilling file side (tableOf heads tails n order) numbers₀ ends₀ items₀ marks numbers ends items done at
 
 abbrev μ-loop : tie.MeasureT-loop
 μ-loop file heads tails order ranks hints n side numbers₀ ends₀ items₀ marks₀ done₀ at₀ numbers ends items marks done at =
@@ -80,13 +83,21 @@ mark-tags-requires c κs =
     let at-loop = told .before .before .before in
     let start = at-loop .before .before .before .before .before in
     let a = start .args in
-    let p = start .pre in (
-      filling-known (at-loop .loop .inv) (read told) (p .sorted) (p .ranked) (p .table) (p .small),
-      unmarked-marked (tableOf (a .heads .now) (a .tails .now) (a .n) (a .order .now)) (at-loop .loop .inv .unmarked),
+    let p = start .pre in
+    let side = c .before .before .is-side in (
+      filling-known (at-loop .loop .inv) (read told) (p .sorted) (p .ranked) refl (p .small)
+          (sym (side .ensures) ∙ not-false (side .result) (c .before .if1 .left)),
+      record {
+        done = [];
+        marked = unmarked-marked (tableOf (a .heads .now) (a .tails .now) (a .n) (a .order .now)) (at-loop .loop .inv .unmarked);
+      },
     )
 
 slice-aggregate-put-record : tie.Need-slice-aggregate-put-record Inv-loop μ-loop
-slice-aggregate-put-record c = sym (c .before .before .mark-tags .ensures .wide)
+slice-aggregate-put-record c =
+    let at-mark = c .before .before in
+    let told = at-mark .before .before .before .before .before in
+    sym (filling-wide (told .before .before .before .loop .inv) (read told) (at-mark .mark-tags .ensures))
 
 put-record-requires : tie.Need-put-record-requires Inv-loop μ-loop
 put-record-requires c κs =
@@ -98,8 +109,8 @@ put-record-requires c κs =
     let p = at-loop .before .before .before .before .before .pre in
     let side = own .before .is-side in
     let m = at-mark .mark-tags .ensures in (
-      m .wide,
-      rw (filling-items (l .inv) (read told) (p .sorted) (p .table) (p .small) m)
+      filling-wide (l .inv) (read told) m,
+      rw (filling-items (l .inv) (read told) m (omega (arith, sorted-size (p .sorted), p .small)))
           (filling-room (l .inv) (read told) (p .few) (sym (side .ensures) ∙ not-false (side .result) (own .if1 .left))),
     )
 
@@ -119,7 +130,8 @@ loop-again-2 c =
     let l = at-loop .loop in
     let p = at-loop .before .before .before .before .before .pre in
     let side = own .before .is-side in
-    let same = filling-items (l .inv) (read told) (p .sorted) (p .table) (p .small) (at-mark .mark-tags .ensures) in
+    let same = filling-items (l .inv) (read told) (at-mark .mark-tags .ensures)
+    (omega (arith, sorted-size (p .sorted), p .small)) in
     let o = put .put-record .ensures in
     filling-own (l .inv) (read told) (sym (side .ensures) ∙ not-false (side .result) (own .if1 .left)) (rw same at (o .1)) (o .0)
 

@@ -2,7 +2,9 @@
 use Prim.Native.Nat.{ℕ}
 use lib.ListN.{length-replicate}
 use Rattle.tag_index.specs.Index.{indexRoom}
-use Rattle.tag_loader.proofs.Rooms.{sorted-here, tags-room, tags-filled, left-ready, right-ready}
+use Rattle.tag_loader.proofs.Rooms.{sorted-here, tags-room, tags-filled, left-ready, right-ready, ends-filled}
+use Rattle.tag_loader.proofs.Rooms.{items-filled}
+use Rattle.sets.specs.declared.Side.the-variants.{Left, Right}
 use borrow.Author.Needs.{needs}
 use Rattle.tag_loader.proofs.fill_lists.Statement.{statement}
 use Rattle.tag_loader.proofs.fill_lists.Tie as tie
@@ -62,11 +64,11 @@ returns c =
     record {
       tags-filled = tags-filled (start .pre) (start .args .tags .now) (at-tags .fill-tags .ensures);
       leftNumbers-filled = l .0;
-      leftEnds-filled = l .1 .0;
-      leftItems-filled = l .1 .1;
+      leftEnds-filled = ends-filled (start .pre) Left (start .args .left-ends .now) (l .1 .0);
+      leftItems-filled = items-filled (start .pre) Left (start .args .left-items .now) (l .1 .1);
       rightNumbers-filled = r .0;
-      rightEnds-filled = r .1 .0;
-      rightItems-filled = r .1 .1;
+      rightEnds-filled = ends-filled (start .pre) Right (start .args .right-ends .now) (r .1 .0);
+      rightItems-filled = items-filled (start .pre) Right (start .args .right-items .now) (r .1 .1);
     }
 
 pub fill-lists-spec : {M : Type 1} → statement M

@@ -20,7 +20,7 @@ fn main() {
         if print {
             println!("{bytes:02X?}\n{lengths:?}\n{loaded:?}");
         }
-        let short = needed.iter().zip(lengths).any(|(&needed, lent)| lent < needed);
+        let short = calls::is_short(lengths, needed);
         let number = loaded.as_ref().map_or_else(|refusal| refusal.0 as usize, |_| if short { 4 } else { 0 });
         answers[number] += 1;
         calls::load_into(random, &bytes, lengths, &loaded)

@@ -1,0 +1,2 @@
+-- Contents: the second pass of a pooled load over the right sets.
+pub mod Pool

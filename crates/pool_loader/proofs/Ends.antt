@@ -1,0 +1,215 @@
+-- The answer of a pooled load by its tests, and a call by its ends: a refusal, whose zeros are in every list, or what was filled.
+use mathlib.Core.Path.{_≡_, refl, sym, ap, ap₂, subst, _∙_}
+use mathlib.Core.List.{List, []}
+use mathlib.Core.Bool.{Bool, true, false, not}
+use Prim.Native.Nat.{ℕ}
+use native.Mathlib.Omega.{arith}
+use borrow.Author.Tests.{not-true, not-false}
+use lib.ListN.{length}
+use Rattle.sets.specs.Refusals.{clears, refuseIf, unless}
+use Rattle.sets.specs.declared.Refusal.{Refusal}
+use Rattle.sets.specs.declared.Refusal.the-variants.{ShortOutput}
+use Rattle.sets.specs.declared.Tested.{Tested}
+use Rattle.sets.specs.declared.Tested.the-variants.{Passed, Failed}
+use Rattle.tag_file.specs.declared.Loaded.{Loaded}
+use Rattle.tag_file.specs.declared.LoadAnswer.{LoadAnswer}
+use Rattle.tag_file.specs.declared.LoadAnswer.the-variants as load
+use Rattle.tag_file.specs.Records.{records, tagTable}
+use Rattle.tag_file.specs.Loading.{Lists, fileFault, filled, roomFor, totalsOf}
+use Rattle.tag_file.proofs.FaultLaws.{fault-clears}
+use Rattle.tag_pooling.specs.Pooling.{pooledRecords, secondFault, firstOverlong, pooledAnswer, PooledCall}
+use Rattle.tag_pooling.proofs.SecondFaults.{second-clears, long-clears}
+use Rattle.tag_scan.specs.Scan.{Limited, Taken, Scanned}
+use Rattle.tag_loader.specs.Passes.{hasRoom, AllCleared, AllFilled}
+use Rattle.tag_loader.proofs.Rooms.{room-counted}
+use Rattle.right_slots.specs.Slots.{NumbersNoted, BlocksCounted}
+use Rattle.pool_scan.specs.declared.Second.{Second}
+use Rattle.pool_scan.specs.Second.{SecondScanned}
+use Rattle.pool_loader.specs.Deciding.{decided, LimitedIf, FirstTaken, PoolFillable}
+
+-- ---- the answer by its four tests
+
+-- the first that fails decides; whichever it is, it makes zeros
+abbrev answerBy : Tested → Tested → Bool → Tested → Loaded → LoadAnswer
+answerBy fault second room long totals =
+    unless load.Refused fault
+    (unless load.Refused second (unless load.Refused (refuseIf (not room) ShortOutput) (unless load.Refused long (load.Loaded totals))))
+
+clears-by : (fault second : Tested) (room : Bool) (long : Tested) (totals : Loaded) (why : Refusal)
+    → ((w : Refusal) → fault ≡ Failed w → clears w ≡ true) → ((w : Refusal) → second ≡ Failed w → clears w ≡ true)
+    → ((w : Refusal) → long ≡ Failed w → clears w ≡ true) → answerBy fault second room long totals ≡ load.Refused why
+    → clears why ≡ true
+clears-by (Failed w) second room long totals why a b d e = let same : w ≡ why = cc in ap clears (sym same) ∙ a w refl
+clears-by Passed (Failed w) room long totals why a b d e = let same : w ≡ why = cc in ap clears (sym same) ∙ b w refl
+clears-by Passed Passed false long totals why a b d e = let same : ShortOutput ≡ why = cc in ap clears (sym same)
+clears-by Passed Passed true (Failed w) totals why a b d e = let same : w ≡ why = cc in ap clears (sym same) ∙ d w refl
+clears-by Passed Passed true Passed totals why a b d e = let z : _≡_ {A = ℕ} 0 1 = cc in absurd (omega arith)
+
+-- what an accepted pair passed
+pub record Accepted (first second : List ℕ) (lent : Lists) (total : Loaded) : Type 0 where
+  pub clean : fileFault first ≡ Passed
+  pub clean-second : secondFault (records first) (length first) second ≡ Passed
+  pub room : roomFor (filled (pooledRecords first second)) lent ≡ true
+  pub short : firstOverlong (records first) (length first) [] (records second) ≡ Passed
+  pub counts : totalsOf (pooledRecords first second) ≡ total
+
+accepted-by : (fault second : Tested) (room : Bool) (long : Tested) (totals total : Loaded)
+    → answerBy fault second room long totals ≡ load.Loaded total
+    → (fault ≡ Passed) × (second ≡ Passed) × (room ≡ true) × (long ≡ Passed) × (totals ≡ total)
+accepted-by (Failed w) second room long totals total e = let z : _≡_ {A = ℕ} 0 1 = cc in absurd (omega arith)
+accepted-by Passed (Failed w) room long totals total e = let z : _≡_ {A = ℕ} 0 1 = cc in absurd (omega arith)
+accepted-by Passed Passed false long totals total e = let z : _≡_ {A = ℕ} 0 1 = cc in absurd (omega arith)
+accepted-by Passed Passed true (Failed w) totals total e = let z : _≡_ {A = ℕ} 0 1 = cc in absurd (omega arith)
+accepted-by Passed Passed true Passed totals total e = (refl, refl, refl, refl, cc)
+
+module _ (first second : List ℕ) (lent : Lists) where
+  answer-clears : (why : Refusal) → pooledAnswer first second lent ≡ load.Refused why → clears why ≡ true
+  unfolding pooledAnswer
+  answer-clears why e =
+      clears-by (fileFault first) (secondFault (records first) (length first) second)
+      (roomFor (filled (pooledRecords first second)) lent) (firstOverlong (records first) (length first) [] (records second))
+      (totalsOf (pooledRecords first second)) why (fault-clears first) (second-clears (records first) (length first) second)
+      (long-clears (records first) (length first) [] (records second)) e
+
+  pub answer-accepted : (total : Loaded) → pooledAnswer first second lent ≡ load.Loaded total → Accepted first second lent total
+  unfolding pooledAnswer
+  answer-accepted total e =
+      let parts = accepted-by (fileFault first) (secondFault (records first) (length first) second)
+      (roomFor (filled (pooledRecords first second)) lent) (firstOverlong (records first) (length first) [] (records second))
+      (totalsOf (pooledRecords first second)) total e in
+      record { clean = parts .0; clean-second = parts .1; room = parts .2; short = parts .3; counts = parts .4 }
+
+  -- the first file's fault
+  answer-fault : (why : Refusal) → fileFault first ≡ Failed why → pooledAnswer first second lent ≡ load.Refused why
+  unfolding pooledAnswer
+  answer-fault why e = rw e
+
+  -- ---- a call by its ends
+
+  pub call-refused : {after : Lists} {answer : LoadAnswer} (why : Refusal) → answer ≡ pooledAnswer first second lent
+      → answer ≡ load.Refused why → AllCleared lent after → PooledCall first second lent after answer
+  call-refused why is e z =
+      let told = sym is ∙ e in
+      let zeros = answer-clears why told in
+      record {
+        answered = is;
+        tags = rw (told, zeros) (z .tags-zero);
+        leftNumbers = rw (told, zeros) (z .left .numbers-zero);
+        leftEnds = rw (told, zeros) (z .left .ends-zero);
+        leftItems = rw (told, zeros) (z .left .items-zero);
+        rightNumbers = rw (told, zeros) (z .right .numbers-zero);
+        rightEnds = rw (told, zeros) (z .right .ends-zero);
+        rightItems = rw (told, zeros) (z .right .items-zero);
+      }
+
+  pub call-filled : {after : Lists} {answer : LoadAnswer} (total : Loaded) → answer ≡ pooledAnswer first second lent
+      → answer ≡ load.Loaded total → AllFilled (pooledRecords first second) lent after → PooledCall first second lent after answer
+  call-filled total is e f =
+      let told = sym is ∙ e in
+      record {
+        answered = is;
+        tags = rw told (f .tags-filled);
+        leftNumbers = rw told (f .leftNumbers-filled);
+        leftEnds = rw told (f .leftEnds-filled);
+        leftItems = rw told (f .leftItems-filled);
+        rightNumbers = rw told (f .rightNumbers-filled);
+        rightEnds = rw told (f .rightEnds-filled);
+        rightItems = rw told (f .rightItems-filled);
+      }
+
+  -- ---- the first file
+
+  refused-fault : (t : Tested) (x : Loaded) (why : Refusal) → unless load.Refused t (load.Loaded x) ≡ load.Refused why → t ≡ Failed why
+  refused-fault Passed x why e = let z : _≡_ {A = ℕ} 0 1 = cc in absurd (omega arith)
+  refused-fault (Failed w) x why e = ap Failed cc
+
+  loaded-passed : (t : Tested) (x total : Loaded) → unless load.Refused t (load.Loaded x) ≡ load.Loaded total → (t ≡ Passed) × (total ≡ x)
+  loaded-passed Passed x total e = (refl, cc)
+  loaded-passed (Failed w) x total e = let z : _≡_ {A = ℕ} 0 1 = cc in absurd (omega arith)
+
+  pub first-refused : {heads tails order : List ℕ} {r : LoadAnswer} (why : Refusal) → Scanned first heads tails order r
+      → r ≡ load.Refused why → r ≡ pooledAnswer first second lent
+  first-refused why s e =
+      e ∙ sym (answer-fault why (refused-fault (fileFault first) (totalsOf (records first)) why (sym (s .answer) ∙ e)))
+
+  pub first-taken : {heads tails order : List ℕ} {r : LoadAnswer} (total : Loaded) → Scanned first heads tails order r
+      → r ≡ load.Loaded total → FirstTaken first total heads tails order
+  first-taken {heads} {tails} {order} total s e =
+      let parts = loaded-passed (fileFault first) (totalsOf (records first)) total (sym (s .answer) ∙ e) in
+      record {
+        clean = parts .0;
+        taken = subst (λ (t : Loaded). Taken (records first) t heads tails order) (sym (parts .1)) (s .taken (parts .0));
+      }
+
+  -- ---- the second file
+
+  module _ {heads tails order used slots : List ℕ} {r : Second} (clean : fileFault first ≡ Passed)
+      (s : SecondScanned first second heads tails order used slots r) where
+    pub second-limited : LimitedIf (r .answer)
+    second-limited t e =
+        let parts = loaded-passed (secondFault (records first) (length first) second) (totalsOf (pooledRecords first second)) t
+        (sym (s .answer) ∙ e) in
+        subst (λ (q : Loaded). Limited q) (sym (parts .1)) (s .taken (parts .0) .limited)
+
+    abbrev roomOf : LoadAnswer → Tested → LoadAnswer
+    roomOf answer long =
+        decided answer long (length (lent .tags)) (length (lent .leftNumbers)) (length (lent .leftEnds)) (length (lent .leftItems))
+        (length (lent .rightNumbers)) (length (lent .rightEnds)) (length (lent .rightItems))
+
+    pub decided-is : roomOf (r .answer) (r .long) ≡ pooledAnswer first second lent
+    unfolding pooledAnswer
+    decided-is = by-fault (secondFault (records first) (length first) second) refl
+      where
+        by-fault : (t : Tested) → secondFault (records first) (length first) second ≡ t
+            → roomOf (r .answer) (r .long) ≡ pooledAnswer first second lent
+        by-fault (Failed why) e =
+            let is : r .answer ≡ load.Refused why = s .answer ∙ rw e in
+            ap (λ (a : LoadAnswer). roomOf a (r .long)) is ∙ rw (clean, e)
+        by-fault Passed e =
+            let totals = totalsOf (pooledRecords first second) in
+            let is : r .answer ≡ load.Loaded totals = s .answer ∙ rw e in
+            ap₂ roomOf is (s .long e)
+            ∙ ap (λ (b : Bool). unless load.Refused (refuseIf (not b) ShortOutput)
+            (unless load.Refused (firstOverlong (records first) (length first) [] (records second)) (load.Loaded totals)))
+            (room-counted (pooledRecords first second) lent)
+            ∙ rw (clean, e)
+
+    pub pool-fillable : {counts : List ℕ} (total : Loaded) → NumbersNoted (records first) used → BlocksCounted used counts
+        → pooledAnswer first second lent ≡ load.Loaded total
+        → PoolFillable first second heads tails order (total .tags) used counts slots lent
+    pool-fillable total noted counted e =
+        let a = answer-accepted total e in
+        record {
+          clean = clean;
+          clean-second = a .clean-second;
+          taken = s .taken (a .clean-second);
+          count = sym (ap (λ (t : Loaded). t .tags) (a .counts));
+          room = a .room;
+          noted = noted;
+          counted = counted;
+          size = s .size;
+          words = s .words (a .clean-second);
+        }
+
+-- ---- the answer by the lengths of the lists, case by case
+
+module _ (answer : LoadAnswer) (long : Tested) (tags leftNumbers leftEnds leftItems rightNumbers rightEnds rightItems : ℕ) {t : Loaded}
+    (is : answer ≡ load.Loaded t) {b : Bool}
+    (told : b ≡ hasRoom t tags leftNumbers leftEnds leftItems rightNumbers rightEnds rightItems) where
+  abbrev here : LoadAnswer
+  here = decided answer long tags leftNumbers leftEnds leftItems rightNumbers rightEnds rightItems
+
+  pub decided-short : not b ≡ true → load.Refused ShortOutput ≡ here
+  decided-short f =
+      let room : hasRoom t tags leftNumbers leftEnds leftItems rightNumbers rightEnds rightItems ≡ false = sym told ∙ not-true b f in
+      rw (is, room)
+
+  module _ (enough : not b ≡ false) where
+    room-is : hasRoom t tags leftNumbers leftEnds leftItems rightNumbers rightEnds rightItems ≡ true
+    room-is = sym told ∙ not-false b enough
+
+    pub decided-long : {why : Refusal} → long ≡ Failed why → load.Refused why ≡ here
+    decided-long e = rw (is, room-is, e)
+
+    pub decided-loaded : long ≡ Passed → load.Loaded t ≡ here
+    decided-loaded e = rw (is, room-is, e)

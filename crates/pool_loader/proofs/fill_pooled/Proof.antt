@@ -1,0 +1,82 @@
+-- `pool_loader::fill_pooled` meets its contract.
+use Prim.Native.Nat.{ℕ}
+use lib.ListN.{length-replicate}
+use Rattle.tag_index.specs.Index.{indexRoom}
+use Rattle.pool_loader.proofs.Filling.{sorted-here, tags-room, tags-filled, left-ready, right-ready, left-numbers-filled}
+use Rattle.pool_loader.proofs.Filling.{left-ends-filled, left-items-filled, right-ends-filled, right-items-filled}
+use borrow.Author.Needs.{needs}
+use Rattle.pool_loader.proofs.fill_pooled.Statement.{statement}
+use Rattle.pool_loader.proofs.fill_pooled.Tie as tie
+
+rank-ids-requires : tie.Need-rank-ids-requires
+rank-ids-requires c κs =
+    (sorted-here (c .before .before .before .before .before .before .before .before .before .before .before .before .before .pre) .listed, length-replicate {A = ℕ} indexRoom 0)
+
+fill-tags-requires : tie.Need-fill-tags-requires
+fill-tags-requires c κs =
+    (sorted-here (c .before .before .before .before .before .before .before .before .before .before .before .before .before .before .before .pre), tags-room (c .before .before .before .before .before .before .before .before .before .before .before .before .before .before .before .pre))
+
+fill-side-requires : tie.Need-fill-side-requires
+fill-side-requires c κs =
+    left-ready (c .before .before .before .before .before .before .before .before .before .before .before .before .before .before .before .before .before .before .before .before .before .before .pre) (c .before .before .before .before .before .before .before .before .rank-ids .ensures)
+
+fill-right-requires : tie.Need-fill-right-requires
+fill-right-requires c κs =
+    right-ready (c .before .before .before .before .before .before .before .before .before .before .before .before .before .before .before .before .before .before .before .before .before .before .before .before .before .before .before .before .before .before .before .before .before .before .pre) (c .before .before .before .before .before .before .before .before .before .before .before .before .before .before .before .before .before .before .before .before .rank-ids .ensures) (λ i. c .before .before .before .before .before .before .before .before .before .before .before .before .before .before .before .before .before .before .before .before .before .before .before .before .before .before .before .before .before .before .before .before .before .shared-slice-known .given i .fits)
+
+same-length : tie.Need-same-length
+same-length c = search needs
+
+same-length-2 : tie.Need-same-length-2
+same-length-2 c = search needs
+
+same-length-3 : tie.Need-same-length-3
+same-length-3 c = search needs
+
+same-length-4 : tie.Need-same-length-4
+same-length-4 c = search needs
+
+same-length-5 : tie.Need-same-length-5
+same-length-5 c = search needs
+
+same-length-6 : tie.Need-same-length-6
+same-length-6 c = search needs
+
+same-length-7 : tie.Need-same-length-7
+same-length-7 c = search needs
+
+same-length-8 : tie.Need-same-length-8
+same-length-8 c = search needs
+
+returns : tie.Need-returns
+returns c =
+    let start = c .before .before .before .before .before .before .before .before .before .before .before .before .before .before .before .before .before .before .before .before .before .before .before .before .before .before .before .before .before .before .before .before .before .before .before .before .before .before .before .before .before .before .before in
+    let l = c .before .before .before .before .before .before .before .before .before .before .before .before .before .before .before .before .before .before .before .before .fill-side .ensures in
+    let r = c .before .before .before .before .before .before .before .before .fill-right .ensures in
+    record {
+      tags-filled = tags-filled (start .pre) (start .args .tags .now) (c .before .before .before .before .before .before .before .before .before .before .before .before .before .before .before .before .before .before .before .before .before .before .before .before .before .before .before .fill-tags .ensures);
+      leftNumbers-filled = left-numbers-filled (start .pre) (start .args .left-numbers .now) (l .0);
+      leftEnds-filled = left-ends-filled (start .pre) (start .args .left-ends .now) (l .1 .0);
+      leftItems-filled = left-items-filled (start .pre) (start .args .left-items .now) (l .1 .1);
+      rightNumbers-filled = r .0;
+      rightEnds-filled = right-ends-filled (start .pre) (start .args .right-ends .now) (r .1 .0);
+      rightItems-filled = right-items-filled (start .pre) (start .args .right-items .now) (r .1 .1);
+    }
+
+pub fill-pooled-spec : {M : Type 1} → statement M
+fill-pooled-spec =
+    tie.close
+    (tie.spec
+    rank-ids-requires
+    fill-tags-requires
+    fill-side-requires
+    fill-right-requires
+    same-length
+    same-length-2
+    same-length-3
+    same-length-4
+    same-length-5
+    same-length-6
+    same-length-7
+    same-length-8
+    returns)

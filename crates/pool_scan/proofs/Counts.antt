@@ -1,0 +1,113 @@
+-- The state of the pass with one more right set of the second file: pooled with one of the first, or behind the others.
+use Prim.Native.Nat.{ℕ, _+_, _-_, _≤_}
+use mathlib.Core.Path.{_≡_, refl, sym, ap, subst, _∙_}
+use mathlib.Core.List.{List, [], _∷_, _++_}
+use mathlib.Core.Bool.{Bool, true, false, _||_}
+use native.Mathlib.Omega.{arith}
+use borrow.Author.Tests.{ltb-false}
+use lib.Dec.{ltb}
+use lib.ListN.{length}
+use Rattle.lists.proofs.Bools.{or-left-false, or-right-false}
+use Rattle.sets.specs.Limits.{maxItems, maxSets, maxEntries}
+use Rattle.sets.specs.declared.Side.{Side}
+use Rattle.sets.specs.declared.Side.the-variants.{Left, Right}
+use Rattle.tag_file.specs.declared.Loaded.{Loaded}
+use Rattle.tag_file.specs.Records.{TagRecord, sameSide, ofSide, insertAll, collapse, tagTable, entriesOf}
+use Rattle.tag_file.specs.Loading.{tooMany, totalsOf}
+use Rattle.tag_pooling.proofs.OneMore.{Grown}
+use Rattle.tag_pooling.proofs.Growing.{table-grown, sets-grown, entries-other, entries-grown}
+use Rattle.tag_index.specs.Index.{tableOf}
+use Rattle.tag_index.proofs.Ids.{sorted-size}
+use Rattle.tag_scan.specs.Scan.{grownBy, passes, isOver, Limited, Taken}
+use Rattle.tag_scan.proofs.Counting.{over-tooMany}
+use Rattle.tag_scan.proofs.Taking.{taken-over, taken-next}
+use Rattle.pool_scan.specs.declared.United.{United}
+use Rattle.pool_scan.specs.Second.{TakenIn, unitedBy}
+
+-- what is known of the records with one more right set: whether they pass a limit, and if not, that they are taken in
+pub record OneTaken (is : List TagRecord) (total : Loaded) (heads tails order : List ℕ) : Type 0 where
+  pub over : passes (total .«right_sets») (total .«right_entries») (total .tags) ≡ tooMany Right is
+  pub taken : tooMany Right is ≡ false → Taken is total heads tails order
+
+-- behind the others
+module _ {was : List TagRecord} {total : Loaded} {heads tails order : List ℕ} (t : Taken was total heads tails order)
+    (s : TagRecord) (right : s .side ≡ Right) {u : United} {now-heads now-tails now-order : List ℕ}
+    (i : TakenIn [] (s .tags) heads tails (total .tags) order u now-heads now-tails now-order) where
+  abbrev grown : Side → Loaded
+  grown side = grownBy total side (u .tags) (u .all)
+
+  pub alone-taken : {is : List TagRecord} → is ≡ was ++ (s ∷ [])
+      → OneTaken is (unitedBy total u false) now-heads now-tails now-order
+  alone-taken {is} e =
+      let told : isOver (unitedBy total u false) Right ≡ tooMany Right (was ++ (s ∷ [])) =
+      subst (λ (side : Side). isOver (grown side) side ≡ tooMany side (was ++ (s ∷ []))) right
+      (taken-over t s (i .sorted) (i .table) (i .all-counted))
+      in
+      record {
+        over = told ∙ ap (tooMany Right) (sym e);
+        taken = λ few.
+            subst (λ (rs : List TagRecord). Taken rs (unitedBy total u false) now-heads now-tails now-order) (sym e)
+            (taken-next t s (i .sorted) (i .table) (i .all-counted) (ap grown (sym right))
+            (subst (λ (side : Side). isOver (grown side) side ≡ false) (sym right) (told ∙ ap (tooMany Right) (sym e) ∙ few)));
+      }
+
+-- pooled with one of the first file
+module _ {was : List TagRecord} {total : Loaded} {heads tails order : List ℕ} (t : Taken was total heads tails order)
+    (r : TagRecord) (right : r .side ≡ Right) (new : List ℕ) {u : United} {now-heads now-tails now-order : List ℕ}
+    (i : TakenIn (r .tags) new heads tails (total .tags) order u now-heads now-tails now-order) {is : List TagRecord}
+    (g : Grown was is r new) where
+  table-met : tableOf now-heads now-tails (u .tags) now-order ≡ tagTable is
+  table-met = i .table ∙ ap (λ (l : List ℕ). insertAll l new) (t .table) ∙ sym (table-grown g)
+
+  counts-met : unitedBy total u true ≡ totalsOf is
+  counts-met =
+      let sets : total .«left_sets» ≡ length (ofSide Left is) =
+      ap (λ (q : Loaded). q .«left_sets») (t .counts) ∙ sym (sets-grown g Left)
+      in
+      let others : total .«right_sets» ≡ length (ofSide Right is) =
+      ap (λ (q : Loaded). q .«right_sets») (t .counts) ∙ sym (sets-grown g Right)
+      in
+      let entries : total .«left_entries» ≡ entriesOf Left is =
+      ap (λ (q : Loaded). q .«left_entries») (t .counts) ∙ sym (entries-other g Left (ap (sameSide Left) right))
+      in
+      let grew : total .«right_entries» + (u .all - u .own) ≡ entriesOf Right is =
+      omega (
+        arith,
+        ap (λ (q : Loaded). q .«right_entries») (t .counts),
+        entries-grown g Right (ap (sameSide Right) right),
+        i .own-counted,
+        i .all-counted,
+        i .less,
+      )
+      in
+      let tags : u .tags ≡ length (tagTable is) = sym (sorted-size (i .sorted)) ∙ ap length table-met in
+      rw (sets, others, entries, grew, tags)
+
+  pub met-taken : OneTaken is (unitedBy total u true) now-heads now-tails now-order
+  met-taken =
+      let told : isOver (unitedBy total u true) Right ≡ tooMany Right is =
+      ap (λ (q : Loaded). isOver q Right) counts-met ∙ over-tooMany Right is
+      in
+      record {
+        over = told;
+        taken = λ few. record {
+          counts = counts-met;
+          limited = limits (told ∙ few);
+          sorted = i .sorted;
+          table = table-met;
+        };
+      }
+    where
+      limits : isOver (unitedBy total u true) Right ≡ false → Limited (unitedBy total u true)
+      limits f =
+          let a = ltb maxSets (total .«right_sets») in
+          let b = ltb maxEntries (total .«right_entries» + (u .all - u .own)) in
+          let d = ltb maxItems (u .tags) in
+          let later = or-right-false a (b || d) f in
+          record {
+            left-sets = t .limited .left-sets;
+            right-sets = t .limited .right-sets;
+            left-entries = t .limited .left-entries;
+            right-entries = ltb-false maxEntries (total .«right_entries» + (u .all - u .own)) (or-left-false b d later);
+            tags = ltb-false maxItems (u .tags) (or-right-false b d later);
+          }

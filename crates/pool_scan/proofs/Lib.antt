@@ -1,0 +1,11 @@
+-- Laws of the pass over the second file.
+-- the words of the slots, and the sets that are too long, with one more record
+pub mod Words
+-- the counts and the index with one more right set
+pub mod Counts
+-- the tags of one set from two records
+pub mod Uniting
+-- the pass: its invariant over the records seen
+pub mod Passing
+-- a right set in the pass
+pub mod Step

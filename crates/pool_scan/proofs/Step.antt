@@ -1,0 +1,214 @@
+-- A right set of the second file in the pass: what it asks for before its tags are taken in, and what holds of the pooled records, the
+-- slots and its length once they are. It is one that the first file has, or one that it has not.
+use Prim.Native.Nat.{ℕ, _+_, _<_, _≤_}
+use mathlib.Core.Path.{_≡_, refl, sym, ap, subst, _∙_}
+use mathlib.Core.List.{List, [], _∷_, _++_, append-assoc}
+use mathlib.Core.Bool.{Bool, true, false, _&&_}
+use native.Mathlib.Omega.{arith}
+use borrow.Author.Tests.{eq-eqb, eqb-true}
+use lib.Dec.{eqb}
+use lib.ListN.{length, getD, set, length-set}
+use Rattle.lists.specs.Lists.{keep, any, memb}
+use Rattle.lists.proofs.Bools.{by-test, true-false, and-right, and-both, or-left, or-right, or-left-false, or-right-false, refuted}
+use Rattle.lists.proofs.Membership.{memb-append}
+use Rattle.lists.proofs.Throughout.{any-append}
+use Rattle.bit_sets.specs.BitSets.{member}
+use Rattle.sets.specs.Limits.{maxSets, maxSetLength, halfWords}
+use Rattle.sets.specs.declared.Side.{Side}
+use Rattle.sets.specs.declared.Side.the-variants.{Right}
+use Rattle.sets.specs.declared.Tested.{Tested}
+use Rattle.tag_file.specs.declared.Loaded.{Loaded}
+use Rattle.tag_file.specs.declared.ReadAnswer.the-variants.{Record}
+use Rattle.tag_file.specs.Reading.{readAt, pastTags, tagsAt}
+use Rattle.tag_file.specs.Records.{TagRecord, totalLength, records, sameSide, allTags, collapse, tagTable}
+use Rattle.tag_file.specs.Loading.{numberUsed}
+use Rattle.tag_file.proofs.FoundRecords.{ReadFound, read-found, found-number}
+use Rattle.tag_file.proofs.RecordLaws.{same-side, read-past, read-within}
+use Rattle.tag_file.proofs.Tables.{memb-collapse}
+use Rattle.tag_pooling.specs.Pooling.{sameSet, pooled}
+use Rattle.tag_pooling.proofs.OneMore.{Grown, used-same, pooled-new, pooled-met, met-only}
+use Rattle.tag_index.specs.Index.{tableOf}
+use Rattle.right_slots.specs.Slots.{slotOf, AtSlots, slotWord, pooledMark, NumbersOnce}
+use Rattle.right_slots.proofs.Counted.{slot-below}
+use Rattle.right_slots.proofs.Found.{FoundRight, found-right, missed-right}
+use Rattle.right_slots.proofs.Putting.{NumbersSmall, at-slots-put}
+use Rattle.pool_scan.specs.declared.United.{United}
+use Rattle.pool_scan.specs.Second.{RecordThere, KnownThere, UniteReady, Taking, TakenIn, unitedBy, SecondReady}
+use Rattle.pool_scan.proofs.Counts.{OneTaken, alone-taken, met-taken}
+use Rattle.pool_scan.proofs.Passing.{Passing, this}
+use Rattle.pool_scan.proofs.Words.{word-apart, word-met, own-none, own-one, noted-tells}
+
+-- what holds once the tags of a record are taken in
+pub record Stepped (first : List ℕ) (seen : List TagRecord) (s : TagRecord) (used : List ℕ) (u : United) (now-total : Loaded)
+    (now-heads now-tails now-order now-slots : List ℕ) : Type 0 where
+  pub one : OneTaken (pooled (records first) (seen ++ (s ∷ []))) now-total now-heads now-tails now-order
+  pub size : length now-slots ≡ maxSets
+  pub words : AtSlots (slotWord (seen ++ (s ∷ []))) (records first) used now-slots
+  pub own : List ℕ
+  pub is : allTags (keep (sameSet s) (records first)) ≡ own
+  pub counted : u .all ≡ length (collapse (own ++ s .tags))
+
+both-right : (a b : Side) → sameSide Right a ≡ true → sameSide Right b ≡ true → sameSide a b ≡ true
+both-right a b x y = ap (λ (t : Side). sameSide t b) (sym (same-side Right a x)) ∙ y
+
+memb-there : (y : ℕ) (before : List TagRecord) (r : TagRecord) (after : List TagRecord) → memb y (r .tags) ≡ true
+    → memb y (allTags (before ++ (r ∷ after))) ≡ true
+unfolding allTags
+memb-there y [] r after m = memb-append y (r .tags) (allTags after) ∙ or-left (memb y (r .tags)) (memb y (allTags after)) m
+memb-there y (q ∷ before) r after m =
+    memb-append y (q .tags) (allTags (before ++ (r ∷ after)))
+    ∙ or-right (memb y (q .tags)) (memb y (allTags (before ++ (r ∷ after)))) (memb-there y before r after m)
+
+module _ {first second used counts heads₀ tails₀ order₀ slots₀ : List ℕ} {total₀ : Loaded}
+    (ready : SecondReady first total₀ heads₀ tails₀ order₀ used counts slots₀) (byte : (i : ℕ) → getD first i 0 < 256)
+    {noted heads tails order slots : List ℕ} {total : Loaded} {long : Tested} {at : ℕ}
+    (p : Passing first second noted used heads tails order slots total long at)
+    {side : Side} {n c q next : ℕ} (e : readAt second at ≡ Record side n c q next)
+    (right : sameSide Right side ≡ true) (small : n < halfWords) (free : member noted n ≡ false) where
+  abbrev s : TagRecord
+  s = this p e
+
+  abbrev A : List TagRecord
+  A = records first
+
+  once : NumbersOnce A
+  once = ready .slottable .once
+
+  smalls : NumbersSmall A
+  smalls b r a split = found-number first byte b r a split
+
+  new : numberUsed (p .seen) s ≡ false
+  new = sym (noted-tells (p .numbers) s right small) ∙ free
+
+  -- ---- the first file has its number
+  module _ (met : member used n ≡ true) where
+    f : FoundRight A n
+    f = found-right (ready .slotted .noted) n small met
+
+    abbrev r : TagRecord
+    r = f .this
+
+    same : sameSet r s ≡ true
+    same = and-both (both-right (r .side) side (f .right) right) (eq-eqb (r .number) n (f .number))
+
+    new-r : numberUsed (p .seen) r ≡ false
+    new-r = sym (used-same (p .seen) r s same) ∙ new
+
+    found : ReadFound first (totalLength (f .before)) r (f .after)
+    found = read-found first (f .before) r (f .after) (f .split)
+
+    at-slot : getD slots (slotOf used n) 0 ≡ totalLength (f .before)
+    at-slot =
+        ap (λ (k : ℕ). getD slots (slotOf used k) 0) (sym (f .number))
+        ∙ p .words (f .before) r (f .after) (f .split) (f .right) ∙ rw new-r
+
+    there : RecordThere first (getD slots (slotOf used n) 0) (found .count) (found .place)
+    there =
+        record {
+          side = r .side;
+          number = r .number;
+          next = found .next;
+          read = ap (readAt first) at-slot ∙ found .read;
+        }
+
+    grew : Grown (pooled A (p .seen)) (pooled A (p .seen ++ (s ∷ []))) r (s .tags)
+    grew =
+        subst (λ (l : List TagRecord). Grown (pooled l (p .seen)) (pooled l (p .seen ++ (s ∷ []))) r (s .tags)) (sym (f .split))
+        (pooled-met (f .before) r (f .after) (p .seen) s right same new (λ b t a is. once b t a (f .split ∙ is)))
+
+    only : keep (sameSet s) A ≡ r ∷ []
+    only =
+        ap (keep (sameSet s)) (f .split)
+        ∙ met-only (f .before) r (f .after) (p .seen) s right same new (λ b t a is. once b t a (f .split ∙ is))
+
+    known : (y : ℕ) → memb y (tagsAt (found .count) first (found .place)) ≡ true → memb y (tableOf heads tails (total .tags) order) ≡ true
+    known y m =
+        ap (memb y) (p .taken .table) ∙ memb-collapse y (allTags (pooled A (p .seen)))
+        ∙ ap (λ (l : List TagRecord). memb y (allTags l)) (grew .stood)
+        ∙ memb-there y (grew .before) r (grew .after) (ap (memb y) (found .tags) ∙ m)
+
+    pub step-there : KnownThere first (getD slots (slotOf used n) 0) (tableOf heads tails (total .tags) order)
+    step-there = record { count = found .count; tags = found .place; there = there; known = known }
+
+    pub step-slot : slotOf used n < maxSets
+    step-slot = slot-below used (ready .slotted .noted) n small met
+
+  pub step-ready : c ≤ maxSetLength → UniteReady first second n q c (total .tags) heads tails order used counts slots
+  step-ready few =
+      record {
+        index = record { sorted = p .taken .sorted; small = p .taken .limited .tags };
+        tags-inside = record { inside = omega (arith, read-past second at e, read-within second at e); few = few };
+        wide = ready .slotted .noted .wide;
+        small = small;
+        counted = ready .slotted .counted;
+        size = p .size;
+        slot = step-slot;
+        there = step-there;
+      }
+
+  module _ {u : United} {now-total : Loaded} {now-heads now-tails now-order now-slots : List ℕ}
+      (t : Taking first second n q c (total .tags) heads tails order used slots u now-heads now-tails now-order now-slots)
+      (grown : now-total ≡ unitedBy total u (u .met)) where
+    counts-as : (b : Bool) → member used n ≡ b → now-total ≡ unitedBy total u b
+    counts-as b is = grown ∙ ap (unitedBy total u) (t .told ∙ is)
+
+    pub step-bounds : (u .own ≤ u .all) × (u .all ≤ maxSetLength + maxSetLength)
+    step-bounds =
+        by-test (member used n)
+        (λ met. let i = t .met met (found met .count) (found met .place) (there met) in (i .less, i .few))
+        (λ out. (t .alone out .less, t .alone out .few))
+
+    -- one that the first file has not
+    step-alone : member used n ≡ false → Stepped first (p .seen) s used u now-total now-heads now-tails now-order now-slots
+    unfolding any
+    step-alone out =
+        let unused : numberUsed A s ≡ false = missed-right (ready .slotted .noted) n small out s right refl in
+        record {
+          one = subst (λ (l : Loaded). OneTaken (pooled A (p .seen ++ (s ∷ []))) l now-heads now-tails now-order) (sym (counts-as false out))
+              (alone-taken (p .taken) s (sym (same-side Right side right)) (t .alone out) (pooled-new A (p .seen) s right unused));
+          size = ap length (t .kept out) ∙ p .size;
+          words = λ b w a split side-w.
+              ap (λ (l : List ℕ). getD l (slotOf used (w .number)) 0) (t .kept out) ∙ p .words b w a split side-w
+              ∙ sym (word-apart (p .seen) s b w (apart b w a split unused));
+          own = [];
+          is = own-none A s unused;
+          counted = t .alone out .all-counted;
+        }
+      where
+        apart : (b : List TagRecord) (w : TagRecord) (a : List TagRecord) → A ≡ b ++ (w ∷ a) → numberUsed A s ≡ false → sameSet w s ≡ false
+        apart b w a split unused =
+            or-left-false (sameSet w s) (numberUsed a s)
+            (or-right-false (numberUsed b s) (numberUsed (w ∷ a) s)
+            (sym (any-append (λ x. sameSet x s) b (w ∷ a)) ∙ ap (λ (l : List TagRecord). numberUsed l s) (sym split) ∙ unused))
+
+    -- one that it has
+    step-met : member used n ≡ true → Stepped first (p .seen) s used u now-total now-heads now-tails now-order now-slots
+    step-met met =
+        let w = f met in
+        let i = subst (λ (l : List ℕ). TakenIn l (tagsAt c second q) heads tails (total .tags) order u now-heads now-tails now-order)
+        (sym (found met .tags)) (t .met met (found met .count) (found met .place) (there met)) in
+        record {
+          one = subst (λ (l : Loaded). OneTaken (pooled A (p .seen ++ (s ∷ []))) l now-heads now-tails now-order) (sym (counts-as true met))
+              (met-taken (p .taken) (w .this) (sym (same-side Right (w .this .side) (w .right))) (tagsAt c second q) i (grew met));
+          size = ap length (t .noted met) ∙ length-set slots (slotOf used n) (pooledMark + u .all) ∙ p .size;
+          words = subst (λ (l : List ℕ). AtSlots (slotWord (p .seen ++ (s ∷ []))) A used l) (sym (written met w))
+              (at-slots-put A used slots (slotWord (p .seen)) (slotWord (p .seen ++ (s ∷ []))) once (ready .slotted .noted) smalls (p .size)
+              (p .words) (w .before) (w .this) (w .after) (pooledMark + u .all) (w .split) (w .right)
+              (word-met (p .seen) s (w .before) (w .this) right (same met) (new-r met) ∙ ap (λ (k : ℕ). pooledMark + k) (sym (i .all-counted)))
+              (λ b x a split side-x other. word-apart (p .seen) s b x (apart x other)));
+          own = w .this .tags;
+          is = own-one A s (w .this) (only met);
+          counted = i .all-counted;
+        }
+      where
+        written : (met : member used n ≡ true) (w : FoundRight A n)
+            → now-slots ≡ set slots (slotOf used (w .this .number)) (pooledMark + u .all)
+        written met w = t .noted met ∙ ap (λ (k : ℕ). set slots (slotOf used k) (pooledMark + u .all)) (sym (w .number))
+
+        apart : (x : TagRecord) → (x .number ≡ f met .this .number → ⊥) → sameSet x s ≡ false
+        apart x other =
+            refuted (sameSet x s)
+            (λ yes. other (eqb-true (x .number) n (and-right (sameSide (x .side) side) (eqb (x .number) n) yes) ∙ sym (f met .number)))
+
+    pub stepped : Stepped first (p .seen) s used u now-total now-heads now-tails now-order now-slots
+    stepped = by-test (member used n) step-met step-alone

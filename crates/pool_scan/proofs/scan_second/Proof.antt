@@ -1,0 +1,208 @@
+-- `pool_scan::scan_second` meets its contract. The invariant: what the counts, the index, the slots and the noted numbers say of the
+-- records seen, and that the first fault and the first set too long of the others are the file's (`Passing`). The measure is how
+-- many bytes are left.
+use mathlib.Core.Path.{_≡_, refl, sym, ap, _∙_}
+use mathlib.Core.Bool.{true, false}
+use Prim.Native.Nat.{ℕ, _-_, _<_, _≤_}
+use native.Mathlib.Omega.{arith}
+use lib.Dec.{ltb}
+use lib.ListN.{length}
+use Rattle.sets.specs.Refusals.{refuseIf, unless}
+use Rattle.sets.specs.declared.Tested.the-variants.{Failed}
+use Rattle.sets.specs.Limits.{maxSetLength, halfWords}
+use Rattle.sets.specs.declared.Refusal.the-variants.{Malformed, NumberUsed, TooMany, Overlong}
+use Rattle.sets.specs.declared.Side.the-variants.{Right}
+use Rattle.tag_file.specs.declared.LoadAnswer.the-variants as load
+use Rattle.tag_file.specs.declared.ReadAnswer.the-variants.{Record}
+use Rattle.tag_file.specs.Reading.{readAt}
+use Rattle.tag_file.specs.Records.{sameSide}
+use Rattle.tag_file.proofs.Ended.{no-records}
+use Rattle.tag_file.proofs.RecordLaws.{read-less, read-number, read-count}
+use Rattle.tag_pooling.specs.Pooling.{placeAfter}
+use Rattle.pool_scan.proofs.Passing.{Passing, passing-start, passing-whole, passing-cut, passing-left, passing-used}
+use Rattle.pool_scan.proofs.Passing.{passing-past, passing-next}
+use Rattle.pool_scan.proofs.Step.{step-ready, step-bounds, stepped}
+use Rattle.pool_scan.proofs.Words.{noted-start}
+use Rattle.pool_scan.proofs.scan_second.Statement.{statement}
+use Rattle.pool_scan.proofs.scan_second.Tie as tie
+
+abbrev Inv-loop : tie.InvT-loop
+Inv-loop first second used counts slots₀ heads₀ tails₀ order₀ hints₀ noted₀ total₀ long₀ at₀ slots heads tails order hints noted total long at =
+    Passing first second noted used heads tails order slots total long at
+
+abbrev μ-loop : tie.MeasureT-loop
+μ-loop first second used counts slots₀ heads₀ tails₀ order₀ hints₀ noted₀ total₀ long₀ at₀ slots heads tails order hints noted total long at =
+    length second - at
+
+-- the record that was read
+read : (a : tie.After-answer Inv-loop μ-loop)
+    → let at-loop = a .before .before .before .before in
+    let r = a .answer .given .0 in
+    readAt (a .before .before .before .before .before .before .before .before .before .before .args .second .now) (at-loop .loop .at) ≡ Record (r .0) (r .1 .0) (r .1 .1 .0) (r .1 .1 .1 .0) (r .1 .1 .1 .1 .0)
+read a = sym (a .before .before .before .read-record .ensures) ∙ a .answer .given .1
+
+small : (a : tie.After-answer Inv-loop μ-loop) → a .answer .given .0 .1 .0 < halfWords
+small a = read-number _ _ (read a) (λ i. a .before .before .before .before .before .before .before .before .shared-slice-known2 .given i .fits)
+
+few : (a : tie.After-answer Inv-loop μ-loop) → a .answer .given .0 .1 .1 .0 ≤ maxSetLength
+few a = read-count _ _ (read a) (λ i. a .before .before .before .before .before .before .before .before .shared-slice-known2 .given i .fits)
+
+loop-holds : tie.Need-loop-holds Inv-loop μ-loop
+loop-holds c =
+    passing-start (c .before .before .before .before .before .pre) noted-start
+
+read-record-requires : tie.Need-read-record-requires Inv-loop μ-loop
+read-record-requires c κs =
+    tt
+
+wrapping-add-usize-requires : tie.Need-wrapping-add-usize-requires Inv-loop μ-loop
+wrapping-add-usize-requires c κs =
+    tt
+
+enum-known-answer : tie.Need-enum-known-answer Inv-loop μ-loop
+enum-known-answer c =
+    c .match .keys1
+
+same-length : tie.Need-same-length Inv-loop μ-loop
+same-length c =
+    c .before .before .before .before .loop .inv .size ∙ sym (c .before .before .before .before .before .before .before .before .before .before .pre .slotted .size)
+
+returns : tie.Need-returns Inv-loop μ-loop
+returns c =
+    let second = c .before .before .before .before .before .before .before .before .before .before .args .second .now in
+    let l = c .before .before .before .before .loop in
+    let read = c .before .before .before .read-record in
+    let stop = no-records second (l .at) (read .result) (sym (read .ensures)) (c .before .match .keys2) in
+    passing-whole (l .inv) stop (c .if1 .taken) refl refl
+
+same-length-2 : tie.Need-same-length-2 Inv-loop μ-loop
+same-length-2 c =
+    c .before .before .before .before .loop .inv .size ∙ sym (c .before .before .before .before .before .before .before .before .before .before .pre .slotted .size)
+
+returns-2 : tie.Need-returns-2 Inv-loop μ-loop
+returns-2 c =
+    let second = c .before .before .before .before .before .before .before .before .before .before .args .second .now in
+    let l = c .before .before .before .before .loop in
+    let read = c .before .before .before .read-record in
+    let stop = no-records second (l .at) (read .result) (sym (read .ensures)) (c .before .match .keys2) in
+    passing-cut (l .inv) stop (c .if1 .left) (ap (λ (k : ℕ). load.Refused (Malformed k)) (c .before .before .wrapping-add-usize .ensures))
+
+is-right-requires : tie.Need-is-right-requires Inv-loop μ-loop
+is-right-requires c κs =
+    tt
+
+slice-aggregate-claim : tie.Need-slice-aggregate-claim Inv-loop μ-loop
+slice-aggregate-claim c =
+    sym (c .before .before .before .before .before .before .before .before .loop .inv .numbers .wide)
+
+claim-requires : tie.Need-claim-requires Inv-loop μ-loop
+claim-requires c κs =
+    c .before .before .before .before .before .before .before .before .loop .inv .numbers .wide
+
+same-length-3 : tie.Need-same-length-3 Inv-loop μ-loop
+same-length-3 c =
+    c .before .before .before .before .before .before .before .before .before .before .before .loop .inv .size ∙ sym (c .before .before .before .before .before .before .before .before .before .before .before .before .before .before .before .before .before .pre .slotted .size)
+
+returns-3 : tie.Need-returns-3 Inv-loop μ-loop
+returns-3 c =
+    let a = c .before .before .before .before .before .before .before in
+    passing-used (c .before .before .before .before .before .before .before .before .before .before .before .loop .inv) (read a) (sym (c .before .before .before .before .before .is-right .ensures) ∙ c .before .before .before .before .if2 .taken) (small a)
+    (sym (c .before .before .claim .ensures .before) ∙ c .if3 .taken) (c .before .before .before .before .before .before .before .before .before .before .before .loop .inv .size)
+    (ap (λ (k : ℕ). load.Refused (NumberUsed k)) (c .before .before .before .before .before .before .before .before .before .wrapping-add-usize .ensures))
+
+unite-requires : tie.Need-unite-requires Inv-loop μ-loop
+unite-requires c κs =
+    let a = c .before .before .before .before .before .before .before .before .before .before .before .before in
+    step-ready (c .before .before .before .before .before .before .before .before .before .before .before .before .before .before .before .before .before .before .before .before .before .before .pre) (λ i. c .before .before .before .before .before .before .before .before .before .before .before .before .before .before .before .before .before .before .before .before .before .shared-slice-known .given i .fits) (c .before .before .before .before .before .before .before .before .before .before .before .before .before .before .before .before .loop .inv) (read a)
+    (sym (c .before .before .before .before .before .before .before .before .before .before .is-right .ensures) ∙ c .before .before .before .before .before .before .before .before .before .if2 .taken) (small a) (sym (c .before .before .before .before .before .before .before .claim .ensures .before) ∙ c .before .before .before .before .before .if3 .left) (few a)
+
+grown-by-requires : tie.Need-grown-by-requires Inv-loop μ-loop
+grown-by-requires c κs =
+    let a = c .before .before .before .before .before .before .before .before .before .before .before .before .before .before .before in (
+      c .before .before .before .before .before .before .before .before .before .before .before .before .before .before .before .before .before .before .before .loop .inv .taken .limited,
+      step-bounds (c .before .before .before .before .before .before .before .before .before .before .before .before .before .before .before .before .before .before .before .before .before .before .before .before .before .pre) (λ i. c .before .before .before .before .before .before .before .before .before .before .before .before .before .before .before .before .before .before .before .before .before .before .before .before .shared-slice-known .given i .fits) (c .before .before .before .before .before .before .before .before .before .before .before .before .before .before .before .before .before .before .before .loop .inv) (read a)
+          (sym (c .before .before .before .before .before .before .before .before .before .before .before .before .before .is-right .ensures) ∙ c .before .before .before .before .before .before .before .before .before .before .before .before .if2 .taken) (small a) (sym (c .before .before .before .before .before .before .before .before .before .before .claim .ensures .before) ∙ c .before .before .before .before .before .before .before .before .if3 .left)
+          (c .before .before .unite .ensures) refl,
+    )
+
+is-past-requires : tie.Need-is-past-requires Inv-loop μ-loop
+is-past-requires c κs =
+    tt
+
+same-length-4 : tie.Need-same-length-4 Inv-loop μ-loop
+same-length-4 c =
+    let a = c .before .before .before .before .before .before .before .before .before .before .before .before .before .before .before .before .before .before in
+    let right = sym (c .before .before .before .before .before .before .before .before .before .before .before .before .before .before .before .before .is-right .ensures) ∙ c .before .before .before .before .before .before .before .before .before .before .before .before .before .before .before .if2 .taken in
+    let free = sym (c .before .before .before .before .before .before .before .before .before .before .before .before .before .claim .ensures .before) ∙ c .before .before .before .before .before .before .before .before .before .before .before .if3 .left in
+    let s = stepped (c .before .before .before .before .before .before .before .before .before .before .before .before .before .before .before .before .before .before .before .before .before .before .before .before .before .before .before .before .pre) (λ i. c .before .before .before .before .before .before .before .before .before .before .before .before .before .before .before .before .before .before .before .before .before .before .before .before .before .before .before .shared-slice-known .given i .fits) (c .before .before .before .before .before .before .before .before .before .before .before .before .before .before .before .before .before .before .before .before .before .before .loop .inv) (read a) right (small a) free
+    (c .before .before .before .before .before .unite .ensures) (c .before .before .grown-by .ensures) in
+    s .size ∙ sym (c .before .before .before .before .before .before .before .before .before .before .before .before .before .before .before .before .before .before .before .before .before .before .before .before .before .before .before .before .pre .slotted .size)
+
+returns-4 : tie.Need-returns-4 Inv-loop μ-loop
+returns-4 c =
+    let a = c .before .before .before .before .before .before .before .before .before .before .before .before .before .before .before .before .before .before in
+    let right = sym (c .before .before .before .before .before .before .before .before .before .before .before .before .before .before .before .before .is-right .ensures) ∙ c .before .before .before .before .before .before .before .before .before .before .before .before .before .before .before .if2 .taken in
+    let free = sym (c .before .before .before .before .before .before .before .before .before .before .before .before .before .claim .ensures .before) ∙ c .before .before .before .before .before .before .before .before .before .before .before .if3 .left in
+    let s = stepped (c .before .before .before .before .before .before .before .before .before .before .before .before .before .before .before .before .before .before .before .before .before .before .before .before .before .before .before .before .pre) (λ i. c .before .before .before .before .before .before .before .before .before .before .before .before .before .before .before .before .before .before .before .before .before .before .before .before .before .before .before .shared-slice-known .given i .fits) (c .before .before .before .before .before .before .before .before .before .before .before .before .before .before .before .before .before .before .before .before .before .before .loop .inv) (read a) right (small a) free
+    (c .before .before .before .before .before .unite .ensures) (c .before .before .grown-by .ensures) in
+    passing-past (c .before .before .before .before .before .before .before .before .before .before .before .before .before .before .before .before .before .before .before .before .before .before .loop .inv) (read a) right (small a) free (s .one) (s .size)
+    (sym (c .before .is-past .ensures) ∙ c .if4 .taken) (ap (λ (k : ℕ). load.Refused (TooMany k)) (c .before .before .before .before .before .before .before .before .before .before .before .before .before .before .before .before .before .before .before .before .wrapping-add-usize .ensures))
+
+first-long-requires : tie.Need-first-long-requires Inv-loop μ-loop
+first-long-requires c κs =
+    tt
+
+loop-less : tie.Need-loop-less Inv-loop μ-loop
+loop-less c =
+    read-less _ _ (read (c .before .before .before .before .before .before .before .before .before .before .before .before .before .before .before .before .before .before .before))
+
+loop-again : tie.Need-loop-again Inv-loop μ-loop
+loop-again c =
+    let a = c .before .before .before .before .before .before .before .before .before .before .before .before .before .before .before .before .before .before .before in
+    let right = sym (c .before .before .before .before .before .before .before .before .before .before .before .before .before .before .before .before .before .is-right .ensures) ∙ c .before .before .before .before .before .before .before .before .before .before .before .before .before .before .before .before .if2 .taken in
+    let free = sym (c .before .before .before .before .before .before .before .before .before .before .before .before .before .before .claim .ensures .before) ∙ c .before .before .before .before .before .before .before .before .before .before .before .before .if3 .left in
+    let s = stepped (c .before .before .before .before .before .before .before .before .before .before .before .before .before .before .before .before .before .before .before .before .before .before .before .before .before .before .before .before .before .pre) (λ i. c .before .before .before .before .before .before .before .before .before .before .before .before .before .before .before .before .before .before .before .before .before .before .before .before .before .before .before .before .shared-slice-known .given i .fits) (c .before .before .before .before .before .before .before .before .before .before .before .before .before .before .before .before .before .before .before .before .before .before .before .loop .inv) (read a) right (small a) free
+    (c .before .before .before .before .before .before .unite .ensures) (c .before .before .before .grown-by .ensures) in
+    passing-next (c .before .before .before .before .before .before .before .before .before .before .before .before .before .before .before .before .before .before .before .before .before .before .before .loop .inv) (read a) right (small a) free (s .one) (s .size)
+    (sym (c .before .before .is-past .ensures) ∙ c .before .if4 .left) (c .before .before .before .before .before .before .before .before .before .before .before .before .before .before .claim .ensures .noted) (s .words) (s .is) (s .counted)
+    (c .first-long .ensures
+    ∙ ap (λ (k : ℕ). unless Failed (c .before .before .before .before .before .before .before .before .before .before .before .before .before .before .before .before .before .before .before .before .before .before .before .loop .long) (refuseIf (ltb maxSetLength (c .before .before .before .before .before .before .unite .result .all)) (Overlong k)))
+    (c .before .before .before .before .before .before .before .before .before .before .before .before .before .before .before .before .before .before .before .before .before .wrapping-add-usize .ensures))
+
+loop-less-2 : tie.Need-loop-less-2 Inv-loop μ-loop
+loop-less-2 c =
+    read-less _ _ (read (c .before .before .before))
+
+loop-again-2 : tie.Need-loop-again-2 Inv-loop μ-loop
+loop-again-2 c =
+    passing-left (c .before .before .before .before .before .before .before .loop .inv) (read (c .before .before .before)) (sym (c .before .is-right .ensures) ∙ c .if2 .left)
+
+pub scan-second-spec : {M : Type 1} → statement M
+scan-second-spec =
+    tie.close
+    (tie.spec
+    Inv-loop
+    μ-loop
+    loop-holds
+    read-record-requires
+    wrapping-add-usize-requires
+    enum-known-answer
+    same-length
+    returns
+    same-length-2
+    returns-2
+    is-right-requires
+    slice-aggregate-claim
+    claim-requires
+    same-length-3
+    returns-3
+    unite-requires
+    grown-by-requires
+    is-past-requires
+    same-length-4
+    returns-4
+    first-long-requires
+    loop-less
+    loop-again
+    loop-less-2
+    loop-again-2)

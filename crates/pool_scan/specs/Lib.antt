@@ -1,0 +1,2 @@
+-- Contents: what the pass over the second file asks and promises.
+pub mod Second

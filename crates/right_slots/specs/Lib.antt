@@ -1,0 +1,2 @@
+-- Contents: slots of the right sets of a file.
+pub mod Slots

@@ -1,0 +1,288 @@
+//! The pooled load on pairs of tag files, whole and damaged, small and about the limits, with lists around the need that hold a pattern
+//! beforehand. Every pair is counted under each kind that it is of, by its bytes, its lists and the oracle's account, whatever it was
+//! made for. The last lines have the counts, and a kind without a case fails the run.
+
+use harness::files::{damage, file, lengths, pair};
+use harness::oracle::{load, pool, read_record, Cause, LoadedFile, Pooled, Read, Refusal, Tag};
+use harness::random::Random;
+use harness::{calls, pads, run::Plan};
+use std::collections::BTreeSet;
+
+/// A whole record of the second file: its tags as a set, and how many were read.
+struct SecondRecord {
+    right: bool,
+    number: u16,
+    tags: BTreeSet<Tag>,
+    count: usize,
+}
+
+/// A pair of files with its lists, and what the oracle says of it and of each file alone.
+struct Case<'a> {
+    files: [&'a [u8]; 2],
+    damaged: Option<&'static str>,
+    lengths: [usize; 7],
+    pooled: &'a Result<Pooled, Refusal>,
+    refusal: Option<Refusal>,
+    first: Result<LoadedFile, Refusal>,
+    second: Pooled,
+    records: Vec<SecondRecord>,
+}
+
+impl Case<'_> {
+    fn is(&self, number: u64) -> bool {
+        self.refusal.map_or(0, |refusal| refusal.0) == number
+    }
+
+    fn loaded(&self) -> Option<&LoadedFile> {
+        self.refusal.is_none().then(|| &self.pooled.as_ref().expect("what is accepted was pooled").loaded)
+    }
+
+    fn causes(&self) -> &[(u64, Cause)] {
+        self.pooled.as_ref().map_or(&[], |pooled| &pooled.causes)
+    }
+
+    fn is_in_first(&self, number: u64) -> bool {
+        self.pooled.as_ref().err().is_some_and(|refusal| refusal.0 == number)
+    }
+
+    /// The causes of the record in the second file that decides with this number.
+    fn deciding(&self, number: u64) -> Vec<Cause> {
+        match self.refusal {
+            Some(Refusal(n, place, _)) if n == number && n != 4 => {
+                self.causes().iter().filter(|cause| cause.0 == place).map(|cause| cause.1).collect()
+            }
+            _ => Vec::new(),
+        }
+    }
+
+    /// Refused with 2 in the second file, at a number that the first file's stacks have, or have not.
+    fn is_used(&self, in_first: bool) -> bool {
+        let Some(Refusal(2, place, _)) = self.refusal else { return false };
+        let (Some(at), Ok(first)) = ((place as usize).checked_sub(self.files[0].len()), &self.first) else { return false };
+        let Read::Record { number, .. } = read_record(self.files[1], at) else { return false };
+        first.sides[1].numbers.contains(&number) == in_first
+    }
+
+    /// Refused with 3 by this limit alone, which neither file passes by itself.
+    fn is_only_pooled(&self, limit: Cause) -> bool {
+        let limits: Vec<Cause> = self.deciding(3).into_iter().filter(|cause| cause.number() == 3).collect();
+        limits == [limit] && !self.second.causes.iter().any(|(_, cause)| cause.number() == 3)
+    }
+
+    /// Refused in the second file with this number, where an earlier record's pooled set is too long.
+    fn is_after_overlong(&self, number: u64) -> bool {
+        let earlier = |place: u64| self.causes().iter().any(|&(at, cause)| at < place && cause == Cause::Overlong);
+        self.is(number) && self.refusal.is_some_and(|refusal| earlier(refusal.1))
+    }
+
+    fn is_short(&self) -> bool {
+        self.pooled.as_ref().is_ok_and(|pooled| calls::is_short(self.lengths, calls::lengths_needed(&pooled.loaded)))
+    }
+
+    /// Refused with 4, where this list alone is too short, by one.
+    fn is_one_short(&self, list: usize) -> bool {
+        let Ok(pooled) = self.pooled else { return false };
+        let needed = calls::lengths_needed(&pooled.loaded);
+        let mut longer = self.lengths;
+        longer[list] += 1;
+        self.is(4) && longer[list] == needed[list] && !calls::is_short(longer, needed)
+    }
+
+    /// How each list compares with the need, where the files are accepted.
+    fn has_lists(&self, order: fn(&usize, &usize) -> bool) -> bool {
+        self.loaded().is_some_and(|loaded| self.lengths.iter().zip(&calls::lengths_needed(loaded)).all(|(n, m)| order(n, m)))
+    }
+
+    /// Accepted with a kit of the second file of which something holds.
+    fn has_kit(&self, holds: impl Fn(&Case, &SecondRecord, usize) -> bool) -> bool {
+        self.loaded().is_some() && self.records.iter().enumerate().any(|(k, read)| !read.right && holds(self, read, k))
+    }
+
+    /// Accepted with a stack of the second file of which something holds, beside the first file's of that number.
+    fn has_stack(&self, holds: impl Fn(&SecondRecord, Option<&Vec<Tag>>) -> bool) -> bool {
+        self.loaded().is_some() && self.has_any_stack(holds)
+    }
+
+    fn has_any_stack(&self, holds: impl Fn(&SecondRecord, Option<&Vec<Tag>>) -> bool) -> bool {
+        let Ok(first) = &self.first else { return false };
+        let of = |number: u16| first.sides[1].numbers.iter().position(|&n| n == number).map(|k| &first.sides[1].sets[k]);
+        self.records.iter().any(|read| read.right && holds(read, of(read.number)))
+    }
+
+    /// Whether a stack of 255 tags on each pad pools to so many.
+    fn pools_to(&self, number: u64, union: usize) -> bool {
+        let pools = |read: &SecondRecord, first: Option<&Vec<Tag>>| {
+            let Some(first) = first.filter(|first| first.len() == 255 && read.tags.len() == 255) else { return false };
+            read.tags.iter().chain(first).collect::<BTreeSet<_>>().len() == union
+        };
+        self.is(number) && self.has_any_stack(pools)
+    }
+
+    /// Whether stacks that the files share are accepted in two orders.
+    fn has_two_orders(&self) -> bool {
+        let Ok(first) = &self.first else { return false };
+        let in_first = |read: &SecondRecord| first.sides[1].numbers.iter().position(|&number| number == read.number);
+        let places = self.records.iter().filter(|read| read.right).filter_map(in_first);
+        self.is(0) && !places.is_sorted()
+    }
+
+    /// Accepted with just so many of something, and fewer in the first file.
+    fn reaches(&self, limit: usize, count: fn(&LoadedFile) -> usize) -> bool {
+        self.first.as_ref().is_ok_and(|first| count(first) < limit) && self.loaded().is_some_and(|loaded| count(loaded) == limit)
+    }
+}
+
+type Kind = (&'static str, fn(&Case) -> bool);
+const KINDS: [Kind; 51] = [
+    ("accepted", |c| c.is(0)),
+    ("1 in the first file", |c| c.is_in_first(1)),
+    ("2 in the first file", |c| c.is_in_first(2)),
+    ("3 in the first file", |c| c.is_in_first(3)),
+    ("1 in the second file", |c| c.deciding(1) == [Cause::Malformed]),
+    ("2 in the second file, of a number that the first has", |c| c.is_used(true)),
+    ("2 in the second file, of a number that the first has not", |c| c.is_used(false)),
+    ("3 only by pooling, by sets", |c| c.is_only_pooled(Cause::Sets)),
+    ("3 only by pooling, by entries", |c| c.is_only_pooled(Cause::Entries)),
+    ("3 only by pooling, by tags", |c| c.is_only_pooled(Cause::Tags)),
+    ("4", |c| c.is(4)),
+    ("10", |c| c.deciding(10) == [Cause::Overlong]),
+    ("10, and again at a later record", |c| c.is(10) && c.causes().len() > 1),
+    ("faults in both files", |c| c.first.is_err() && c.second.refusal(false).is_some()),
+    ("1 against an earlier 10", |c| c.is_after_overlong(1)),
+    ("2 against an earlier 10", |c| c.is_after_overlong(2)),
+    ("3 against an earlier 10", |c| c.is_after_overlong(3)),
+    ("2 against 3 at one record", |c| c.deciding(2).iter().any(|cause| cause.number() == 3)),
+    ("3 against 10 at one record", |c| c.deciding(3).contains(&Cause::Overlong)),
+    ("1 to 3 in the second file against 4", |c| c.is_short() && !c.is(4)),
+    ("4 against 10", |c| c.is(4) && !c.causes().is_empty()),
+    ("lists of the exact lengths", |c| c.has_lists(|length, needed| length == needed)),
+    ("longer lists", |c| c.has_lists(|length, needed| length > needed)),
+    ("tags one short", |c| c.is_one_short(0)),
+    ("left numbers one short", |c| c.is_one_short(1)),
+    ("left ends one short", |c| c.is_one_short(2)),
+    ("left items one short", |c| c.is_one_short(3)),
+    ("right numbers one short", |c| c.is_one_short(4)),
+    ("right ends one short", |c| c.is_one_short(5)),
+    ("right items one short", |c| c.is_one_short(6)),
+    ("an empty first file", |c| c.files[0].is_empty() && !c.files[1].is_empty()),
+    ("an empty second file", |c| !c.files[0].is_empty() && c.files[1].is_empty()),
+    ("both files empty", |c| c.files.iter().all(|file| file.is_empty())),
+    ("one file on both pads", |c| c.is(0) && !c.files[0].is_empty() && std::ptr::eq(c.files[0], c.files[1])),
+    ("a byte changed", |c| c.damaged == Some("byte")),
+    ("a file cut", |c| c.damaged == Some("cut")),
+    ("a mark broken", |c| c.damaged == Some("mark")),
+    ("damaged in another way", |c| c.damaged == Some("other")),
+    ("a kit of the second with a number of the first's kits", |c| {
+        c.has_kit(|c, kit, _| c.loaded().is_some_and(|loaded| loaded.sides[0].numbers.contains(&kit.number)))
+    }),
+    ("two kits of the second with one number", |c| {
+        c.has_kit(|c, kit, k| c.records[..k].iter().any(|earlier| !earlier.right && earlier.number == kit.number))
+    }),
+    ("a kit of the second with tags that nothing else has", |c| {
+        c.has_kit(|c, kit, _| c.loaded().is_some_and(|loaded| kit.tags.iter().any(|tag| loaded.tags.binary_search(tag).is_err())))
+    }),
+    ("a stack of the second that the first has not", |c| c.has_stack(|_, first| first.is_none())),
+    ("stacks of both files in two orders", |c| c.has_two_orders()),
+    ("a tag of one stack on both pads", |c| {
+        c.has_stack(|read, first| first.is_some_and(|first| first.iter().any(|tag| read.tags.contains(tag))))
+    }),
+    ("a repeat in a pooled record", |c| c.has_stack(|read, first| first.is_some() && read.count > read.tags.len())),
+    ("255 and 255 tags that pool to 255", |c| c.pools_to(0, 255)),
+    ("255 and 255 tags that pool to 256", |c| c.pools_to(10, 256)),
+    ("255 and 255 tags that pool to 510", |c| c.pools_to(10, 510)),
+    ("4,096 stacks by pooling", |c| c.reaches(4096, |loaded| loaded.sides[1].sets.len())),
+    ("65,535 entries by pooling", |c| c.reaches(65535, |loaded| loaded.sides[1].sets.iter().map(Vec::len).sum())),
+    ("4,096 tags by pooling", |c| c.reaches(4096, |loaded| loaded.tags.len())),
+];
+
+/// The whole records at the start of a file.
+fn records_of(file: &[u8]) -> Vec<SecondRecord> {
+    let mut records = Vec::new();
+    let mut at = 0;
+    while let Read::Record { right, number, count, tags, next } = read_record(file, at) {
+        let tags = file[tags..next].chunks(12).map(|tag| tag.try_into().expect("12 bytes")).collect();
+        records.push(SecondRecord { right, number, tags, count });
+        at = next;
+    }
+    records
+}
+
+/// Breaks the mark of a record.
+fn break_mark(random: &mut Random, file: &mut [u8]) {
+    let mut places = Vec::new();
+    let mut at = 0;
+    while let Read::Record { next, .. } = read_record(file, at) {
+        places.push(at);
+        at = next;
+    }
+    if !places.is_empty() {
+        let place = random.pick(&places);
+        let mark = random.pick(&[*b"SS", *b"KK", *b"TK", *b"KS", *b"ST", [0, 0]]);
+        file[place..place + 2].copy_from_slice(&mark);
+    }
+}
+
+/// Damages one of two files now and then, and says how.
+fn damaged(random: &mut Random, files: &mut [Vec<u8>; 2]) -> Option<&'static str> {
+    let file = &mut files[random.below(2)];
+    let way = random.pick(&["byte", "cut", "mark", "other"]);
+    if file.is_empty() || !random.one_in(3) {
+        return None;
+    }
+    let at = random.below(file.len());
+    match way {
+        "byte" => file[at] ^= 1 << random.below(8),
+        "cut" => file.truncate(at),
+        "mark" => break_mark(random, file),
+        _ => damage(random, file),
+    }
+    Some(way)
+}
+
+/// Two files of any kind, and how one of them was damaged. The large ones are few, and are left whole.
+fn files(random: &mut Random) -> ([Vec<u8>; 2], Option<&'static str>) {
+    let mut files = match random.below(400) {
+        0 => return (pads::full_entries(random), None),
+        1..=3 => return (pads::full_sets(random), None),
+        4..=7 => return (pads::full_tags(random), None),
+        8..=20 => pads::wide(random),
+        21..=25 => [Vec::new(), file(random)],
+        26..=30 => [file(random), Vec::new()],
+        _ => pair(random),
+    };
+    let way = damaged(random, &mut files);
+    (files, way)
+}
+
+fn main() {
+    let mut compared = [0u64; KINDS.len()];
+    let plan = Plan::from_args(30_000);
+    plan.run("pooled loads", |random, print| {
+        let ([first, second], damaged) = &files(random);
+        let files = if random.one_in(30) { [&first[..], &first[..]] } else { [&first[..], &second[..]] };
+        let pooled = pool(files[0], files[1]);
+        let needed = match &pooled {
+            Ok(pooled) => calls::lengths_needed(&pooled.loaded),
+            Err(_) => [36, 3, 3, 9, 3, 3, 9].map(|length| random.within(0, length)),
+        };
+        let lengths = lengths(random, needed);
+        let refusal = calls::pooled_refusal(lengths, &pooled);
+        if print {
+            println!("{:02X?}\n{:02X?}\n{lengths:?}\n{pooled:?}\n{refusal:?}", files[0], files[1]);
+        }
+        let (first, second) = (load(files[0]), pool(&[], files[1]).expect("an empty file has no fault"));
+        let records = records_of(files[1]);
+        let case = Case { files, damaged: *damaged, lengths, pooled: &pooled, refusal, first, second, records };
+        for (count, (_, is_of)) in compared.iter_mut().zip(KINDS) {
+            *count += u64::from(is_of(&case));
+        }
+        calls::load_pooled_into(random, files, lengths, &pooled)
+    });
+    for ((name, _), count) in KINDS.iter().zip(compared) {
+        println!("{count:7}  {name}");
+    }
+    if plan.only.is_none() && plan.cases >= 30_000 && compared.contains(&0) {
+        println!("FAILED pooled loads: the generator missed a kind of case");
+        std::process::exit(1);
+    }
+}
