@@ -259,8 +259,9 @@ pub fn growth() -> Vec<Workload> {
     [256, 512, 1024, 2048].iter().map(|&n| even(&n.to_string(), n)).collect()
 }
 
-/// The tag files of two pads over the same tags, each of about so many bytes: four records in ten are left sets. A record has a few distinct
-/// tags, and in a large file each is read many times over. Half of the second file's right sets are of numbers that the first has.
+/// The tag files of two pads over the same tags. The first has about so many bytes, and four records in ten are left sets; the second has right
+/// sets alone, about as many and nearly all of numbers that the first has. A record has a few distinct tags, and in a large file each is
+/// read many times over.
 pub fn pad_files(bytes: usize) -> [Vec<u8>; 2] {
     let random = &mut Random(11);
     let tags = (bytes / 48).clamp(8, 4000);
@@ -272,11 +273,11 @@ pub fn pad_files(bytes: usize) -> [Vec<u8>; 2] {
         .collect();
     let zipf = Zipf::new(tags, 0.5, random);
     let mut numbers = [0u16; 2];
-    [0, 1].map(|_| {
-        numbers[1] /= 2;
+    [0, 1].map(|pad| {
+        numbers[1] = 0;
         let mut file = Vec::new();
-        while file.len() < bytes {
-            let side = usize::from(random.below(10) >= 4);
+        while file.len() < if pad == 0 { bytes } else { bytes * 3 / 5 } {
+            let side = usize::from(pad == 1 || random.below(10) >= 4);
             let distinct = if side == 0 { random.within(2, 12) } else { random.within(4, 20) }.min(tags);
             let reads = if bytes > 1_000_000 { random.within(60, 120) } else { distinct + random.below(4) };
             let set = zipf.set(&[], distinct, random);

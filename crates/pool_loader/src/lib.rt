@@ -3,7 +3,10 @@
 use pool_fill::fill_right;
 use pool_scan::Second;
 use pool_scan::scan_second;
+use right_slots::BLOCKS;
+use right_slots::NUMBER_WORDS;
 use right_slots::index_right;
+use sets::MAX_SETS;
 use sets::Refusal;
 use sets::Side;
 use sets::Tested;
@@ -27,12 +30,6 @@ ghost use Rattle.pool_loader.specs.Deciding.{decided, LimitedIf, FirstTa
 
 // A hint that leads to no id.
 const NO_ID: u16 = 65535;
-// The words of a bit set with a member for each number of the right side.
-const NUMBER_WORDS: usize = 1024;
-// The blocks of numbers that are counted.
-const BLOCKS: usize = 512;
-// The slots of the first file's right sets.
-const SLOTS: usize = 4096;
 
 // The answer, by the first passes and the lengths of the lists.
 fn decide(
@@ -232,7 +229,7 @@ fn pool_second(
 {
     let mut used = [0u64; NUMBER_WORDS];
     let mut counts = [0u16; BLOCKS];
-    let mut slots = [0u32; SLOTS];
+    let mut slots = [0u32; MAX_SETS];
     index_right(first, &mut used, &mut counts, &mut slots);
     let scanned = scan_second(
         first,

@@ -3,6 +3,8 @@
 // the first file's record are marked again, and then those of the second's that are new.
 use bit_sets::contains;
 use bit_sets::insert;
+use right_slots::NUMBER_WORDS;
+use right_slots::POOLED_MARK;
 use right_slots::slot_of;
 use sets::MAX_SET_LENGTH;
 use sets::Refusal;
@@ -36,11 +38,6 @@ ghost use Rattle.tag_scan.specs.Scan.{Limited};
 ghost use Rattle.right_slots.specs.Slots.{numberWords};
 ghost use Rattle.pool_scan.specs.Second.{Claimed, RecordThere, KnownThere, IndexReady, TagsInside, AddedAlone, AddedBoth};
 ghost use Rattle.pool_scan.specs.Second.{UniteReady, Taking, unitedBy, SecondReady, SecondScanned};
-
-// The words of a bit set with a member for each number of the right side.
-const NUMBER_WORDS: usize = 1024;
-// What marks a slot's word as the length of a pooled set.
-pub const POOLED_MARK: u32 = 2147483648;
 
 // The tags of a set of the second file: how many the index has with them, how many distinct ones the first file's set of its number had,
 // how many both have together, and whether there is one.

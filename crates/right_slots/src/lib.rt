@@ -17,8 +17,14 @@ ghost use Rattle.tag_file.specs.Records.{records, sameSide, ofSide};
 ghost use Rattle.right_slots.specs.Slots.{numberWords, blockLength, blocks, slotOf, BlocksCounted, NumbersNoted};
 ghost use Rattle.right_slots.specs.Slots.{Slotted, Slottable};
 
+// The words of the bit set of numbers: a member for each of 65,536.
+pub const NUMBER_WORDS: usize = 65536 / 64;
 // The words of a block.
 const BLOCK_WORDS: usize = 2;
+// How many blocks there are.
+pub const BLOCKS: usize = NUMBER_WORDS / BLOCK_WORDS;
+// What marks the word of a slot as the length of a pooled set.
+pub const POOLED_MARK: u32 = 2147483648;
 
 // How many members the block of a word has before the word: those of its first word, or none.
 fn ones_before(used: &[u64], w: usize) -> usize
