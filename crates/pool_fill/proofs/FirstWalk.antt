@@ -1,7 +1,7 @@
 -- The walk over the first file: its invariant, with its start, and its step over a left set. The right sets that were passed are
 -- written with room for their unions, and their slots tell where they stand; the slots of the others are as before.
 use mathlib.Core.Path.{_≡_, refl, sym, ap, subst, _∙_}
-use mathlib.Core.List.{List, [], _∷_, _++_, map, append-nil, append-assoc}
+use mathlib.Core.List.{List, [], _∷_, _++_, map, append-assoc}
 use mathlib.Core.Bool.{Bool, false, cond}
 use Prim.Native.Nat.{ℕ, _+_}
 use native.Mathlib.Omega.{arith}
@@ -18,8 +18,10 @@ use Rattle.tag_file.specs.Reading.{readAt, tagsAt}
 use Rattle.tag_file.specs.Records.{TagRecord, recordsAt, records, sameSide, ofSide, itemsOf, setsOfSide}
 use Rattle.tag_file.specs.Loading.{numbersOf, join}
 use Rattle.tag_file.specs.declared.ReadAnswer.the-variants.{Record}
+use Rattle.tag_file.proofs.FaultFree.{side-other}
 use Rattle.tag_file.proofs.RecordLaws.{records-next}
 use Rattle.tag_pooling.specs.Pooling.{pooled}
+use Rattle.tag_pooling.proofs.Sides.{numbers-pooled}
 use Rattle.tag_index.specs.Index.{tableOf}
 use Rattle.tag_fill.specs.declared.Filled.{Filled}
 use Rattle.tag_fill.specs.Fill.{markWords, Unmarked}
@@ -30,7 +32,7 @@ use Rattle.pool_fill.specs.Pool.{placeWord, PoolFillReady}
 use Rattle.pool_fill.proofs.Laying.{Block, size}
 use Rattle.pool_fill.proofs.Placing.{Placing, placing-start}
 use Rattle.pool_fill.proofs.Unions.{keep-without, partOf}
-use Rattle.pool_fill.proofs.PooledSets.{isNew, pooled-numbers, pooled-sets}
+use Rattle.pool_fill.proofs.PooledSets.{isNew, pooled-sets}
 
 -- a set of the first file, after some records of the second
 abbrev pub blockOf : List ℕ → List TagRecord → List TagRecord → TagRecord → Block
@@ -118,7 +120,7 @@ module _ {first second heads tails : List ℕ} {n : ℕ} {order ranks used count
             (subst (λ (l : List ℕ). Placing (numbersOf Right (pooled firsts (records second)))
             (setsOfSide Right table (pooled firsts (records second))) numbers₀ ends₀ items₀ numbers₀ ends₀ items₀
             (record { sets = 0; entries = 0 }) [] l (setsOfSide Right table (pooled firsts (records second))))
-            (pooled-numbers firsts (records second))
+            (numbers-pooled firsts (records second))
             (placing-start (numbersOf Right (pooled firsts (records second)))
             (setsOfSide Right table (pooled firsts (records second)))
             numbers₀ ends₀ items₀ (ready .for-numbers) (ready .for-ends) (ready .for-items)));
@@ -156,7 +158,7 @@ module _ {first second heads tails : List ℕ} {n : ℕ} {order ranks used count
         let gone : ofSide Right (recordsAt first at) ≡ ofSide Right rest =
         ap (ofSide Right) opened ∙ keep-without (λ r. sameSide Right (r .side)) [] this rest left in
         let kept : ofSide Right (w .passed) ≡ ofSide Right (w .passed ++ (this ∷ [])) =
-        sym (keep-without (λ r. sameSide Right (r .side)) (w .passed) this [] left ∙ append-nil (ofSide Right (w .passed))) in
+        sym (side-other Right (w .passed) this left) in
         record {
           passed = w .passed ++ (this ∷ []);
           split = here-next;

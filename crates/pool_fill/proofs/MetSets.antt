@@ -20,6 +20,7 @@ use Rattle.tag_file.specs.Records.{TagRecord, recordsAt, records, sameSide, ofS
 use Rattle.tag_file.specs.Loading.{numberUsed, numbersOf, join}
 use Rattle.tag_file.proofs.RecordLaws.{same-side}
 use Rattle.tag_pooling.specs.Pooling.{sameSet, pooled}
+use Rattle.tag_pooling.proofs.OneMore.{used-alike}
 use Rattle.tag_index.specs.Index.{tableOf}
 use Rattle.tag_fill.specs.declared.Filled.{Filled}
 use Rattle.tag_fill.specs.Fill.{Unmarked, TagsKnown}
@@ -31,7 +32,7 @@ use Rattle.pool_fill.specs.Pool.{placeWord, HasSlot, standing, SomeStand
 use Rattle.pool_fill.proofs.Laying.{Block, size, withPart, Laid, laid-at}
 use Rattle.pool_fill.proofs.Placing.{Placing, placing-reach}
 use Rattle.pool_fill.proofs.Placing.{placing-again}
-use Rattle.pool_fill.proofs.Unions.{keep-around, keep-without, used-alike, partOf, part-alone, part-met}
+use Rattle.pool_fill.proofs.Unions.{keep-around, keep-without, partOf, part-alone, part-met}
 use Rattle.pool_fill.proofs.Unions.{items-more, met-fits}
 use Rattle.pool_fill.proofs.PooledSets.{isNew, united-held, met-held, none-before, none-after}
 use Rattle.pool_fill.proofs.FirstWalk.{blockOf, startOf}
@@ -217,12 +218,12 @@ module _ {first second heads tails : List ℕ} {n : ℕ} {order ranks used count
       let next = seen ++ (this ∷ []) in
       ap₂ (λ (a b : List Block). a ++ b)
       (blocks-other table seconds seen below this
-      (none-before (ready .once) (found .before) r (found .after) (found .split) (found .right) this one-side (found .number)))
+      (none-before (ready .once) (found .before) r (found .after) (found .split) this one-side (found .number)))
       (ap₂ (λ (q : List ℕ) (l : List Block). record { whole = partOf table seconds r; part = q } ∷ l)
       (sym (part-met table seen this r same unseen-r))
       (ap₂ (λ (a b : List Block). a ++ b)
       (blocks-other table seconds seen above this
-      (none-after (ready .once) (found .before) r (found .after) (found .split) (found .right) this one-side
+      (none-after (ready .once) (found .before) r (found .after) (found .split) this one-side
       (found .number)))
       (ap (map (newBlock table)) (sym (keep-without (isNew firsts) seen this [] met ∙ append-nil (news seen))))))
       ∙ sym (blocks-apart next) ∙ ap blocks (h .then-seen)

@@ -11,9 +11,10 @@ use Rattle.sets.specs.declared.Side.{Side}
 use Rattle.sets.specs.declared.Side.the-variants.{Right}
 use Rattle.tag_file.specs.Format.{tagAt}
 use Rattle.tag_file.specs.Reading.{pastTags, tagsAt}
-use Rattle.tag_file.specs.Records.{TagRecord, recordsAt, records, ofSide, itemsOf, setsOfSide}
+use Rattle.tag_file.specs.Records.{TagRecord, recordsAt, records, sameSide, ofSide, itemsOf, setsOfSide}
 use Rattle.tag_file.specs.Loading.{numberUsed, numbersOf}
 use Rattle.tag_pooling.specs.Pooling.{pooled}
+use Rattle.tag_pooling.proofs.OneMore.{used-keep}
 use Rattle.tag_index.specs.Index.{tableOf}
 use Rattle.tag_fill.specs.declared.Filled.{Filled}
 use Rattle.tag_fill.specs.Fill.{Unmarked, TagsKnown, RoomForOne, OneFilled}
@@ -24,7 +25,7 @@ use Rattle.pool_fill.proofs.Laying.{Block}
 use Rattle.pool_fill.proofs.Placing.{Placing, placing-bound, placing-room}
 use Rattle.pool_fill.proofs.Placing.{placing-number, placing-end}
 use Rattle.pool_fill.proofs.Placing.{placing-next}
-use Rattle.pool_fill.proofs.Unions.{keep-around, used-side}
+use Rattle.pool_fill.proofs.Unions.{keep-around}
 use Rattle.pool_fill.proofs.PooledSets.{isNew, new-held}
 use Rattle.pool_fill.proofs.FirstWalk.{blockOf}
 use Rattle.pool_fill.proofs.SecondWalk.{newBlock, blocks-other, SecondWalk, RightHere}
@@ -115,7 +116,7 @@ module _ {first second heads tails : List ℕ} {n : ℕ} {order ranks used count
       append-assoc (map (blockOf table seconds seen) (ofSide Right firsts)) (map (newBlock table) (news seen))
       (newBlock table this ∷ [])
       ∙ ap₂ (λ (a b : List Block). a ++ b)
-      (blocks-other table seconds seen (ofSide Right firsts) this (used-side firsts Right this missed))
+      (blocks-other table seconds seen (ofSide Right firsts) this (used-keep (λ q. sameSide Right (q .side)) firsts this missed))
       (sym (map-append (newBlock table) (news seen) (this ∷ []))
       ∙ ap (map (newBlock table)) (sym (keep-around (isNew firsts) seen this [] (ap not missed))))
       ∙ ap blocks (h .then-seen)

@@ -1,29 +1,26 @@
--- The right sets of the pooled records of two files: the first file's with what the second adds, then the second's not yet met;
--- their numbers, items and tags, and the length that a slot's word tells.
-use mathlib.Core.Path.{_≡_, refl, sym, ap, ap₂, _∙_}
+-- The right sets of the pooled records of two files: their items and tags, and the length that a slot's word tells.
+use mathlib.Core.Path.{_≡_, sym, ap, _∙_}
 use mathlib.Core.List.{List, [], _∷_, _++_, map, map-append, map-map, append-assoc}
-use mathlib.Core.Bool.{Bool, true, false, not, cond, _&&_}
+use mathlib.Core.Bool.{Bool, true, false, not, cond}
 use Prim.Native.Nat.{ℕ, _+_, _-_, _<_, _≤_}
 use native.Mathlib.Omega.{arith}
-use borrow.Author.Tests.{eqb-true, lt-ltb, le-ltb}
-use lib.Dec.{eqb}
-use lib.ListN.{length, length-append}
-use Rattle.lists.specs.Lists.{onto, keep, memb, rising}
-use Rattle.lists.proofs.Bools.{by-test, refuted, and-left, and-right, or-left, or-right}
+use borrow.Author.Tests.{lt-ltb, le-ltb}
+use lib.ListN.{length}
+use Rattle.lists.specs.Lists.{keep, memb, rising}
+use Rattle.lists.proofs.Bools.{by-test, or-left, or-right}
 use Rattle.lists.proofs.Membership.{memb-append}
-use Rattle.lists.proofs.Filtering.{keep-append, keep-all, all-kept, all-keep}
 use Rattle.lists.proofs.Summing.{sum-append}
 use Rattle.sets.specs.declared.Side.the-variants.{Right}
 use Rattle.tag_file.specs.Format.{recordLength}
 use Rattle.tag_file.specs.Records.{TagRecord, totalLength, sameSide, ofSide, collapse, allTags, itemsOf, setsOfSide}
-use Rattle.tag_file.specs.Loading.{numberUsed, numbersOf}
-use Rattle.tag_file.proofs.RecordLaws.{same-side}
+use Rattle.tag_file.specs.Loading.{numberUsed}
 use Rattle.tag_file.proofs.ItemCount.{item-count}
 use Rattle.tag_pooling.specs.Pooling.{sameSet, unitedWith, unmet, pooled}
+use Rattle.tag_pooling.proofs.OneMore.{used-alike, used-keep, used-behind, memb-around}
+use Rattle.tag_pooling.proofs.Sides.{right-pooled}
 use Rattle.right_slots.specs.Slots.{NumbersOnce, pooledMark, slotWord}
-use Rattle.right_slots.proofs.Found.{once-same}
 use Rattle.pool_fill.specs.Pool.{lengthBy}
-use Rattle.pool_fill.proofs.Unions.{keep-around, any-passing, used-alike, used-side, partOf, part-alone}
+use Rattle.pool_fill.proofs.Unions.{keep-around, partOf, part-alone}
 
 -- whether a record's set is not among records
 abbrev pub isNew : List TagRecord → TagRecord → Bool
@@ -31,59 +28,19 @@ isNew first s = not (numberUsed first s)
 
 -- ---- the right sets of the pooled records
 
-keep-united : (others first : List TagRecord)
-    → ofSide Right (map (unitedWith others) first) ≡ map (unitedWith others) (ofSide Right first)
-unfolding keep
-keep-united others [] = refl
-keep-united others (r ∷ rs) = kept (sameSide Right (r .side)) (keep-united others rs)
-  where
-    kept : (b : Bool) → ofSide Right (map (unitedWith others) rs) ≡ map (unitedWith others) (ofSide Right rs)
-        → onto b (unitedWith others r) (ofSide Right (map (unitedWith others) rs))
-        ≡ map (unitedWith others) (onto b r (ofSide Right rs))
-    kept true e = ap (λ (l : List TagRecord). unitedWith others r ∷ l) e
-    kept false e = e
-
 module _ (first second : List TagRecord) where
-  pub pooled-right : ofSide Right (pooled first second)
-      ≡ map (unitedWith (ofSide Right second)) (ofSide Right first) ++ keep (isNew first) (ofSide Right second)
-  unfolding pooled
-  pooled-right =
-      keep-append (λ r. sameSide Right (r .side)) (map (unitedWith (ofSide Right second)) first) (unmet first second)
-      ∙ ap₂ (λ (a b : List TagRecord). a ++ b) (keep-united (ofSide Right second) first)
-      (keep-all (λ r. sameSide Right (r .side)) (unmet first second)
-      (all-keep (λ r. sameSide Right (r .side)) (isNew first) (ofSide Right second)
-      (all-kept (λ r. sameSide Right (r .side)) second)))
-
-  pub pooled-numbers : numbersOf Right (pooled first second)
-      ≡ map (λ r. r .number) (ofSide Right first) ++ map (λ r. r .number) (keep (isNew first) (ofSide Right second))
-  pooled-numbers =
-      let united = map (unitedWith (ofSide Right second)) (ofSide Right first) in
-      ap (map (λ (r : TagRecord). r .number)) pooled-right
-      ∙ map-append (λ (r : TagRecord). r .number) united (keep (isNew first) (ofSide Right second))
-      ∙ ap (λ (l : List ℕ). l ++ map (λ (r : TagRecord). r .number) (keep (isNew first) (ofSide Right second)))
-      (map-map (λ (r : TagRecord). r .number) (unitedWith (ofSide Right second)) (ofSide Right first))
-
   pub pooled-sets : (table : List ℕ) → setsOfSide Right table (pooled first second)
       ≡ map (partOf table (ofSide Right second)) (ofSide Right first)
       ++ map (λ r. itemsOf table (r .tags)) (keep (isNew first) (ofSide Right second))
   pooled-sets table =
       let united = map (unitedWith (ofSide Right second)) (ofSide Right first) in
       let itemsIn : TagRecord → List ℕ = λ r. itemsOf table (r .tags) in
-      ap (map itemsIn) pooled-right
+      ap (map itemsIn) (right-pooled first second)
       ∙ map-append itemsIn united (keep (isNew first) (ofSide Right second))
       ∙ ap (λ (l : List (List ℕ)). l ++ map itemsIn (keep (isNew first) (ofSide Right second)))
       (map-map itemsIn (unitedWith (ofSide Right second)) (ofSide Right first))
 
 -- ---- tags
-
-memb-around : (xs : List TagRecord) (x : TagRecord) (ys : List TagRecord) (y : ℕ) → memb y (x .tags) ≡ true
-    → memb y (allTags (xs ++ (x ∷ ys))) ≡ true
-unfolding allTags
-memb-around [] x ys y m =
-    memb-append y (x .tags) (allTags ys) ∙ or-left (memb y (x .tags)) (memb y (allTags ys)) m
-memb-around (z ∷ xs) x ys y m =
-    memb-append y (z .tags) (allTags (xs ++ (x ∷ ys)))
-    ∙ or-right (memb y (z .tags)) (memb y (allTags (xs ++ (x ∷ ys)))) (memb-around xs x ys y m)
 
 module _ (first second : List TagRecord) where
   -- the tags of a set of the first file, with those of the second
@@ -132,31 +89,17 @@ own-held others r y m =
 
 -- no other right set has the number of one
 module _ {first : List TagRecord} (once : NumbersOnce first) (before : List TagRecord) (r : TagRecord) (after : List TagRecord)
-    (e : first ≡ before ++ (r ∷ after)) (right : sameSide Right (r .side) ≡ true) (s : TagRecord)
+    (e : first ≡ before ++ (r ∷ after)) (s : TagRecord)
     (side : r .side ≡ s .side) (number : r .number ≡ s .number) where
   pub none-before : numberUsed (ofSide Right before) s ≡ false
-  none-before = used-side before Right s (sym (used-alike before r s side number) ∙ once before r after e)
+  none-before = used-keep (λ q. sameSide Right (q .side)) before s (sym (used-alike before r s side number) ∙ once before r after e)
 
   pub none-after : numberUsed (ofSide Right after) s ≡ false
-  none-after = used-side after Right s (refuted (numberUsed after s) never)
-    where
-      never : numberUsed after s ≡ true → ⊥
-      never t =
-          let f = any-passing (λ q. sameSide (q .side) (s .side) && eqb (q .number) (s .number)) after t in
-          let q = f .this in
-          let same = same-side (q .side) (s .side)
-          (and-left (sameSide (q .side) (s .side)) (eqb (q .number) (s .number)) (f .passes)) in
-          let alike = eqb-true (q .number) (s .number)
-          (and-right (sameSide (q .side) (s .side)) (eqb (q .number) (s .number)) (f .passes)) in
-          let split : first ≡ (before ++ (r ∷ f .low)) ++ (q ∷ f .high) =
-          e ∙ ap (λ (l : List TagRecord). before ++ (r ∷ l)) (f .split)
-          ∙ sym (append-assoc before (r ∷ f .low) (q ∷ f .high)) in
-          once-same once before r after e (before ++ (r ∷ f .low)) q (f .high) split right
-          (ap (sameSide Right) (same ∙ sym side) ∙ right) (alike ∙ sym number)
-          (λ b x a. longer (f .low) (ap length b))
-        where
-          longer : (low : List TagRecord) → length before ≡ length (before ++ (r ∷ low)) → ⊥
-          longer low h = omega (arith, length-append before (r ∷ low))
+  none-after =
+      used-keep (λ q. sameSide Right (q .side)) after s
+      (sym (used-alike after r s side number)
+      ∙ used-behind before r [] after
+      (λ b q a split. once b q a (e ∙ sym (append-assoc before (r ∷ []) after) ∙ split)))
 
 -- ---- the length that the word of a slot tells
 
@@ -189,4 +132,4 @@ length-told table rises first second short before r after e held =
         ap (λ (b : Bool). lengthBy (cond b (pooledMark + long) (totalLength before)) (length (itemsOf table (r .tags)))) f
         ∙ ap (λ (b : Bool). cond b (length (itemsOf table (r .tags))) (totalLength before - pooledMark))
         (lt-ltb (totalLength before) pooledMark (omega (arith, total-before before r after, ap totalLength e, short)))
-        ∙ ap length (sym (part-alone table (ofSide Right second) r (used-side second Right r f)))
+        ∙ ap length (sym (part-alone table (ofSide Right second) r (used-keep (λ q. sameSide Right (q .side)) second r f)))

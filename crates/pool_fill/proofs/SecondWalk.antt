@@ -18,6 +18,7 @@ use Rattle.tag_file.specs.Reading.{readAt, pastTags, tagsAt}
 use Rattle.tag_file.specs.Records.{TagRecord, recordsAt, records, sameSide, ofSide, itemsOf, setsOfSide}
 use Rattle.tag_file.specs.Loading.{numberUsed, numbersOf, endsFrom, join}
 use Rattle.tag_file.specs.declared.ReadAnswer.the-variants.{Record}
+use Rattle.tag_file.proofs.FaultFree.{side-own, side-other}
 use Rattle.tag_file.proofs.RecordLaws.{read-past, read-within, read-number, records-next}
 use Rattle.tag_pooling.specs.Pooling.{sameSet, pooled}
 use Rattle.tag_index.specs.Index.{tableOf}
@@ -213,7 +214,7 @@ module _ {first second heads tails : List ℕ} {n : ℕ} {order ranks used count
           let gone : ofSide Right (recordsAt second at) ≡ ofSide Right rest =
           ap (ofSide Right) opened ∙ keep-without (λ r. sameSide Right (r .side)) [] this rest left in
           let kept : ofSide Right (w .seen) ≡ ofSide Right (w .seen ++ (this ∷ [])) =
-          sym (keep-without (λ r. sameSide Right (r .side)) (w .seen) this [] left ∙ append-nil (ofSide Right (w .seen))) in
+          sym (side-other Right (w .seen) this left) in
           record {
             seen = w .seen ++ (this ∷ []);
             split = here-next;
@@ -237,7 +238,7 @@ module _ {first second heads tails : List ℕ} {n : ℕ} {order ranks used count
             small = read-number second at e byte;
             split = apart;
             left = ap (ofSide Right) opened ∙ keep-around (λ r. sameSide Right (r .side)) [] this rest right;
-            then-seen = sym (keep-around (λ r. sameSide Right (r .side)) (w .seen) this [] right);
+            then-seen = sym (side-own Right (w .seen) this right);
             unseen = ready .once-second (ofSide Right (w .seen)) this (ofSide Right rest) apart;
             next-split = here-next;
             inside = omega (arith, read-past second at e, read-within second at e);

@@ -1,4 +1,4 @@
--- The answer of a pooled load by its tests, and a call by its ends: a refusal, whose zeros are in every list, or what was filled.
+-- A call of a pooled load by its ends: a refusal, whose zeros are in every list, or what was filled.
 use mathlib.Core.Path.{_≡_, refl, sym, ap, ap₂, subst, _∙_}
 use mathlib.Core.List.{List, []}
 use mathlib.Core.Bool.{Bool, true, false, not}
@@ -6,7 +6,7 @@ use Prim.Native.Nat.{ℕ}
 use native.Mathlib.Omega.{arith}
 use borrow.Author.Tests.{not-true, not-false}
 use lib.ListN.{length}
-use Rattle.sets.specs.Refusals.{clears, refuseIf, unless}
+use Rattle.sets.specs.Refusals.{refuseIf, unless}
 use Rattle.sets.specs.declared.Refusal.{Refusal}
 use Rattle.sets.specs.declared.Refusal.the-variants.{ShortOutput}
 use Rattle.sets.specs.declared.Tested.{Tested}
@@ -16,9 +16,8 @@ use Rattle.tag_file.specs.declared.LoadAnswer.{LoadAnswer}
 use Rattle.tag_file.specs.declared.LoadAnswer.the-variants as load
 use Rattle.tag_file.specs.Records.{records, tagTable}
 use Rattle.tag_file.specs.Loading.{Lists, fileFault, filled, roomFor, totalsOf}
-use Rattle.tag_file.proofs.FaultLaws.{fault-clears}
 use Rattle.tag_pooling.specs.Pooling.{pooledRecords, secondFault, firstOverlong, pooledAnswer, PooledCall}
-use Rattle.tag_pooling.proofs.SecondFaults.{second-clears, long-clears}
+use Rattle.tag_pooling.proofs.Answers.{answer-clears, answer-accepted}
 use Rattle.tag_scan.specs.Scan.{Limited, Taken, Scanned}
 use Rattle.tag_loader.specs.Passes.{hasRoom, AllCleared, AllFilled}
 use Rattle.tag_loader.proofs.Rooms.{room-counted}
@@ -27,58 +26,7 @@ use Rattle.pool_scan.specs.declared.Second.{Second}
 use Rattle.pool_scan.specs.Second.{SecondScanned}
 use Rattle.pool_loader.specs.Deciding.{decided, LimitedIf, FirstTaken, PoolFillable}
 
--- ---- the answer by its four tests
-
--- the first that fails decides; whichever it is, it makes zeros
-abbrev answerBy : Tested → Tested → Bool → Tested → Loaded → LoadAnswer
-answerBy fault second room long totals =
-    unless load.Refused fault
-    (unless load.Refused second (unless load.Refused (refuseIf (not room) ShortOutput) (unless load.Refused long (load.Loaded totals))))
-
-clears-by : (fault second : Tested) (room : Bool) (long : Tested) (totals : Loaded) (why : Refusal)
-    → ((w : Refusal) → fault ≡ Failed w → clears w ≡ true) → ((w : Refusal) → second ≡ Failed w → clears w ≡ true)
-    → ((w : Refusal) → long ≡ Failed w → clears w ≡ true) → answerBy fault second room long totals ≡ load.Refused why
-    → clears why ≡ true
-clears-by (Failed w) second room long totals why a b d e = let same : w ≡ why = cc in ap clears (sym same) ∙ a w refl
-clears-by Passed (Failed w) room long totals why a b d e = let same : w ≡ why = cc in ap clears (sym same) ∙ b w refl
-clears-by Passed Passed false long totals why a b d e = let same : ShortOutput ≡ why = cc in ap clears (sym same)
-clears-by Passed Passed true (Failed w) totals why a b d e = let same : w ≡ why = cc in ap clears (sym same) ∙ d w refl
-clears-by Passed Passed true Passed totals why a b d e = let z : _≡_ {A = ℕ} 0 1 = cc in absurd (omega arith)
-
--- what an accepted pair passed
-pub record Accepted (first second : List ℕ) (lent : Lists) (total : Loaded) : Type 0 where
-  pub clean : fileFault first ≡ Passed
-  pub clean-second : secondFault (records first) (length first) second ≡ Passed
-  pub room : roomFor (filled (pooledRecords first second)) lent ≡ true
-  pub short : firstOverlong (records first) (length first) [] (records second) ≡ Passed
-  pub counts : totalsOf (pooledRecords first second) ≡ total
-
-accepted-by : (fault second : Tested) (room : Bool) (long : Tested) (totals total : Loaded)
-    → answerBy fault second room long totals ≡ load.Loaded total
-    → (fault ≡ Passed) × (second ≡ Passed) × (room ≡ true) × (long ≡ Passed) × (totals ≡ total)
-accepted-by (Failed w) second room long totals total e = let z : _≡_ {A = ℕ} 0 1 = cc in absurd (omega arith)
-accepted-by Passed (Failed w) room long totals total e = let z : _≡_ {A = ℕ} 0 1 = cc in absurd (omega arith)
-accepted-by Passed Passed false long totals total e = let z : _≡_ {A = ℕ} 0 1 = cc in absurd (omega arith)
-accepted-by Passed Passed true (Failed w) totals total e = let z : _≡_ {A = ℕ} 0 1 = cc in absurd (omega arith)
-accepted-by Passed Passed true Passed totals total e = (refl, refl, refl, refl, cc)
-
 module _ (first second : List ℕ) (lent : Lists) where
-  answer-clears : (why : Refusal) → pooledAnswer first second lent ≡ load.Refused why → clears why ≡ true
-  unfolding pooledAnswer
-  answer-clears why e =
-      clears-by (fileFault first) (secondFault (records first) (length first) second)
-      (roomFor (filled (pooledRecords first second)) lent) (firstOverlong (records first) (length first) [] (records second))
-      (totalsOf (pooledRecords first second)) why (fault-clears first) (second-clears (records first) (length first) second)
-      (long-clears (records first) (length first) [] (records second)) e
-
-  pub answer-accepted : (total : Loaded) → pooledAnswer first second lent ≡ load.Loaded total → Accepted first second lent total
-  unfolding pooledAnswer
-  answer-accepted total e =
-      let parts = accepted-by (fileFault first) (secondFault (records first) (length first) second)
-      (roomFor (filled (pooledRecords first second)) lent) (firstOverlong (records first) (length first) [] (records second))
-      (totalsOf (pooledRecords first second)) total e in
-      record { clean = parts .0; clean-second = parts .1; room = parts .2; short = parts .3; counts = parts .4 }
-
   -- the first file's fault
   answer-fault : (why : Refusal) → fileFault first ≡ Failed why → pooledAnswer first second lent ≡ load.Refused why
   unfolding pooledAnswer
@@ -90,7 +38,7 @@ module _ (first second : List ℕ) (lent : Lists) where
       → answer ≡ load.Refused why → AllCleared lent after → PooledCall first second lent after answer
   call-refused why is e z =
       let told = sym is ∙ e in
-      let zeros = answer-clears why told in
+      let zeros = answer-clears first second lent why told in
       record {
         answered = is;
         tags = rw (told, zeros) (z .tags-zero);
@@ -178,7 +126,7 @@ module _ (first second : List ℕ) (lent : Lists) where
         → pooledAnswer first second lent ≡ load.Loaded total
         → PoolFillable first second heads tails order (total .tags) used counts slots lent
     pool-fillable total noted counted e =
-        let a = answer-accepted total e in
+        let a = answer-accepted first second lent total e in
         record {
           clean = clean;
           clean-second = a .clean-second;

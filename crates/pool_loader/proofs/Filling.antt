@@ -17,8 +17,8 @@ use Rattle.tag_file.proofs.AnswerLaws.{RoomForEach, room-each}
 use Rattle.tag_file.proofs.ItemCount.{length-joinedItems}
 use Rattle.tag_file.proofs.Tables.{memb-collapse}
 use Rattle.tag_pooling.specs.Pooling.{pooledRecords}
-use Rattle.tag_pooling.proofs.Lefts.{left-pooled}
 use Rattle.tag_pooling.proofs.SecondFaults.{second-once}
+use Rattle.tag_pooling.proofs.Sides.{left-pooled}
 use Rattle.tag_index.specs.Index.{tableOf, Sorted, Ranked}
 use Rattle.tag_fill.specs.Fill.{FillReady}
 use Rattle.tag_loader.proofs.Rooms.{memb-side-tags}

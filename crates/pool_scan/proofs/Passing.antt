@@ -27,6 +27,7 @@ use Rattle.tag_file.specs.Loading.{numberUsed, tooMany, totalsOf}
 use Rattle.tag_file.proofs.RecordLaws.{length-tagsAt, read-within, read-length, records-next, totalLength-last}
 use Rattle.tag_pooling.specs.Pooling.{sameSet, pooled, placeAfter, secondFaultOf, firstSecondFault, secondFault, isOverlong, firstOverlong}
 use Rattle.tag_pooling.proofs.OneMore.{pooled-none, pooled-left}
+use Rattle.tag_pooling.proofs.Sides.{right-apart}
 use Rattle.tag_scan.specs.Scan.{passes, Taken}
 use Rattle.right_slots.specs.Slots.{AtSlots, slotWord}
 use Rattle.pool_scan.specs.declared.Second.{Second}
@@ -93,10 +94,6 @@ second-refused why e size is =
   where
     never : {A : Type 0} {w : Refusal} → Failed w ≡ Passed → A
     never e = let z : _≡_ {A = ℕ} 0 1 = cc in absurd (omega arith)
-
-other-side : (a b : Side) → sameSide Right a ≡ true → sameSide Right b ≡ false → sameSide a b ≡ false
-other-side Left b x y = let z : _≡_ {A = ℕ} 0 1 = cc in absurd (omega arith)
-other-side Right b x y = y
 
 unless-twice : (a b c : Tested) → unless Failed a (unless Failed b c) ≡ unless Failed (unless Failed a b) c
 unless-twice Passed b c = refl
@@ -202,7 +199,7 @@ module _ {first second noted used heads tails order slots : List ℕ} {total : L
           taken = subst (λ (rs : List TagRecord). Taken rs total heads tails order) (sym (pooled-left A (p .seen) this left)) (p .taken);
           size = p .size;
           words = λ b r a is right.
-              let apart : sameSet r this ≡ false = rw (other-side (r .side) side right left) in
+              let apart : sameSet r this ≡ false = rw (right-apart (r .side) side right left) in
               p .words b r a is right ∙ sym (word-apart (p .seen) this b r apart);
         }
 

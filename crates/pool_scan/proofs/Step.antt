@@ -9,8 +9,7 @@ use borrow.Author.Tests.{eq-eqb, eqb-true}
 use lib.Dec.{eqb}
 use lib.ListN.{length, getD, set, length-set}
 use Rattle.lists.specs.Lists.{keep, any, memb}
-use Rattle.lists.proofs.Bools.{by-test, true-false, and-right, and-both, or-left, or-right, or-left-false, or-right-false, refuted}
-use Rattle.lists.proofs.Membership.{memb-append}
+use Rattle.lists.proofs.Bools.{by-test, true-false, and-right, and-both, or-left-false, or-right-false, refuted}
 use Rattle.lists.proofs.Throughout.{any-append}
 use Rattle.bit_sets.specs.BitSets.{member}
 use Rattle.sets.specs.Limits.{maxSets, maxSetLength, halfWords}
@@ -26,7 +25,8 @@ use Rattle.tag_file.proofs.FoundRecords.{ReadFound, read-found, found-number}
 use Rattle.tag_file.proofs.RecordLaws.{same-side, read-past, read-within}
 use Rattle.tag_file.proofs.Tables.{memb-collapse}
 use Rattle.tag_pooling.specs.Pooling.{sameSet, pooled}
-use Rattle.tag_pooling.proofs.OneMore.{Grown, used-same, pooled-new, pooled-met, met-only}
+use Rattle.tag_pooling.proofs.OneMore.{Grown, used-same, memb-around, pooled-new, pooled-met, met-only}
+use Rattle.tag_pooling.proofs.Sides.{right-both}
 use Rattle.tag_index.specs.Index.{tableOf}
 use Rattle.right_slots.specs.Slots.{slotOf, AtSlots, slotWord, pooledMark, NumbersOnce}
 use Rattle.right_slots.proofs.Counted.{slot-below}
@@ -47,17 +47,6 @@ pub record Stepped (first : List ℕ) (seen : List TagRecord) (s : TagRecord) (u
   pub own : List ℕ
   pub is : allTags (keep (sameSet s) (records first)) ≡ own
   pub counted : u .all ≡ length (collapse (own ++ s .tags))
-
-both-right : (a b : Side) → sameSide Right a ≡ true → sameSide Right b ≡ true → sameSide a b ≡ true
-both-right a b x y = ap (λ (t : Side). sameSide t b) (sym (same-side Right a x)) ∙ y
-
-memb-there : (y : ℕ) (before : List TagRecord) (r : TagRecord) (after : List TagRecord) → memb y (r .tags) ≡ true
-    → memb y (allTags (before ++ (r ∷ after))) ≡ true
-unfolding allTags
-memb-there y [] r after m = memb-append y (r .tags) (allTags after) ∙ or-left (memb y (r .tags)) (memb y (allTags after)) m
-memb-there y (q ∷ before) r after m =
-    memb-append y (q .tags) (allTags (before ++ (r ∷ after)))
-    ∙ or-right (memb y (q .tags)) (memb y (allTags (before ++ (r ∷ after)))) (memb-there y before r after m)
 
 module _ {first second used counts heads₀ tails₀ order₀ slots₀ : List ℕ} {total₀ : Loaded}
     (ready : SecondReady first total₀ heads₀ tails₀ order₀ used counts slots₀) (byte : (i : ℕ) → getD first i 0 < 256)
@@ -89,7 +78,7 @@ module _ {first second used counts heads₀ tails₀ order₀ slots₀ : List �
     r = f .this
 
     same : sameSet r s ≡ true
-    same = and-both (both-right (r .side) side (f .right) right) (eq-eqb (r .number) n (f .number))
+    same = and-both (right-both (r .side) side (f .right) right) (eq-eqb (r .number) n (f .number))
 
     new-r : numberUsed (p .seen) r ≡ false
     new-r = sym (used-same (p .seen) r s same) ∙ new
@@ -125,7 +114,7 @@ module _ {first second used counts heads₀ tails₀ order₀ slots₀ : List �
     known y m =
         ap (memb y) (p .taken .table) ∙ memb-collapse y (allTags (pooled A (p .seen)))
         ∙ ap (λ (l : List TagRecord). memb y (allTags l)) (grew .stood)
-        ∙ memb-there y (grew .before) r (grew .after) (ap (memb y) (found .tags) ∙ m)
+        ∙ memb-around (grew .before) r (grew .after) y (ap (memb y) (found .tags) ∙ m)
 
     pub step-there : KnownThere first (getD slots (slotOf used n) 0) (tableOf heads tails (total .tags) order)
     step-there = record { count = found .count; tags = found .place; there = there; known = known }

@@ -21,8 +21,10 @@ use Rattle.sets.specs.declared.Side.{Side}
 use Rattle.sets.specs.declared.Side.the-variants.{Left, Right}
 use Rattle.tag_file.specs.Records.{TagRecord, totalLength, sameSide, ofSide, allTags, collapse}
 use Rattle.tag_file.specs.Loading.{numberUsed}
+use Rattle.tag_file.proofs.FaultFree.{sameSide-sym, side-own, side-other}
+use Rattle.tag_file.proofs.RecordLaws.{same-side}
 use Rattle.tag_pooling.specs.Pooling.{sameSet, unitedWith, isOverlong}
-use Rattle.tag_pooling.proofs.OneMore.{withTags, none-of, used-keep, united-apart, united-one, right-last, right-same, sameSet-comm}
+use Rattle.tag_pooling.proofs.OneMore.{withTags, none-of, used-keep, united-apart, united-one, sameSet-comm}
 use Rattle.right_slots.specs.Slots.{numberWords, slotWord, pooledMark}
 
 -- ---- whether a number is used, with one more record
@@ -49,10 +51,10 @@ module _ (seen : List TagRecord) (s : TagRecord) where
       by-side : (b : Bool) → sameSide Right (s .side) ≡ b → slotWord (seen ++ (s ∷ [])) before r ≡ slotWord seen before r
       by-side true right =
           ap₂ (λ (b : Bool) (q : TagRecord). cond b (pooledMark + length (collapse (q .tags))) (totalLength before)) used
-          (ap (λ (l : List TagRecord). unitedWith l r) (right-last seen s right) ∙ united-apart (ofSide Right seen) s r e)
+          (ap (λ (l : List TagRecord). unitedWith l r) (side-own Right seen s right) ∙ united-apart (ofSide Right seen) s r e)
       by-side false left =
           ap₂ (λ (b : Bool) (l : List TagRecord). cond b (pooledMark + length (collapse (unitedWith l r .tags))) (totalLength before))
-          used (right-same seen s left)
+          used (side-other Right seen s left)
 
   -- of the same set, the first that is pooled with it
   pub word-met : (before : List TagRecord) (r : TagRecord) → sameSide Right (s .side) ≡ true → sameSet r s ≡ true
@@ -61,7 +63,7 @@ module _ (seen : List TagRecord) (s : TagRecord) where
   word-met before r right same new =
       let used : numberUsed (seen ++ (s ∷ [])) r ≡ true = used-last seen s r ∙ rw (new, sameSet-comm s r ∙ same) in
       ap₂ (λ (b : Bool) (q : TagRecord). cond b (pooledMark + length (collapse (q .tags))) (totalLength before)) used
-      (ap (λ (l : List TagRecord). unitedWith l r) (right-last seen s right)
+      (ap (λ (l : List TagRecord). unitedWith l r) (side-own Right seen s right)
       ∙ united-one (ofSide Right seen) s r (used-keep (λ q. sameSide Right (q .side)) seen r new) same)
 
 -- with none seen each word is a place
@@ -107,11 +109,7 @@ noted-start = record { wide = length-replicate {A = ℕ} numberWords 0; at = λ 
 
 module _ {used : List ℕ} {seen : List TagRecord} (n : RightNoted used seen) (s : TagRecord) where
   by-right : sameSide Right (s .side) ≡ true → s .side ≡ Right
-  by-right e = by (s .side) e
-    where
-      by : (t : Side) → sameSide Right t ≡ true → t ≡ Right
-      by Right e = refl
-      by Left e = let z : _≡_ {A = ℕ} 0 1 = cc in absurd (omega arith)
+  by-right e = sym (same-side Right (s .side) e)
 
   pub noted-tells : sameSide Right (s .side) ≡ true → s .number < halfWords → member used (s .number) ≡ numberUsed seen s
   noted-tells right small =
@@ -128,12 +126,8 @@ module _ {used : List ℕ} {seen : List TagRecord} (n : RightNoted used seen) (s
             ∙ sym (any-append (λ q. sameSide (q .side) Right && eqb (q .number) x) seen (s ∷ []));
       }
     where
-      turned : (t : Side) → sameSide Right t ≡ false → sameSide t Right ≡ false
-      turned Left e = refl
-      turned Right e = e
-
       other : (x : ℕ) → any (λ q. sameSide (q .side) Right && eqb (q .number) x) (s ∷ []) ≡ false
-      other x = rw (turned (s .side) left)
+      other x = rw (sameSide-sym (s .side) Right ∙ left)
 
   pub noted-right : {is : List ℕ} → sameSide Right (s .side) ≡ true → Inserted used (s .number) is → RightNoted is (seen ++ (s ∷ []))
   unfolding any

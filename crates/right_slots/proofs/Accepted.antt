@@ -9,13 +9,11 @@ use Rattle.sets.specs.Limits.{maxSets, maxSetLength}
 use Rattle.sets.specs.declared.Side.{Side}
 use Rattle.sets.specs.declared.Side.the-variants.{Left, Right}
 use Rattle.sets.specs.declared.Tested.the-variants.{Passed}
-use Rattle.tag_file.specs.Reading.{readAt}
 use Rattle.tag_file.specs.Records.{TagRecord, totalLength, records, sameSide, ofSide}
-use Rattle.tag_file.specs.Loading.{refusalOf, fileFault}
-use Rattle.tag_file.proofs.FaultFree.{FaultFree, free-nil, free-from, free-unused}
-use Rattle.tag_file.proofs.FoundRecords.{found-number, found-tags, totalLength-bound}
+use Rattle.tag_file.specs.Loading.{fileFault}
+use Rattle.tag_file.proofs.FaultFree.{FaultFree, file-free, free-unused}
+use Rattle.tag_file.proofs.FoundRecords.{found-tags, totalLength-bound}
 use Rattle.right_slots.specs.Slots.{NumbersOnce, Slottable}
-use Rattle.right_slots.proofs.Putting.{NumbersSmall}
 
 -- every record is of one of the sides
 length-sides : (rs : List TagRecord) → length rs ≡ length (ofSide Left rs) + length (ofSide Right rs)
@@ -29,20 +27,15 @@ length-sides (r ∷ rs) = one-more (r .side) (length-sides rs)
     one-more Left e = omega arith
     one-more Right e = omega arith
 
--- the numbers of a file of bytes fit 16 bits
-pub numbers-small : (file : List ℕ) → ((i : ℕ) → getD file i 0 < 256) → NumbersSmall (records file)
-numbers-small file byte before r after e = found-number file byte before r after e
-
 module _ (file : List ℕ) (clear : fileFault file ≡ Passed) where
-  pub accepted-free : FaultFree (records file)
-  unfolding fileFault
-  accepted-free = free-from [] (records file) (refusalOf (readAt file (totalLength (records file)))) free-nil clear .0
+  free : FaultFree (records file)
+  free = file-free file clear
 
   pub once-accepted : NumbersOnce (records file)
-  once-accepted before r after e = free-unused before r after (subst FaultFree e accepted-free)
+  once-accepted before r after e = free-unused before r after (subst FaultFree e free)
 
   pub few-accepted : length (ofSide Right (records file)) ≤ maxSets
-  few-accepted = accepted-free .places Right
+  few-accepted = free .places Right
 
   module _ (byte : (i : ℕ) → getD file i 0 < 256) where
     pub short-accepted : totalLength (records file) < 2147483648
@@ -51,8 +44,8 @@ module _ (file : List ℕ) (clear : fileFault file ≡ Passed) where
           arith,
           totalLength-bound (records file) maxSetLength (found-tags file byte),
           length-sides (records file),
-          accepted-free .places Left,
-          accepted-free .places Right,
+          free .places Left,
+          free .places Right,
         )
 
     pub slottable : Slottable file

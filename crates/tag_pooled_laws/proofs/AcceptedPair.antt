@@ -1,72 +1,32 @@
 -- A pooled load that is accepted, by what its contract says of a call: neither file has a fault, no pooled set is too long, the
 -- lists have room, and each is filled with what the pooled records give. Of those records: each side's numbers once, the
 -- limits, numbers of two bytes, tags of 12 bytes, and no set longer than the greatest length.
-use mathlib.Core.Path.{_≡_, refl, sym, ap, _∙_}
+use mathlib.Core.Path.{_≡_, sym, ap, _∙_}
 use Prim.Native.Nat.{ℕ, _<_}
 use mathlib.Core.List.{List, []}
-use mathlib.Core.Bool.{Bool, true, false, not}
-use native.Mathlib.Omega.{arith}
+use mathlib.Core.Bool.{true, false}
 use lib.Dec.{ltb}
 use lib.ListN.{length, getD}
 use Rattle.lists.specs.Lists.{all}
 use Rattle.sets.specs.Limits.{halfWords}
 use Rattle.sets.specs.Lent.{filledOver}
-use Rattle.sets.specs.Refusals.{refuseIf, unless}
 use Rattle.sets.specs.declared.Side.{Side}
 use Rattle.sets.specs.declared.Side.the-variants.{Right}
-use Rattle.sets.specs.declared.Refusal.the-variants.{ShortOutput}
-use Rattle.sets.specs.declared.Tested.{Tested}
-use Rattle.sets.specs.declared.Tested.the-variants.{Passed, Failed}
 use Rattle.tag_file.specs.declared.Loaded.{Loaded}
 use Rattle.tag_file.specs.declared.LoadAnswer.{LoadAnswer}
 use Rattle.tag_file.specs.declared.LoadAnswer.the-variants as load
 use Rattle.tag_file.specs.Records.{totalLength, records}
-use Rattle.tag_file.specs.Loading.{Lists, tooMany, fileFault, filled, roomFor, totalsOf, lentAfter}
+use Rattle.tag_file.specs.Loading.{Lists, tooMany, filled, lentAfter}
 use Rattle.tag_round_trip.specs.Trips.{Fills}
 use Rattle.tag_round_trip.proofs.Accepted.{lists-fill}
 use Rattle.tag_file.proofs.FaultFree.{FaultFree, file-free}
 use Rattle.tag_round_trip.proofs.FileRecords.{file-numbers, file-fit, file-few, Loadable}
 use Rattle.tag_round_trip.proofs.Refilled.{sets-few}
-use Rattle.tag_pooling.specs.Pooling.{secondFault, firstOverlong, pooledRecords, pooledAnswer, pooledLists, PooledCall}
-use Rattle.tag_pooled_laws.proofs.PooledFaults.{SecondFree, second-free, second-covers, pooled-free, pooled-few}
+use Rattle.tag_pooling.specs.Pooling.{pooledRecords, pooledAnswer, pooledLists, PooledCall}
+use Rattle.tag_pooling.proofs.Answers.{Accepted, answer-accepted}
+use Rattle.tag_pooling.proofs.SecondFaults.{second-covers}
+use Rattle.tag_pooled_laws.proofs.PooledFaults.{SecondFree, second-free, pooled-free, pooled-few}
 use Rattle.tag_pooled_laws.proofs.PooledSets.{none-overlong, pooled-sets-few, pooled-fit, pooled-numbers}
-
--- ---- the tests that were passed
-
--- no fault of either file, room in every list, no set too long, and the totals of the pooled records
-pub record PooledAccepted (first second : List ℕ) (lent : Lists) (totals : Loaded) : Type 0 where
-  pub clear : fileFault first ≡ Passed
-  pub clear-second : secondFault (records first) (length first) second ≡ Passed
-  pub room : roomFor (filled (pooledRecords first second)) lent ≡ true
-  pub short : firstOverlong (records first) (length first) [] (records second) ≡ Passed
-  pub counted : totals ≡ totalsOf (pooledRecords first second)
-
-accepted-if : (fault later : Tested) (room : Bool) (overlong : Tested) (given totals : Loaded)
-    → unless load.Refused fault
-    (unless load.Refused later
-    (unless load.Refused (refuseIf (not room) ShortOutput) (unless load.Refused overlong (load.Loaded given))))
-    ≡ load.Loaded totals
-    → (fault ≡ Passed) × ((later ≡ Passed) × ((room ≡ true) × ((overlong ≡ Passed) × (totals ≡ given))))
-accepted-if (Failed why) later room overlong given totals e = let z : _≡_ {A = ℕ} 0 1 = cc in absurd (omega arith)
-accepted-if Passed (Failed why) room overlong given totals e = let z : _≡_ {A = ℕ} 0 1 = cc in absurd (omega arith)
-accepted-if Passed Passed false overlong given totals e = let z : _≡_ {A = ℕ} 0 1 = cc in absurd (omega arith)
-accepted-if Passed Passed true (Failed why) given totals e = let z : _≡_ {A = ℕ} 0 1 = cc in absurd (omega arith)
-accepted-if Passed Passed true Passed given totals e = (refl, (refl, (refl, (refl, cc))))
-
-pub accepted-pair : (first second : List ℕ) (lent : Lists) (totals : Loaded) → pooledAnswer first second lent ≡ load.Loaded totals
-    → PooledAccepted first second lent totals
-unfolding pooledAnswer
-accepted-pair first second lent totals e =
-    let parts = accepted-if (fileFault first) (secondFault (records first) (length first) second)
-    (roomFor (filled (pooledRecords first second)) lent) (firstOverlong (records first) (length first) [] (records second))
-    (totalsOf (pooledRecords first second)) totals e in
-    record {
-      clear = parts .0;
-      clear-second = parts .1 .0;
-      room = parts .1 .1 .0;
-      short = parts .1 .1 .1 .0;
-      counted = parts .1 .1 .1 .1;
-    }
 
 -- ---- the lists
 
@@ -90,8 +50,8 @@ module _ (first second : List ℕ) {before after : Lists} {totals : Loaded}
   answer-is : pooledAnswer first second before ≡ load.Loaded totals
   answer-is = sym (call .answered)
 
-  pub pair-accepted : PooledAccepted first second before totals
-  pair-accepted = accepted-pair first second before totals answer-is
+  pub pair-accepted : Accepted first second before totals
+  pair-accepted = answer-accepted first second before totals answer-is
 
   pub pair-filled : FilledLists (filled (pooledRecords first second)) before after
   pair-filled =
@@ -112,19 +72,19 @@ module _ (first second : List ℕ) {before after : Lists} {totals : Loaded}
   pub pair-fills : Fills (pooledRecords first second) totals after
   pair-fills =
       lists-fill (pooledRecords first second) before after (pooledAnswer first second before) totals answer-is
-      (pair-accepted .counted) (pooled-lists call)
+      (sym (pair-accepted .counts)) (pooled-lists call)
 
   -- ---- the pooled records
 
   pub first-free : FaultFree (records first)
-  first-free = file-free first (pair-accepted .clear)
+  first-free = file-free first (pair-accepted .clean)
 
   pub pair-second-free : SecondFree (records first) (records second)
-  pair-second-free = second-free (records first) (length first) second first-free (pair-accepted .clear-second)
+  pair-second-free = second-free (records first) (length first) second first-free (pair-accepted .clean-second)
 
   -- the second file's records fill it
   pub pair-covers : totalLength (records second) ≡ length second
-  pair-covers = second-covers (records first) (length first) second first-free (pair-accepted .clear-second)
+  pair-covers = second-covers (records first) (length first) second (pair-accepted .clean-second)
 
   -- each side's numbers once, and the limits
   pub pair-free : FaultFree (pooledRecords first second)

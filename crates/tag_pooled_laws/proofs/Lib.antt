@@ -1,6 +1,5 @@
 -- Laws of the pooled load, from the pooled records up to the pairs and the round trip.
 pub mod RecordLists
-pub mod EmptyFiles
 pub mod ByNumber
 pub mod BorrowerTags
 pub mod PooledFaults
@@ -8,4 +7,3 @@ pub mod PooledSets
 pub mod AcceptedPair
 pub mod PooledPairs
 pub mod PooledRoundTrip
-pub mod Example

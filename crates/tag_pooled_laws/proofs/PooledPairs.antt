@@ -22,11 +22,12 @@ use Rattle.tag_file.specs.declared.LoadAnswer.the-variants as load
 use Rattle.tag_file.specs.Records.{TagRecord, records, ofSide}
 use Rattle.tag_file.specs.Loading.{Lists, numbersOf}
 use Rattle.tag_pooling.specs.Pooling.{pooled, pooledRecords, PooledCall}
+use Rattle.tag_pooling.proofs.Sides.{left-pooled}
 use Rattle.tag_containment.proofs.ItemTags.{noRecord, recordOf}
 use Rattle.tag_containment.proofs.LoadedLists.{OverLoaded, fills-left-number, fills-right-number}
 use Rattle.tag_containment.proofs.LoadedPairs.{tagsContained, and-where, fills-pairs}
 use Rattle.tag_pooled_laws.specs.Borrowers.{borrowerTags, borrowers}
-use Rattle.tag_pooled_laws.proofs.ByNumber.{left-pooled, numbers-pooled, number-pooled}
+use Rattle.tag_pooled_laws.proofs.ByNumber.{numbers-borrowers, number-pooled}
 use Rattle.tag_pooled_laws.proofs.BorrowerTags.{tags-pooled}
 use Rattle.tag_pooled_laws.proofs.AcceptedPair.{pair-accepted, pair-fills, first-free, pair-second-free}
 
@@ -42,7 +43,7 @@ tagsPooled first second l r =
 pub places-borrowers : (first second : List TagRecord)
     → length (borrowers first second) ≡ length (ofSide Right (pooled first second))
 places-borrowers first second =
-    sym (ap length (numbers-pooled first second)) ∙ length-map (ofSide Right (pooled first second)) (λ r. r .number)
+    sym (ap length (numbers-borrowers first second)) ∙ length-map (ofSide Right (pooled first second)) (λ r. r .number)
 
 -- the same asked of the pooled records
 pub contained-pooled : (first second : List TagRecord) → distinct (numbersOf Right first) ≡ true
@@ -67,7 +68,7 @@ module _ (first second : List ℕ) {lent got : Lists} {loaded : Loaded}
       → getD (got .rightNumbers) r 0 ≡ getD (borrowers (records first) (records second)) r 0
   pair-right-number r within =
       let many : loaded .«right_sets» ≡ length (ofSide Right (pooledRecords first second)) =
-      ap (λ (c : Loaded). c .«right_sets») (pair-accepted first second pools .counted) in
+      sym (ap (λ (c : Loaded). c .«right_sets») (pair-accepted first second pools .counts)) in
       fills-right-number (pair-fills first second pools) r within
       ∙ number-pooled (records first) (records second) r (omega arith)
 

@@ -27,11 +27,12 @@ use Rattle.tag_round_trip.proofs.Printing.{recordsFit}
 use Rattle.tag_round_trip.proofs.Refilled.{setsFew}
 use Rattle.tag_round_trip.proofs.Values.{tagsFit}
 use Rattle.tag_pooling.specs.Pooling.{sameSet, unitedWith, unmet, pooled, placeAfter, isOverlong, firstOverlong}
+use Rattle.tag_pooling.proofs.SecondFaults.{and-second}
+use Rattle.tag_pooling.proofs.Sides.{left-pooled}
 use Rattle.tag_containment.proofs.ItemTags.{noRecord, recordOf}
 use Rattle.tag_pooled_laws.specs.Borrowers.{tagsOfNumber, borrowerTags, borrowers}
-use Rattle.tag_pooled_laws.proofs.ByNumber.{record-side, left-pooled}
+use Rattle.tag_pooled_laws.proofs.ByNumber.{record-side}
 use Rattle.tag_pooled_laws.proofs.BorrowerTags.{tags-pooled, same-tags, by-number}
-use Rattle.tag_pooled_laws.proofs.PooledFaults.{and-second}
 
 -- ---- sets that are not too long
 

@@ -1,5 +1,5 @@
--- Filters and maps over records: a map that keeps a test, elements that a map leaves alone, what no element passes; the one
--- record of a number where no number stands twice; and distinct numbers, one list after the other and filtered.
+-- Lists of things with numbers: the one of a number where no number stands twice; and distinct numbers, one list after the other
+-- and filtered.
 use mathlib.Core.Path.{_≡_, refl, sym, ap, _∙_}
 use Prim.Native.Nat.{ℕ, zero, suc, _<_}
 use mathlib.Core.List.{List, [], _∷_, _++_, map}
@@ -8,57 +8,17 @@ use native.Mathlib.Omega.{arith}
 use borrow.Author.Tests.{eqb-true, eq-eqb}
 use lib.Dec.{eqb}
 use lib.ListN.{length, getD}
-use Rattle.lists.specs.Lists.{keep, onto, all, any, memb, distinct}
-use Rattle.lists.proofs.Bools.{and-left, and-right, and-both, or-left-false, or-right-false, true-false, refuted}
+use Rattle.lists.specs.Lists.{keep, onto, memb, distinct}
+use Rattle.lists.proofs.Bools.{and-both, or-left-false, or-right-false, true-false, refuted}
 use Rattle.lists.proofs.Distinct.{distinct-head, distinct-tail}
 use Rattle.lists.proofs.Membership.{memb-head, memb-tail, memb-append}
 
 module _ {A : Type 0} where
-  -- a filter after a map that keeps its test
-  pub keep-map : (p : A → Bool) (f : A → A) → ((x : A) → p (f x) ≡ p x) → (xs : List A) → keep p (map f xs) ≡ map f (keep p xs)
-  unfolding keep
-  keep-map p f same [] = refl
-  keep-map p f same (x ∷ xs) = rw (same x, keep-map p f same xs) (here (p x))
-    where
-      here : (b : Bool) → onto b (f x) (map f (keep p xs)) ≡ map f (onto b x (keep p xs))
-      here true = refl
-      here false = refl
-
-  -- a filter that none passes
-  pub keep-absent : (p : A → Bool) (xs : List A) → any p xs ≡ false → keep p xs ≡ []
-  unfolding keep any
-  keep-absent p [] e = refl
-  keep-absent p (x ∷ xs) e =
-      rw (or-left-false (p x) (any p xs) e) (keep-absent p xs (or-right-false (p x) (any p xs) e))
-
   -- a filter that all pass
   pub keep-every : (xs : List A) → keep (λ x. true) xs ≡ xs
   unfolding keep
   keep-every [] = refl
   keep-every (x ∷ xs) = rw (keep-every xs)
-
-  -- a map that leaves every element of a kind alone
-  pub map-where : (good : A → Bool) (f : A → A) → ((x : A) → good x ≡ true → f x ≡ x) → (xs : List A) → all good xs ≡ true
-      → map f xs ≡ xs
-  unfolding all
-  map-where good f same [] a = refl
-  map-where good f same (x ∷ xs) a =
-      rw (same x (and-left (good x) (all good xs) a), map-where good f same xs (and-right (good x) (all good xs) a))
-
-  pub any-same : (p q : A → Bool) (xs : List A) → ((x : A) → p x ≡ q x) → any p xs ≡ any q xs
-  unfolding any
-  any-same p q [] same = refl
-  any-same p q (x ∷ xs) same = rw (same x, any-same p q xs same)
-
-  -- a filter of a list that none of the whole list passes
-  pub any-keep : (p q : A → Bool) (xs : List A) → any p xs ≡ false → any p (keep q xs) ≡ false
-  unfolding keep any
-  any-keep p q [] e = refl
-  any-keep p q (x ∷ xs) e = here (q x) (any-keep p q xs (or-right-false (p x) (any p xs) e))
-    where
-      here : (b : Bool) → any p (keep q xs) ≡ false → any p (onto b x (keep q xs)) ≡ false
-      here true rest = rw (or-left-false (p x) (any p xs) e) rest
-      here false rest = rest
 
   -- ---- by a number that no two have
 

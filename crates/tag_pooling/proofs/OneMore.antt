@@ -8,34 +8,34 @@ use native.Mathlib.Omega.{arith}
 use borrow.Author.Tests.{eqb-true}
 use lib.Dec.{eqb}
 use lib.ListN.{length}
-use Rattle.lists.specs.Lists.{keep, any, onto}
+use Rattle.lists.specs.Lists.{keep, any, onto, memb}
 use Rattle.lists.proofs.Bools.{and-left, and-right, or-left, or-right, or-left-false, or-right-false, true-false, eqb-comm, by-test}
 use Rattle.lists.proofs.Filtering.{keep-append}
+use Rattle.lists.proofs.Membership.{memb-append}
 use Rattle.lists.proofs.Throughout.{any-append}
 use Rattle.sets.specs.declared.Side.{Side}
 use Rattle.sets.specs.declared.Side.the-variants.{Left, Right}
 use Rattle.tag_file.specs.Records.{TagRecord, sameSide, ofSide, allTags}
 use Rattle.tag_file.specs.Loading.{numberUsed}
+use Rattle.tag_file.proofs.FaultFree.{sameSide-sym, side-own, side-other}
 use Rattle.tag_file.proofs.RecordLaws.{same-side}
 use Rattle.tag_pooling.specs.Pooling.{sameSet, unitedWith, unmet, pooled}
 
 -- ---- records of one set
 
-sameSide-comm : (a b : Side) → sameSide a b ≡ sameSide b a
-sameSide-comm Left Left = refl
-sameSide-comm Left Right = refl
-sameSide-comm Right Left = refl
-sameSide-comm Right Right = refl
-
 pub sameSet-comm : (r s : TagRecord) → sameSet r s ≡ sameSet s r
-sameSet-comm r s = ap₂ (λ (a b : Bool). a && b) (sameSide-comm (r .side) (s .side)) (eqb-comm (r .number) (s .number))
+sameSet-comm r s = ap₂ (λ (a b : Bool). a && b) (sameSide-sym (r .side) (s .side)) (eqb-comm (r .number) (s .number))
 
 -- a number is used by the records of a set, whichever of them asks
+pub used-alike : (l : List TagRecord) (r s : TagRecord) → r .side ≡ s .side → r .number ≡ s .number → numberUsed l r ≡ numberUsed l s
+used-alike l r s side number =
+    ap₂ (λ (a : Side) (n : ℕ). any (λ q. sameSide (q .side) a && eqb (q .number) n) l) side number
+
 pub used-same : (l : List TagRecord) (r s : TagRecord) → sameSet r s ≡ true → numberUsed l s ≡ numberUsed l r
 used-same l r s e =
-    let side = same-side (r .side) (s .side) (and-left (sameSide (r .side) (s .side)) (eqb (r .number) (s .number)) e) in
-    let number = eqb-true (r .number) (s .number) (and-right (sameSide (r .side) (s .side)) (eqb (r .number) (s .number)) e) in
-    ap₂ (λ (a : Side) (n : ℕ). any (λ q. sameSide (q .side) a && eqb (q .number) n) l) (sym side) (sym number)
+    sym (used-alike l r s
+    (same-side (r .side) (s .side) (and-left (sameSide (r .side) (s .side)) (eqb (r .number) (s .number)) e))
+    (eqb-true (r .number) (s .number) (and-right (sameSide (r .side) (s .side)) (eqb (r .number) (s .number)) e)))
 
 -- where each record's number is new among those before it, it is so among those behind it
 pub used-behind : (before : List TagRecord) (r : TagRecord) (mid after : List TagRecord)
@@ -73,16 +73,28 @@ used-keep p (q ∷ l) r e = by-kept (p q) (used-keep p l r (or-right-false (same
     by-kept true rest = rw (or-left-false (sameSet q r) (numberUsed l r) e, rest)
     by-kept false rest = rest
 
+-- the tags of a record are among those of all
+pub memb-around : (before : List TagRecord) (r : TagRecord) (after : List TagRecord) (y : ℕ) → memb y (r .tags) ≡ true
+    → memb y (allTags (before ++ (r ∷ after))) ≡ true
+unfolding allTags
+memb-around [] r after y m = memb-append y (r .tags) (allTags after) ∙ or-left (memb y (r .tags)) (memb y (allTags after)) m
+memb-around (q ∷ before) r after y m =
+    memb-append y (q .tags) (allTags (before ++ (r ∷ after)))
+    ∙ or-right (memb y (q .tags)) (memb y (allTags (before ++ (r ∷ after)))) (memb-around before r after y m)
+
 -- a record with more tags behind its own
 abbrev pub withTags : TagRecord → List ℕ → TagRecord
 withTags r tags = record { side = r .side; number = r .number; tags = r .tags ++ tags }
 
 -- with no other of its set a record is as it was
-pub united-none : (others : List TagRecord) (r : TagRecord) → numberUsed others r ≡ false → unitedWith others r ≡ r
+pub united-alone : (others : List TagRecord) (r : TagRecord) → keep (sameSet r) others ≡ [] → unitedWith others r ≡ r
 unfolding allTags
-united-none others r e =
+united-alone others r none =
     ap (λ (t : List ℕ). record { side = r .side; number = r .number; tags = t })
-    (ap (λ (l : List TagRecord). r .tags ++ allTags l) (none-of r others e) ∙ append-nil (r .tags))
+    (ap (λ (l : List TagRecord). r .tags ++ allTags l) none ∙ append-nil (r .tags))
+
+pub united-none : (others : List TagRecord) (r : TagRecord) → numberUsed others r ≡ false → unitedWith others r ≡ r
+united-none others r e = united-alone others r (none-of r others e)
 
 -- nothing is pooled with no records
 pub pooled-none : (first : List TagRecord) → pooled first [] ≡ first
@@ -122,27 +134,18 @@ module _ (others : List TagRecord) (s : TagRecord) where
 
 -- ---- the pooled records with it
 
-module _ (seen : List TagRecord) (s : TagRecord) where
-  pub right-last : sameSide Right (s .side) ≡ true → ofSide Right (seen ++ (s ∷ [])) ≡ ofSide Right seen ++ (s ∷ [])
-  unfolding keep
-  right-last e = keep-append (λ r. sameSide Right (r .side)) seen (s ∷ []) ∙ rw e
-
-  pub right-same : sameSide Right (s .side) ≡ false → ofSide Right (seen ++ (s ∷ [])) ≡ ofSide Right seen
-  unfolding keep
-  right-same e = keep-append (λ r. sameSide Right (r .side)) seen (s ∷ []) ∙ rw (e, append-nil)
-
 module _ (first seen : List TagRecord) (s : TagRecord) where
   -- a left set's record
   pub pooled-left : sameSide Right (s .side) ≡ false → pooled first (seen ++ (s ∷ [])) ≡ pooled first seen
   unfolding keep pooled
   pooled-left e =
-      ap (λ (l : List TagRecord). map (unitedWith l) first ++ keep (λ q. not (numberUsed first q)) l) (right-same seen s e)
+      ap (λ (l : List TagRecord). map (unitedWith l) first ++ keep (λ q. not (numberUsed first q)) l) (side-other Right seen s e)
 
   module _ (right : sameSide Right (s .side) ≡ true) where
     unmet-last : unmet first (seen ++ (s ∷ []))
         ≡ unmet first seen ++ keep (λ q. not (numberUsed first q)) (s ∷ [])
     unmet-last =
-        ap (keep (λ q. not (numberUsed first q))) (right-last seen s right)
+        ap (keep (λ q. not (numberUsed first q))) (side-own Right seen s right)
         ∙ keep-append (λ q. not (numberUsed first q)) (ofSide Right seen) (s ∷ [])
 
     -- one that the first file has not
@@ -150,7 +153,7 @@ module _ (first seen : List TagRecord) (s : TagRecord) where
     unfolding keep pooled
     pooled-new e =
         ap₂ (λ (a b : List TagRecord). a ++ b)
-        (ap (λ (l : List TagRecord). map (unitedWith l) first) (right-last seen s right) ∙ united-others (ofSide Right seen) s first e)
+        (ap (λ (l : List TagRecord). map (unitedWith l) first) (side-own Right seen s right) ∙ united-others (ofSide Right seen) s first e)
         (unmet-last ∙ rw e)
         ∙ sym (append-assoc (map (unitedWith (ofSide Right seen)) first) (unmet first seen) (s ∷ []))
 
@@ -205,7 +208,7 @@ module _ (before : List TagRecord) (r : TagRecord) (after seen : List TagRecord)
       unmet-last first seen s right ∙ rw (there, append-nil)
       in
       let grew : map (unitedWith (ofSide Right (seen ++ (s ∷ [])))) first ≡ map u before ++ (withTags r (s .tags) ∷ map u after) =
-      ap (λ (l : List TagRecord). map (unitedWith l) first) (right-last seen s right)
+      ap (λ (l : List TagRecord). map (unitedWith l) first) (side-own Right seen s right)
       ∙ map-append (unitedWith (ss ++ (s ∷ []))) before (r ∷ after)
       ∙ ap₂ (λ (a b : List TagRecord). a ++ b) (united-others ss s before apart-before)
       (ap₂ (λ (q : TagRecord) (l : List TagRecord). q ∷ l) (united-one ss s r fresh same) (united-others ss s after apart-after))

@@ -1,29 +1,21 @@
 -- A pooled load with an empty file: with an empty second file it is the load of the first; of an empty first file the pooled
 -- records are the second's right sets.
 use mathlib.Core.Path.{_≡_, refl, ap, sym, _∙_}
+use mathlib.Core.Bool.{true}
 use Prim.Native.Nat.{ℕ}
-use mathlib.Core.List.{List, [], _∷_, map, append-nil}
+use mathlib.Core.List.{List, [], _∷_}
 use lib.ListN.{length}
 use Rattle.lists.specs.Lists.{keep, sum, any}
 use Rattle.sets.specs.declared.Side.the-variants.{Right}
 use Rattle.sets.specs.declared.Tested.the-variants.{Passed}
 use Rattle.tag_file.specs.declared.LoadAnswer.{LoadAnswer}
-use Rattle.tag_file.specs.Records.{TagRecord, recordsFrom, records, ofSide, allTags}
+use Rattle.tag_file.specs.Records.{TagRecord, recordsFrom, records, ofSide}
 use Rattle.tag_file.specs.Loading.{Lists, loadAnswer, listsAfter, LoadCall}
-use Rattle.tag_pooling.specs.Pooling.{unitedWith, pooled, secondFault, firstSecondFault, firstOverlong}
+use Rattle.tag_pooling.specs.Pooling.{pooled, secondFault, firstSecondFault, firstOverlong}
 use Rattle.tag_pooling.specs.Pooling.{pooledRecords, pooledAnswer, pooledLists, PooledCall}
-use Rattle.tag_pooled_laws.proofs.RecordLists.{keep-every}
+use Rattle.tag_pooling.proofs.OneMore.{pooled-none}
 
 -- ---- an empty second file
-
-united-nil : (rs : List TagRecord) → map (unitedWith []) rs ≡ rs
-unfolding keep allTags
-united-nil [] = refl
-united-nil (r ∷ rs) = rw (append-nil (r .tags), united-nil rs)
-
-pub pooled-nil : (rs : List TagRecord) → pooled rs [] ≡ rs
-unfolding pooled keep
-pooled-nil rs = append-nil (map (unitedWith []) rs) ∙ united-nil rs
 
 -- a second file without bytes has no fault, and no set that is too long
 module _ (rs : List TagRecord) (base : ℕ) where
@@ -38,7 +30,7 @@ module _ (rs : List TagRecord) (base : ℕ) where
 module _ (first : List ℕ) where
   pub pooledRecords-nil : pooledRecords first [] ≡ records first
   unfolding recordsFrom
-  pooledRecords-nil = pooled-nil (records first)
+  pooledRecords-nil = pooled-none (records first)
 
   pub pooledAnswer-nil : (lent : Lists) → pooledAnswer first [] lent ≡ loadAnswer first lent
   unfolding pooledAnswer loadAnswer
@@ -85,5 +77,9 @@ module _ (first : List ℕ) where
 -- ---- an empty first file
 
 pub nil-pooled : (ss : List TagRecord) → pooled [] ss ≡ ofSide Right ss
-unfolding pooled any
-nil-pooled ss = keep-every (ofSide Right ss)
+unfolding pooled any keep
+nil-pooled ss = every (ofSide Right ss)
+  where
+    every : (l : List TagRecord) → keep (λ s. true) l ≡ l
+    every [] = refl
+    every (s ∷ l) = ap (λ (m : List TagRecord). s ∷ m) (every l)

@@ -29,9 +29,11 @@ head side number count = mark side ++ (0 ∷ number ∷ count ∷ [])
 first : List ℕ
 first = head Left 7 2 ++ (tag 1 ++ tag 2) ++ (head Right 9 1 ++ tag 1) ++ (head Right 5 1 ++ tag 3)
 
--- left set 7 with tag 8, which adds nothing; right set 6 with tag 4; right set 9 with tags 2, 1, 2
+-- left set 7 twice, with tag 8 and without tags, which adds nothing and is no fault; right set 6 with tag 4; right set 9 with tags
+-- 2, 1, 2
 second : List ℕ
-second = (head Left 7 1 ++ tag 8) ++ (head Right 6 1 ++ tag 4) ++ head Right 9 3 ++ (tag 2 ++ (tag 1 ++ tag 2))
+second =
+    (head Left 7 1 ++ tag 8) ++ head Left 7 0 ++ (head Right 6 1 ++ tag 4) ++ head Right 9 3 ++ (tag 2 ++ (tag 1 ++ tag 2))
 
 -- lists that are just long enough, but for one place more of items
 lent : Lists
