@@ -6,7 +6,8 @@ use mathlib.Core.Bool.{true, false}
 use Prim.Native.Nat.{ℕ, _-_, _<_, _≤_}
 use native.Mathlib.Omega.{arith}
 use lib.Dec.{ltb}
-use lib.ListN.{length}
+use lib.ListN.{length, getD}
+use Rattle.bit_sets.specs.BitSets.{member}
 use Rattle.sets.specs.Refusals.{refuseIf, unless}
 use Rattle.sets.specs.declared.Tested.the-variants.{Failed}
 use Rattle.sets.specs.Limits.{maxSetLength, halfWords}
@@ -46,6 +47,28 @@ small a = read-number _ _ (read a) (λ i. a .before .before .before .before .bef
 
 few : (a : tie.After-answer Inv-loop μ-loop) → a .answer .given .0 .1 .1 .0 ≤ maxSetLength
 few a = read-count _ _ (read a) (λ i. a .before .before .before .before .before .before .before .before .shared-slice-known2 .given i .fits)
+
+-- at a right set whose number is new: the record, the turn of the loop, and the call
+abbrev answered : tie.Else3 Inv-loop μ-loop → tie.After-answer Inv-loop μ-loop
+answered e = e .before .before .before .before .before .before .before
+
+abbrev turn : tie.Else3 Inv-loop μ-loop → tie.At-loop Inv-loop μ-loop
+turn e = e .before .before .before .before .before .before .before .before .before .before .before
+
+abbrev called : tie.Else3 Inv-loop μ-loop → tie.Start Inv-loop μ-loop
+called e = e .before .before .before .before .before .before .before .before .before .before .before .before .before .before .before .before .before
+
+-- it is of the right side
+right : (a : tie.Then2 Inv-loop μ-loop) → sameSide Right (a .before .before .before .answer .given .0 .0) ≡ true
+right a = sym (a .before .is-right .ensures) ∙ a .if2 .taken
+
+-- its number was not noted
+free : (e : tie.Else3 Inv-loop μ-loop) → member (turn e .loop .noted) (answered e .answer .given .0 .1 .0) ≡ false
+free e = sym (e .before .before .claim .ensures .before) ∙ e .if3 .left
+
+-- the first file has bytes
+bytes : (e : tie.Else3 Inv-loop μ-loop) (i : ℕ) → getD (called e .args .first .now) i 0 < 256
+bytes e i = e .before .before .before .before .before .before .before .before .before .before .before .before .before .before .before .before .shared-slice-known .given i .fits
 
 loop-holds : tie.Need-loop-holds Inv-loop μ-loop
 loop-holds c =
@@ -106,23 +129,23 @@ same-length-3 c =
 returns-3 : tie.Need-returns-3 Inv-loop μ-loop
 returns-3 c =
     let a = c .before .before .before .before .before .before .before in
-    passing-used (c .before .before .before .before .before .before .before .before .before .before .before .loop .inv) (read a) (sym (c .before .before .before .before .before .is-right .ensures) ∙ c .before .before .before .before .if2 .taken) (small a)
-    (sym (c .before .before .claim .ensures .before) ∙ c .if3 .taken) (c .before .before .before .before .before .before .before .before .before .before .before .loop .inv .size)
-    (ap (λ (k : ℕ). load.Refused (NumberUsed k)) (c .before .before .before .before .before .before .before .before .before .wrapping-add-usize .ensures))
+    let l = c .before .before .before .before .before .before .before .before .before .before .before .loop in
+    passing-used (l .inv) (read a) (right (c .before .before .before .before)) (small a) (sym (c .before .before .claim .ensures .before) ∙ c .if3 .taken) (l .inv .size)
+    (ap (λ (k : ℕ). load.Refused (NumberUsed k)) (a .before .before .wrapping-add-usize .ensures))
 
 unite-requires : tie.Need-unite-requires Inv-loop μ-loop
 unite-requires c κs =
-    let a = c .before .before .before .before .before .before .before .before .before .before .before .before in
-    step-ready (c .before .before .before .before .before .before .before .before .before .before .before .before .before .before .before .before .before .before .before .before .before .before .pre) (λ i. c .before .before .before .before .before .before .before .before .before .before .before .before .before .before .before .before .before .before .before .before .before .shared-slice-known .given i .fits) (c .before .before .before .before .before .before .before .before .before .before .before .before .before .before .before .before .loop .inv) (read a)
-    (sym (c .before .before .before .before .before .before .before .before .before .before .is-right .ensures) ∙ c .before .before .before .before .before .before .before .before .before .if2 .taken) (small a) (sym (c .before .before .before .before .before .before .before .claim .ensures .before) ∙ c .before .before .before .before .before .if3 .left) (few a)
+    let e = c .before .before .before .before .before in
+    let a = answered e in
+    step-ready (called e .pre) (bytes e) (turn e .loop .inv) (read a) (right (e .before .before .before .before)) (small a) (free e) (few a)
 
 grown-by-requires : tie.Need-grown-by-requires Inv-loop μ-loop
 grown-by-requires c κs =
-    let a = c .before .before .before .before .before .before .before .before .before .before .before .before .before .before .before in (
-      c .before .before .before .before .before .before .before .before .before .before .before .before .before .before .before .before .before .before .before .loop .inv .taken .limited,
-      step-bounds (c .before .before .before .before .before .before .before .before .before .before .before .before .before .before .before .before .before .before .before .before .before .before .before .before .before .pre) (λ i. c .before .before .before .before .before .before .before .before .before .before .before .before .before .before .before .before .before .before .before .before .before .before .before .before .shared-slice-known .given i .fits) (c .before .before .before .before .before .before .before .before .before .before .before .before .before .before .before .before .before .before .before .loop .inv) (read a)
-          (sym (c .before .before .before .before .before .before .before .before .before .before .before .before .before .is-right .ensures) ∙ c .before .before .before .before .before .before .before .before .before .before .before .before .if2 .taken) (small a) (sym (c .before .before .before .before .before .before .before .before .before .before .claim .ensures .before) ∙ c .before .before .before .before .before .before .before .before .if3 .left)
-          (c .before .before .unite .ensures) refl,
+    let e = c .before .before .before .before .before .before .before .before in
+    let a = answered e in
+    let inv = turn e .loop .inv in (
+      inv .taken .limited,
+      step-bounds (called e .pre) (bytes e) inv (read a) (right (e .before .before .before .before)) (small a) (free e) (c .before .before .unite .ensures) refl,
     )
 
 is-past-requires : tie.Need-is-past-requires Inv-loop μ-loop
@@ -131,22 +154,20 @@ is-past-requires c κs =
 
 same-length-4 : tie.Need-same-length-4 Inv-loop μ-loop
 same-length-4 c =
-    let a = c .before .before .before .before .before .before .before .before .before .before .before .before .before .before .before .before .before .before in
-    let right = sym (c .before .before .before .before .before .before .before .before .before .before .before .before .before .before .before .before .is-right .ensures) ∙ c .before .before .before .before .before .before .before .before .before .before .before .before .before .before .before .if2 .taken in
-    let free = sym (c .before .before .before .before .before .before .before .before .before .before .before .before .before .claim .ensures .before) ∙ c .before .before .before .before .before .before .before .before .before .before .before .if3 .left in
-    let s = stepped (c .before .before .before .before .before .before .before .before .before .before .before .before .before .before .before .before .before .before .before .before .before .before .before .before .before .before .before .before .pre) (λ i. c .before .before .before .before .before .before .before .before .before .before .before .before .before .before .before .before .before .before .before .before .before .before .before .before .before .before .before .shared-slice-known .given i .fits) (c .before .before .before .before .before .before .before .before .before .before .before .before .before .before .before .before .before .before .before .before .before .before .loop .inv) (read a) right (small a) free
-    (c .before .before .before .before .before .unite .ensures) (c .before .before .grown-by .ensures) in
-    s .size ∙ sym (c .before .before .before .before .before .before .before .before .before .before .before .before .before .before .before .before .before .before .before .before .before .before .before .before .before .before .before .before .pre .slotted .size)
+    let e = c .before .before .before .before .before .before .before .before .before .before .before in
+    let a = answered e in
+    let inv = turn e .loop .inv in
+    let s = stepped (called e .pre) (bytes e) inv (read a) (right (e .before .before .before .before)) (small a) (free e) (c .before .before .before .before .before .unite .ensures) (c .before .before .grown-by .ensures) in
+    s .size ∙ sym (called e .pre .slotted .size)
 
 returns-4 : tie.Need-returns-4 Inv-loop μ-loop
 returns-4 c =
-    let a = c .before .before .before .before .before .before .before .before .before .before .before .before .before .before .before .before .before .before in
-    let right = sym (c .before .before .before .before .before .before .before .before .before .before .before .before .before .before .before .before .is-right .ensures) ∙ c .before .before .before .before .before .before .before .before .before .before .before .before .before .before .before .if2 .taken in
-    let free = sym (c .before .before .before .before .before .before .before .before .before .before .before .before .before .claim .ensures .before) ∙ c .before .before .before .before .before .before .before .before .before .before .before .if3 .left in
-    let s = stepped (c .before .before .before .before .before .before .before .before .before .before .before .before .before .before .before .before .before .before .before .before .before .before .before .before .before .before .before .before .pre) (λ i. c .before .before .before .before .before .before .before .before .before .before .before .before .before .before .before .before .before .before .before .before .before .before .before .before .before .before .before .shared-slice-known .given i .fits) (c .before .before .before .before .before .before .before .before .before .before .before .before .before .before .before .before .before .before .before .before .before .before .loop .inv) (read a) right (small a) free
-    (c .before .before .before .before .before .unite .ensures) (c .before .before .grown-by .ensures) in
-    passing-past (c .before .before .before .before .before .before .before .before .before .before .before .before .before .before .before .before .before .before .before .before .before .before .loop .inv) (read a) right (small a) free (s .one) (s .size)
-    (sym (c .before .is-past .ensures) ∙ c .if4 .taken) (ap (λ (k : ℕ). load.Refused (TooMany k)) (c .before .before .before .before .before .before .before .before .before .before .before .before .before .before .before .before .before .before .before .before .wrapping-add-usize .ensures))
+    let e = c .before .before .before .before .before .before .before .before .before .before .before in
+    let a = answered e in
+    let inv = turn e .loop .inv in
+    let s = stepped (called e .pre) (bytes e) inv (read a) (right (e .before .before .before .before)) (small a) (free e) (c .before .before .before .before .before .unite .ensures) (c .before .before .grown-by .ensures) in
+    passing-past inv (read a) (right (e .before .before .before .before)) (small a) (free e) (s .one) (s .size) (sym (c .before .is-past .ensures) ∙ c .if4 .taken)
+    (ap (λ (k : ℕ). load.Refused (TooMany k)) (a .before .before .wrapping-add-usize .ensures))
 
 first-long-requires : tie.Need-first-long-requires Inv-loop μ-loop
 first-long-requires c κs =
@@ -154,20 +175,19 @@ first-long-requires c κs =
 
 loop-less : tie.Need-loop-less Inv-loop μ-loop
 loop-less c =
-    read-less _ _ (read (c .before .before .before .before .before .before .before .before .before .before .before .before .before .before .before .before .before .before .before))
+    read-less _ _ (read (answered (c .before .before .before .before .before .before .before .before .before .before .before .before)))
 
 loop-again : tie.Need-loop-again Inv-loop μ-loop
 loop-again c =
-    let a = c .before .before .before .before .before .before .before .before .before .before .before .before .before .before .before .before .before .before .before in
-    let right = sym (c .before .before .before .before .before .before .before .before .before .before .before .before .before .before .before .before .before .is-right .ensures) ∙ c .before .before .before .before .before .before .before .before .before .before .before .before .before .before .before .before .if2 .taken in
-    let free = sym (c .before .before .before .before .before .before .before .before .before .before .before .before .before .before .claim .ensures .before) ∙ c .before .before .before .before .before .before .before .before .before .before .before .before .if3 .left in
-    let s = stepped (c .before .before .before .before .before .before .before .before .before .before .before .before .before .before .before .before .before .before .before .before .before .before .before .before .before .before .before .before .before .pre) (λ i. c .before .before .before .before .before .before .before .before .before .before .before .before .before .before .before .before .before .before .before .before .before .before .before .before .before .before .before .before .shared-slice-known .given i .fits) (c .before .before .before .before .before .before .before .before .before .before .before .before .before .before .before .before .before .before .before .before .before .before .before .loop .inv) (read a) right (small a) free
-    (c .before .before .before .before .before .before .unite .ensures) (c .before .before .before .grown-by .ensures) in
-    passing-next (c .before .before .before .before .before .before .before .before .before .before .before .before .before .before .before .before .before .before .before .before .before .before .before .loop .inv) (read a) right (small a) free (s .one) (s .size)
-    (sym (c .before .before .is-past .ensures) ∙ c .before .if4 .left) (c .before .before .before .before .before .before .before .before .before .before .before .before .before .before .claim .ensures .noted) (s .words) (s .is) (s .counted)
+    let e = c .before .before .before .before .before .before .before .before .before .before .before .before in
+    let a = answered e in
+    let inv = turn e .loop .inv in
+    let s = stepped (called e .pre) (bytes e) inv (read a) (right (e .before .before .before .before)) (small a) (free e) (c .before .before .before .before .before .before .unite .ensures) (c .before .before .before .grown-by .ensures) in
+    passing-next inv (read a) (right (e .before .before .before .before)) (small a) (free e) (s .one) (s .size) (sym (c .before .before .is-past .ensures) ∙ c .before .if4 .left)
+    (e .before .before .claim .ensures .noted) (s .words) (s .is) (s .counted)
     (c .first-long .ensures
-    ∙ ap (λ (k : ℕ). unless Failed (c .before .before .before .before .before .before .before .before .before .before .before .before .before .before .before .before .before .before .before .before .before .before .before .loop .long) (refuseIf (ltb maxSetLength (c .before .before .before .before .before .before .unite .result .all)) (Overlong k)))
-    (c .before .before .before .before .before .before .before .before .before .before .before .before .before .before .before .before .before .before .before .before .before .wrapping-add-usize .ensures))
+    ∙ ap (λ (k : ℕ). unless Failed (turn e .loop .long) (refuseIf (ltb maxSetLength (c .before .before .before .before .before .before .unite .result .all)) (Overlong k)))
+    (a .before .before .wrapping-add-usize .ensures))
 
 loop-less-2 : tie.Need-loop-less-2 Inv-loop μ-loop
 loop-less-2 c =
