@@ -30,6 +30,11 @@ pub record Inserted (was : List ℕ) (i : ℕ) (is : List ℕ) : Type 0 where
   pub size : length is ≡ length was
   pub holds : (j : ℕ) → member is j ≡ (eqb j i || member was j)
 
+-- i became a member: r tells whether it was one before
+pub record Claimed (was : List ℕ) (i : ℕ) (r : Bool) (is : List ℕ) : Type 0 where
+  pub before : r ≡ member was i
+  pub noted : Inserted was i is
+
 -- the members fit 16 bits, and there is room for them from a place on
 pub record Drainable (words out : List ℕ) (at : ℕ) : Type 0 where
   pub small : 64 * length words ≤ 65536

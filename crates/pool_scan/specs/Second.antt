@@ -6,7 +6,7 @@ use mathlib.Core.List.{List, [], _++_}
 use mathlib.Core.Bool.{Bool, true, false}
 use lib.ListN.{length, getD, set}
 use Rattle.lists.specs.Lists.{memb}
-use Rattle.bit_sets.specs.BitSets.{member, Inserted}
+use Rattle.bit_sets.specs.BitSets.{member}
 use Rattle.sets.specs.Limits.{maxItems, maxSets, maxSetLength, halfWords}
 use Rattle.sets.specs.Refusals.{unless}
 use Rattle.sets.specs.declared.Side.{Side}
@@ -25,11 +25,6 @@ use Rattle.tag_scan.specs.Scan.{Taken}
 use Rattle.right_slots.specs.Slots.{numberWords, slotOf, BlocksCounted, AtSlots, Slottable, Slotted, slotWord, pooledMark}
 use Rattle.pool_scan.specs.declared.United.{United}
 use Rattle.pool_scan.specs.declared.Second.{Second}
-
--- a number was noted: r tells whether it was before
-pub record Claimed (was : List ℕ) (number : ℕ) (r : Bool) (is : List ℕ) : Type 0 where
-  pub before : r ≡ member was number
-  pub noted : Inserted was number is
 
 -- a whole record stands at a place, with so many tags from a place on
 pub record RecordThere (file : List ℕ) (at count tags : ℕ) : Type 0 where

@@ -2,7 +2,6 @@
 // their tags. It goes on from the counts and the index of the first file. The tags of a pooled set are counted as a union: those of
 // the first file's record are marked again, and then those of the second's that are new.
 use bit_sets::contains;
-use bit_sets::insert;
 use right_slots::NUMBER_WORDS;
 use right_slots::POOLED_MARK;
 use right_slots::slot_of;
@@ -14,6 +13,7 @@ use std::num::wrapping_add_usize;
 use tag_file::LoadAnswer;
 use tag_file::Loaded;
 use tag_file::ReadAnswer;
+use tag_file::is_side;
 use tag_file::read_record;
 use tag_index::Added;
 use tag_index::HINT_SLOTS;
@@ -26,17 +26,16 @@ ghost use mathlib.Core.List.{[]};
 ghost use Prim.Native.Nat.{ℕ, _+_, _≤_, _<_};
 ghost use lib.Dec.{ltb};
 ghost use lib.ListN.{length, replicate};
+ghost use Rattle.bit_sets.specs.BitSets.{Claimed};
 ghost use Rattle.sets.specs.Limits.{maxSetLength, halfWords};
 ghost use Rattle.sets.specs.Refusals.{refuseIf, unless};
 ghost use Rattle.sets.specs.declared.Refusal.the-variants.{Overlong};
-ghost use Rattle.sets.specs.declared.Side.the-variants.{Right};
 ghost use Rattle.sets.specs.declared.Tested.the-variants.{Failed};
-ghost use Rattle.tag_file.specs.Records.{sameSide};
 ghost use Rattle.tag_file.specs.Reading.{tagsAt};
 ghost use Rattle.tag_index.specs.Index.{seenWords, tableOf, AllAdded};
 ghost use Rattle.tag_scan.specs.Scan.{Limited};
 ghost use Rattle.right_slots.specs.Slots.{numberWords};
-ghost use Rattle.pool_scan.specs.Second.{Claimed, RecordThere, KnownThere, IndexReady, TagsInside, AddedAlone, AddedBoth};
+ghost use Rattle.pool_scan.specs.Second.{RecordThere, KnownThere, IndexReady, TagsInside, AddedAlone, AddedBoth};
 ghost use Rattle.pool_scan.specs.Second.{UniteReady, Taking, unitedBy, SecondReady, SecondScanned};
 
 // The tags of a set of the second file: how many the index has with them, how many distinct ones the first file's set of its number had,
@@ -59,20 +58,7 @@ fn claim(used: &mut [u64], number: u16) -> bool
     requires { ⌜ length (now used) ≡ numberWords ⌝ }
     ensures { λ r. ⌜ Claimed (now (used .entry)) number r (now (used .exit)) ⌝ }
 {
-    let key = number as usize;
-    let before = contains(used, key);
-    insert(used, key);
-    before
-}
-
-// Whether a side is the right one.
-fn is_right(side: Side) -> bool
-    ensures { λ r. ⌜ r ≡ sameSide Right side ⌝ }
-{
-    match side {
-        Side::Left => false,
-        Side::Right => true,
-    }
+    bit_sets::claim(used, number as usize)
 }
 
 // Adds the tags of the record at a place of the first file, the first of a set.
@@ -314,7 +300,7 @@ pub fn scan_second(
                 long,
             };
         };
-        if is_right(side) {
+        if is_side(Side::Right, side) {
             if claim(&mut noted, number) {
                 return Second {
                     answer: LoadAnswer::Refused(Refusal::NumberUsed(place)),

@@ -5,6 +5,7 @@ use bit_sets::ones_below;
 use bit_sets::ones_of;
 use sets::Side;
 use tag_file::ReadAnswer;
+use tag_file::is_side;
 use tag_file::read_record;
 ghost use mathlib.Core.Path.{_≡_};
 ghost use Prim.Native.Nat.{_+_, _*_, _/_, _%_, _<_, _≤_};
@@ -13,7 +14,7 @@ ghost use Rattle.lists.specs.Lists.{count, range};
 ghost use Rattle.bit_sets.specs.BitSets.{member};
 ghost use Rattle.sets.specs.Limits.{maxSets, halfWords};
 ghost use Rattle.sets.specs.declared.Side.the-variants.{Right};
-ghost use Rattle.tag_file.specs.Records.{records, sameSide, ofSide};
+ghost use Rattle.tag_file.specs.Records.{records, ofSide};
 ghost use Rattle.right_slots.specs.Slots.{numberWords, blockLength, blocks, slotOf, BlocksCounted, NumbersNoted};
 ghost use Rattle.right_slots.specs.Slots.{Slotted, Slottable};
 
@@ -48,16 +49,6 @@ pub fn slot_of(used: &[u64], counts: &[u16], number: u16) -> usize
     start + before + below
 }
 
-// Whether a side is that of the right sets.
-fn is_right(side: Side) -> bool
-    ensures { λ r. ⌜ r ≡ sameSide Right side ⌝ }
-{
-    match side {
-        Side::Left => false,
-        Side::Right => true,
-    }
-}
-
 // Notes the numbers of a file's right sets in an empty bit set.
 fn note_numbers(file: &[u8], used: &mut [u64])
     requires { ⌜ now used ≡ replicate numberWords 0 ⌝ }
@@ -78,7 +69,7 @@ fn note_numbers(file: &[u8], used: &mut [u64])
             return;
         };
         at = next;
-        if !is_right(side) {
+        if !is_side(Side::Right, side) {
             continue;
         }
         insert(used, number as usize);
@@ -132,7 +123,7 @@ fn put_places(file: &[u8], used: &[u64], counts: &[u16], slots: &mut [u32])
         };
         let here = at;
         at = next;
-        if !is_right(side) {
+        if !is_side(Side::Right, side) {
             continue;
         }
         let slot = slot_of(used, counts, number);

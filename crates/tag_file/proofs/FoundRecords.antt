@@ -78,11 +78,6 @@ module _ (file : List ℕ) where
       let here : 0 + totalLength before ≡ totalLength before = omega arith in
       subst (λ (k : ℕ). ReadFound file k r after) here (found-from 0 before r after e)
 
-  -- the place after a record
-  pub found-next : (before : List TagRecord) (r : TagRecord) (after : List TagRecord) (e : records file ≡ before ++ (r ∷ after))
-      → read-found before r after e .next ≡ totalLength before + recordLength (length (r .tags))
-  found-next before r after e = next-place (read-found before r after e)
-
   module _ (byte : (i : ℕ) → getD file i 0 < 256) (before : List TagRecord) (r : TagRecord) (after : List TagRecord)
       (e : records file ≡ before ++ (r ∷ after)) where
     pub found-number : r .number < halfWords

@@ -30,6 +30,7 @@ ghost use Prim.Native.Nat.{_+_, _≤_, _<_};
 ghost use lib.ListN.{length};
 ghost use Rattle.tag_file.specs.Format.{headLength};
 ghost use Rattle.tag_file.specs.Reading.{readAt, recordAt, readWords};
+ghost use Rattle.tag_file.specs.Records.{sameSide};
 ghost use Rattle.tag_file.specs.Loading.{loadWords};
 ghost use Rattle.tag_file.specs.Inner.{ByteAt};
 
@@ -98,6 +99,22 @@ pub fn load_words(answer: LoadAnswer) -> [u64; 8]
             let head = head_of(why);
             [head.number, head.first, head.second, 0, 0, 0, 0, 0]
         }
+    }
+}
+
+// Whether two sides are the same.
+pub fn is_side(a: Side, b: Side) -> bool
+    ensures { λ r. ⌜ r ≡ sameSide a b ⌝ }
+{
+    match a {
+        Side::Left => match b {
+            Side::Left => true,
+            Side::Right => false,
+        },
+        Side::Right => match b {
+            Side::Left => false,
+            Side::Right => true,
+        },
     }
 }
 

@@ -25,7 +25,7 @@ use Rattle.tag_round_trip.proofs.Refilled.{sets-few}
 use Rattle.tag_pooling.specs.Pooling.{pooledRecords, pooledAnswer, pooledLists, PooledCall}
 use Rattle.tag_pooling.proofs.Answers.{Accepted, answer-accepted}
 use Rattle.tag_pooling.proofs.SecondFaults.{second-covers}
-use Rattle.tag_pooled_laws.proofs.PooledFaults.{SecondFree, second-free, pooled-free, pooled-few}
+use Rattle.tag_pooled_laws.proofs.PooledFaults.{SecondFree, second-free, pooled-free}
 use Rattle.tag_pooled_laws.proofs.PooledSets.{none-overlong, pooled-sets-few, pooled-fit, pooled-numbers}
 
 -- ---- the lists
@@ -89,9 +89,6 @@ module _ (first second : List ℕ) {before after : Lists} {totals : Loaded}
   -- each side's numbers once, and the limits
   pub pair-free : FaultFree (pooledRecords first second)
   pair-free = pooled-free (records first) (records second) first-free pair-second-free
-
-  pub pair-few : (side : Side) → tooMany side (pooledRecords first second) ≡ false
-  pair-few = pooled-few (records first) (records second) first-free pair-second-free
 
   -- of files of bytes
   module _ (low : (i : ℕ) → getD first i 0 < 256) (low-second : (i : ℕ) → getD second i 0 < 256) where

@@ -90,8 +90,4 @@ module _ (first second : List TagRecord) (so : FaultFree first) (more : SecondFr
       entries : (side : Side) → entriesOf side (pooled first second) ≤ maxEntries
       entries Left = rw (left-pooled first second) (so .entries Left)
       entries Right = few-entries Right (pooled first second) (more .few)
-
-  -- neither side passes a limit
-  pub pooled-few : (side : Side) → tooMany side (pooled first second) ≡ false
-  pooled-few side =
-      not-many side (pooled first second) (pooled-free .places side) (pooled-free .entries side) (pooled-free .tags)
+      -- neither side passes a limit

@@ -6,7 +6,6 @@ use mathlib.Core.List.{List}
 use mathlib.Core.Bool.{Bool, _||_}
 use lib.Dec.{ltb}
 use lib.ListN.{length}
-use Rattle.bit_sets.specs.BitSets.{member, Inserted}
 use Rattle.sets.specs.Limits.{maxItems, maxSets, maxEntries, halfWords}
 use Rattle.sets.specs.Refusals.{unless}
 use Rattle.sets.specs.declared.Side.{Side}
@@ -29,11 +28,6 @@ usedWords = 2 * halfWords / 64
 abbrev pub keyOf : Side → ℕ → ℕ
 keyOf Left number = number
 keyOf Right number = halfWords + number
-
--- a number was noted: r tells whether it was before
-pub record Claimed (was : List ℕ) (key : ℕ) (r : Bool) (is : List ℕ) : Type 0 where
-  pub before : r ≡ member was key
-  pub noted : Inserted was key is
 
 -- ---- counts
 

@@ -1,6 +1,4 @@
 // The loader's first pass over a tag file: the first record at fault, or the counts of the file and the index of its tags.
-use bit_sets::contains;
-use bit_sets::insert;
 use sets::MAX_ENTRIES;
 use sets::MAX_ITEMS;
 use sets::MAX_SETS;
@@ -18,11 +16,12 @@ use tag_index::add_tags;
 ghost use mathlib.Core.Path.{_≡_};
 ghost use Prim.Native.Nat.{_≤_};
 ghost use lib.ListN.{length, replicate};
+ghost use Rattle.bit_sets.specs.BitSets.{Claimed};
 ghost use Rattle.sets.specs.Limits.{maxSetLength};
 ghost use Rattle.sets.specs.Refusals.{unless};
 ghost use Rattle.tag_file.specs.declared.LoadAnswer.the-variants.{Loaded as Accepted, Refused as Rejected};
 ghost use Rattle.tag_file.specs.Loading.{refusalOf};
-ghost use Rattle.tag_scan.specs.Scan.{usedWords, keyOf, Claimed, grownBy, passes, isOver, Limited, Lengths, Scanned};
+ghost use Rattle.tag_scan.specs.Scan.{usedWords, keyOf, grownBy, passes, isOver, Limited, Lengths, Scanned};
 
 // The greatest number of distinct tags.
 const MAX_TAGS: usize = MAX_ITEMS as usize;
@@ -47,10 +46,7 @@ fn claim(used: &mut [u64], side: Side, number: u16) -> bool
     requires { ⌜ length (now used) ≡ usedWords ⌝ }
     ensures { λ r. ⌜ Claimed (now (used .entry)) (keyOf side number) r (now (used .exit)) ⌝ }
 {
-    let key = key_of(side, number);
-    let before = contains(used, key);
-    insert(used, key);
-    before
+    bit_sets::claim(used, key_of(side, number))
 }
 
 // The counts with one more record of a side.

@@ -60,7 +60,7 @@ called e = e .before .before .before .before .before .before .before .before .be
 
 -- it is of the right side
 right : (a : tie.Then2 Inv-loop μ-loop) → sameSide Right (a .before .before .before .answer .given .0 .0) ≡ true
-right a = sym (a .before .is-right .ensures) ∙ a .if2 .taken
+right a = sym (a .before .is-side .ensures) ∙ a .if2 .taken
 
 -- its number was not noted
 free : (e : tie.Else3 Inv-loop μ-loop) → member (turn e .loop .noted) (answered e .answer .given .0 .1 .0) ≡ false
@@ -110,8 +110,8 @@ returns-2 c =
     let stop = no-records second (l .at) (read .result) (sym (read .ensures)) (c .before .match .keys2) in
     passing-cut (l .inv) stop (c .if1 .left) (ap (λ (k : ℕ). load.Refused (Malformed k)) (c .before .before .wrapping-add-usize .ensures))
 
-is-right-requires : tie.Need-is-right-requires Inv-loop μ-loop
-is-right-requires c κs =
+is-side-requires : tie.Need-is-side-requires Inv-loop μ-loop
+is-side-requires c κs =
     tt
 
 slice-aggregate-claim : tie.Need-slice-aggregate-claim Inv-loop μ-loop
@@ -195,7 +195,7 @@ loop-less-2 c =
 
 loop-again-2 : tie.Need-loop-again-2 Inv-loop μ-loop
 loop-again-2 c =
-    passing-left (c .before .before .before .before .before .before .before .loop .inv) (read (c .before .before .before)) (sym (c .before .is-right .ensures) ∙ c .if2 .left)
+    passing-left (c .before .before .before .before .before .before .before .loop .inv) (read (c .before .before .before)) (sym (c .before .is-side .ensures) ∙ c .if2 .left)
 
 pub scan-second-spec : {M : Type 1} → statement M
 scan-second-spec =
@@ -211,7 +211,7 @@ scan-second-spec =
     returns
     same-length-2
     returns-2
-    is-right-requires
+    is-side-requires
     slice-aggregate-claim
     claim-requires
     same-length-3

@@ -53,8 +53,8 @@ returns c =
     let stop = no-records (start .args .file .now) (at-loop .loop .at) (told .result) (sym (told .ensures)) (c .match .keys2) in
     noting-end (at-loop .loop .inv) stop (start .pre .1)
 
-is-right-requires : tie.Need-is-right-requires Inv-loop μ-loop
-is-right-requires c κs = tt
+is-side-requires : tie.Need-is-side-requires Inv-loop μ-loop
+is-side-requires c κs = tt
 
 loop-less : tie.Need-loop-less Inv-loop μ-loop
 loop-less c = read-less _ _ (read (c .before .before .before))
@@ -62,7 +62,7 @@ loop-less c = read-less _ _ (read (c .before .before .before))
 loop-again : tie.Need-loop-again Inv-loop μ-loop
 loop-again c =
     let told = c .before .before .before in
-    let side = c .before .is-right in
+    let side = c .before .is-side in
     noting-other (told .before .before .before .loop .inv) (read told) (sym (side .ensures) ∙ not-true (side .result) (c .if1 .taken))
 
 cast-insert : tie.Need-cast-insert Inv-loop μ-loop
@@ -80,7 +80,7 @@ loop-again-2 : tie.Need-loop-again-2 Inv-loop μ-loop
 loop-again-2 c =
     let at-if = c .before .before .before .before in
     let told = at-if .before .before .before in
-    let side = at-if .before .is-right in
+    let side = at-if .before .is-side in
     noting-own (told .before .before .before .loop .inv) (read told)
     (sym (side .ensures) ∙ not-false (side .result) (at-if .if1 .left)) (c .before .before .insert .ensures)
 
@@ -95,7 +95,7 @@ note-numbers-spec =
     enum-known-answer
     same-length
     returns
-    is-right-requires
+    is-side-requires
     loop-less
     loop-again
     cast-insert

@@ -41,7 +41,7 @@ told c = c .before .before .before .before
 
 is-right : (c : tie.After-slot-of Inv-loop μ-loop) → sameSide Right (told c .answer .given .0 .0) ≡ true
 is-right c =
-    let side = c .before .before .is-right in
+    let side = c .before .before .is-side in
     sym (side .ensures) ∙ not-false (side .result) (c .before .if1 .left)
 
 room : (c : tie.After-slot-of Inv-loop μ-loop) → c .slot-of .result < length (told c .before .before .before .loop .slots)
@@ -84,8 +84,8 @@ returns c =
       places = placing-end (at-loop .loop .inv) stop;
     }
 
-is-right-requires : tie.Need-is-right-requires Inv-loop μ-loop
-is-right-requires c κs = tt
+is-side-requires : tie.Need-is-side-requires Inv-loop μ-loop
+is-side-requires c κs = tt
 
 loop-less : tie.Need-loop-less Inv-loop μ-loop
 loop-less c = read-less _ _ (read (c .before .before .before))
@@ -93,7 +93,7 @@ loop-less c = read-less _ _ (read (c .before .before .before))
 loop-again : tie.Need-loop-again Inv-loop μ-loop
 loop-again c =
     let told = c .before .before .before in
-    let side = c .before .is-right in
+    let side = c .before .is-side in
     placing-other (told .before .before .before .loop .inv) (read told) (sym (side .ensures) ∙ not-true (side .result) (c .if1 .taken))
 
 slot-of-requires : tie.Need-slot-of-requires Inv-loop μ-loop
@@ -137,7 +137,7 @@ put-places-spec =
     enum-known-answer
     same-length
     returns
-    is-right-requires
+    is-side-requires
     loop-less
     loop-again
     slot-of-requires
