@@ -1,11 +1,11 @@
 -- Inner: sets of numbers kept as the digits of words of 64 bits: digit j of word w tells whether 64 * w + j is a member.
-use Prim.Native.Nat.{ℕ, zero, suc, _*_, _/_, _%_, _^_, _≤_}
+use Prim.Native.Nat.{ℕ, zero, suc, _*_, _/_, _%_, _^_, _≤_, _<_}
 use mathlib.Core.Path.{_≡_}
 use mathlib.Core.List.{List, []}
 use mathlib.Core.Bool.{Bool, _||_}
 use lib.Dec.{eqb}
 use lib.ListN.{length, getD}
-use Rattle.lists.specs.Lists.{onto, keep, upto}
+use Rattle.lists.specs.Lists.{onto, keep, memb, upto}
 use Rattle.lists.specs.Writing.{Room}
 
 -- whether digit j of a word is 1
@@ -34,6 +34,17 @@ pub record Inserted (was : List ℕ) (i : ℕ) (is : List ℕ) : Type 0 where
 pub record Claimed (was : List ℕ) (i : ℕ) (r : Bool) (is : List ℕ) : Type 0 where
   pub before : r ≡ member was i
   pub noted : Inserted was i is
+
+-- a part of a list whose numbers can be members
+pub record PartFits (words xs : List ℕ) (from to : ℕ) : Type 0 where
+  pub order : from ≤ to
+  pub within : to ≤ length xs
+  pub small : (k : ℕ) → from ≤ k → k < to → getD xs k 0 < 64 * length words
+
+-- numbers became members, and nothing else changed
+pub record InsertedAll (was new is : List ℕ) : Type 0 where
+  pub size : length is ≡ length was
+  pub holds : (j : ℕ) → member is j ≡ (memb j new || member was j)
 
 -- the members fit 16 bits, and there is room for them from a place on
 pub record Drainable (words out : List ℕ) (at : ℕ) : Type 0 where

@@ -50,17 +50,6 @@ pub record HasSlot (used counts slots : List ℕ) (number : ℕ) : Type 0 where
   pub counted : BlocksCounted used counts
   pub within : slotOf used number < length slots
 
--- a part of a list that may be put into a bit set
-pub record Recallable (items : List ℕ) (from to : ℕ) (marks : List ℕ) : Type 0 where
-  pub order : from ≤ to
-  pub within : to ≤ length items
-  pub small : (k : ℕ) → from ≤ k → k < to → getD items k 0 < 64 * length marks
-
--- numbers became members, and nothing else changed
-pub record InsertedAll (was new is : List ℕ) : Type 0 where
-  pub size : length is ≡ length was
-  pub holds : (j : ℕ) → member is j ≡ (memb j new || member was j)
-
 -- what stands where a word says
 abbrev pub standing : ℕ → List ℕ → List ℕ
 standing word items = slice (word / halfWords) (word / halfWords + word % halfWords) items
