@@ -47,7 +47,8 @@ pub record BothGood (i : Input) : Type 0 where
   pub left : firstBad (i .T) (i .left .ends) (i .left .items) ≡ Good
   pub right : firstBad (i .T) (i .right .ends) (i .right .items) ≡ Good
 
-side-good : (side : Side) (v : Verdict) → noBadSet side v ≡ Passed → v ≡ Good
+-- a side without a bad set
+pub side-good : (side : Side) (v : Verdict) → noBadSet side v ≡ Passed → v ≡ Good
 side-good side Good e = refl
 side-good side (Bad place) e = let z : _≡_ {A = ℕ} 0 1 = cc in absurd (omega arith)
 

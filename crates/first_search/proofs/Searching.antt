@@ -1,0 +1,103 @@
+-- The walk over the left sets, with its start, step and ends: what is left of them decides. And the marks of a right set's items: they
+-- decide which left sets it contains.
+use Prim.Native.Nat.{ℕ, _+_, _*_, _<_, _≤_}
+use mathlib.Core.Path.{_≡_, refl, sym, ap, ap₂, _∙_}
+use mathlib.Core.List.{List, [], _∷_}
+use mathlib.Core.Bool.{Bool, true, false, _&&_, _||_, or-false}
+use native.Mathlib.Nat.{sub-zero}
+use native.Mathlib.Numerals.{add-one}
+use native.Mathlib.Omega.{arith}
+use borrow.Author.Tests.{ltb-true}
+use lib.Dec.{ltb, leb}
+use lib.ListN.{length, getD, drop, replicate, length-replicate}
+use lib.Seq.{take-length}
+use Rattle.lists.specs.Lists.{all, memb, rising, slice}
+use Rattle.lists.proofs.Bools.{and-left, and-right}
+use Rattle.lists.proofs.Slices.{slice-from}
+use Rattle.lists.proofs.Throughout.{all-at}
+use Rattle.bit_sets.specs.BitSets.{member, PartFits, InsertedAll}
+use Rattle.bit_sets.proofs.Members.{no-member}
+use Rattle.sets.specs.Limits.{maxItems, maxSetLength}
+use Rattle.sets.specs.Collections.{between, setsFrom, setsOf, goodItems, firstBadFrom, firstBad, contained}
+use Rattle.sets.specs.declared.Verdict.the-variants.{Good}
+use Rattle.sets.proofs.Good.{good-step, good-next, set-item}
+use Rattle.sets.proofs.Containment.{contained-subset}
+use Rattle.first_spec.specs.declared.Search.{Search}
+use Rattle.first_spec.specs.First.{foundAt, noneOf, firstFrom, firstContained}
+use Rattle.first_spec.proofs.FirstLaws.{first-agree, first-set-end, first-set-stop, first-set-next}
+use Rattle.first_search.specs.Searching.{CanSearch}
+
+-- the first left set whose items are all marked
+abbrev pub firstMarked : List ℕ → List ℕ → List ℕ → Search
+firstMarked ends items marks = firstFrom (all (member marks)) 0 (setsOf ends items)
+
+-- at place k, whose set begins at start: what is left decides, and is good
+pub record Searching (ends items marks : List ℕ) (k start : ℕ) : Type 0 where
+  pub same : firstFrom (all (member marks)) k (setsFrom start (drop k ends) items) ≡ firstMarked ends items marks
+  pub good : (T : ℕ) → firstBad T ends items ≡ Good → firstBadFrom T k start (drop k ends) items ≡ Good
+
+pub searching-start : (ends items marks : List ℕ) → Searching ends items marks 0 0
+searching-start ends items marks = record { same = refl; good = λ T e. e }
+
+module _ {ends items marks : List ℕ} {k start : ℕ} (s : Searching ends items marks k start) where
+  pub searching-end : length ends ≤ k → noneOf k ≡ firstMarked ends items marks
+  searching-end over = sym (first-set-end (all (member marks)) ends items k start over) ∙ s .same
+
+  module _ (more : k < length ends) where
+    -- the set at k can be probed
+    pub searching-part : CanSearch ends items marks → PartFits marks items start (getD ends k 0)
+    searching-part can =
+        let set = good-step (can .T) ends items k start more (s .good (can .T) (can .good)) in
+        record {
+          order = set .ordered;
+          within = set .within;
+          small = λ e low high. omega (arith, set-item (can .T) start (getD ends k 0) items k set e low high, can .wide);
+        }
+
+    probed : all (member marks) (slice start (getD ends k 0) items) ≡ all (member marks) (between start (getD ends k 0) items)
+    probed = ap (all (member marks)) (slice-from start (getD ends k 0) items)
+
+    pub searching-stop : true ≡ all (member marks) (slice start (getD ends k 0) items)
+        → record { found = true; place = k; compared = k + 1 } ≡ firstMarked ends items marks
+    searching-stop all-there =
+        rw (add-one k) (sym (first-set-stop (all (member marks)) ends items k start more (sym probed ∙ sym all-there)) ∙ s .same)
+
+    pub searching-next : false ≡ all (member marks) (slice start (getD ends k 0) items)
+        → Searching ends items marks (k + 1) (getD ends k 0)
+    searching-next one-out =
+        record {
+          same = sym (first-set-next (all (member marks)) ends items k start more (sym probed ∙ sym one-out)) ∙ s .same;
+          good = λ T e. good-next T ends items k start more (s .good T e);
+        }
+
+-- the items of a good right set can be marked
+pub right-fits : (T : ℕ) (right marks : List ℕ) → T ≤ 64 * length marks → goodItems T right ≡ true → PartFits marks right 0 (length right)
+right-fits T right marks wide good =
+    let rest = and-right (leb (length right) maxSetLength) (all (λ i. ltb i T) right && rising right) good in
+    let below = and-left (all (λ i. ltb i T) right) (rising right) rest in
+    record {
+      order = omega arith;
+      within = omega arith;
+      small = λ k low high. omega (arith, ltb-true (getD right k 0) T (all-at (λ (i : ℕ). ltb i T) 0 right below k high));
+    }
+
+-- where the items of a right set were marked, and no others, the first that is marked is the first that it contains
+module _ (words : ℕ) (right : List ℕ) {marks : List ℕ}
+    (done : InsertedAll (replicate words 0) (slice 0 (length right) right) marks) where
+  marked-item : (x : ℕ) → member marks x ≡ memb x right
+  marked-item x =
+      done .holds x
+      ∙ ap₂ (λ (a b : Bool). a || b)
+      (ap (memb x) (slice-from 0 (length right) right ∙ rw (sub-zero (length right)) (take-length right))) (no-member words x)
+      ∙ or-false (memb x right)
+
+  marked-set : (left : List ℕ) → all (member marks) left ≡ contained left right
+  unfolding all
+  marked-set left = go left ∙ sym (contained-subset left right)
+    where
+      go : (l : List ℕ) → all (member marks) l ≡ all (λ x. memb x right) l
+      go [] = refl
+      go (x ∷ xs) = ap₂ (λ (a b : Bool). a && b) (marked-item x) (go xs)
+
+  pub marked-first : (lefts : List (List ℕ)) → firstFrom (all (member marks)) 0 lefts ≡ firstContained lefts right
+  marked-first lefts = first-agree (all (member marks)) (λ left. contained left right) 0 lefts marked-set

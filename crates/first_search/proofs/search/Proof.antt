@@ -1,0 +1,74 @@
+-- `first_search::search` meets its contract. The invariant: what is left of the left sets decides, and is good. The measure is how
+-- many sets are left.
+use mathlib.Core.Path.{_≡_, sym, _∙_}
+use Prim.Native.Nat.{ℕ, _-_, _≤_, _<_}
+use native.Mathlib.Omega.{arith}
+use borrow.Author.Needs.{needs}
+use lib.ListN.{length}
+use Rattle.first_search.proofs.Searching.{Searching, searching-start, searching-end, searching-part, searching-stop, searching-next}
+use Rattle.first_search.proofs.search.Statement.{statement}
+use Rattle.first_search.proofs.search.Tie as tie
+
+abbrev Inv-loop : tie.InvT-loop
+Inv-loop left-ends left-items marks k₀ start₀ k start = Searching left-ends left-items marks k start
+
+abbrev μ-loop : tie.MeasureT-loop
+μ-loop left-ends left-items marks k₀ start₀ k start = length left-ends - k
+
+loop-holds : tie.Need-loop-holds Inv-loop μ-loop
+loop-holds c =
+    let a = c .before .before .before .args in searching-start (a .left-ends .now) (a .left-items .now) (a .marks .now)
+
+mul-end : tie.Need-mul-end Inv-loop μ-loop
+mul-end c = search needs
+
+shared-slice-read-end : tie.Need-shared-slice-read-end Inv-loop μ-loop
+shared-slice-read-end c = search needs
+
+cast-end : tie.Need-cast-end Inv-loop μ-loop
+cast-end c = omega (arith, c .shared-slice-known4 .given (c .before .before .loop .k) .fits)
+
+contains-part-requires : tie.Need-contains-part-requires Inv-loop μ-loop
+contains-part-requires c κs =
+    let p = c .before in
+    searching-part (p .before .loop .inv) (p .loop-test .taken) (p .before .before .before .before .before .pre)
+
+add-t12 : tie.Need-add-t12 Inv-loop μ-loop
+add-t12 c = search needs
+
+returns : tie.Need-returns Inv-loop μ-loop
+returns c =
+    let p = c .before .before .before in
+    searching-stop (p .before .loop .inv) (p .loop-test .taken) (sym (c .if1 .taken) ∙ c .before .contains-part .ensures)
+
+add-k : tie.Need-add-k Inv-loop μ-loop
+add-k c = search needs
+
+loop-less : tie.Need-loop-less Inv-loop μ-loop
+loop-less c = omega arith
+
+loop-again : tie.Need-loop-again Inv-loop μ-loop
+loop-again c =
+    let p = c .before .before .before in
+    searching-next (p .before .loop .inv) (p .loop-test .taken) (sym (c .if1 .left) ∙ c .before .contains-part .ensures)
+
+returns-2 : tie.Need-returns-2 Inv-loop μ-loop
+returns-2 c = searching-end (c .before .loop .inv) (omega (arith, c .loop-test .left))
+
+pub search-spec : {M : Type 1} → statement M
+search-spec =
+    tie.close
+    (tie.spec
+    Inv-loop
+    μ-loop
+    loop-holds
+    mul-end
+    shared-slice-read-end
+    cast-end
+    contains-part-requires
+    add-t12
+    returns
+    add-k
+    loop-less
+    loop-again
+    returns-2)

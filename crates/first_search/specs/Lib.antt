@@ -1,0 +1,2 @@
+-- Contents: what the search asks of what it probes.
+pub mod Searching
