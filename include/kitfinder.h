@@ -1,9 +1,9 @@
-/* The kit finder: a set containment join of kits and stacks, the order of tags, and the tag file's loader and writer, for one pad or
- * two.
+/* The kit finder: a set containment join of kits and stacks, the first kit for one stack, the order of tags, and the tag file's loader
+ * and writer, for one pad or two.
  *
  * Link libkitfinder.a, which `rt staticlib kitfinder` writes to target/staticlib (x86-64 Linux); scripts/install puts it, this header
  * and a pkg-config file below a prefix. Every function is proved to meet its contract (crates/kitfinder/src/lib.rt).
- * docs/FORMAT.md has the tag file, the limits and what makes a set bad; examples/kiosk.c uses all of this.
+ * docs/FORMAT.md has the tag file, the limits and what makes a set bad; examples/kiosk.c and examples/waiting.c use what is here.
  *
  * Words: kits are left sets, stacks are right sets, tags are items, the allowance is the budget. Librarians say the first, parameters
  * and sources the second. A place is the number of a set, from 0.
@@ -63,6 +63,7 @@ extern "C" {
 
 /* The words of each answer. */
 #define KITFINDER_JOIN_ANSWER 9
+#define KITFINDER_FIRST_ANSWER 6
 #define KITFINDER_ORDER_ANSWER 3
 #define KITFINDER_LOAD_ANSWER 8
 #define KITFINDER_LOAD_POOLED_ANSWER 8
@@ -73,6 +74,7 @@ extern "C" {
  * a memset that is bound at its first call. Of the join's, 336 bytes are for each level of the limit, where left sets are gathered to be
  * checked; the walk itself takes no more at a greater limit. */
 #define KITFINDER_JOIN_STACK 131072
+#define KITFINDER_FIRST_STACK 8192
 #define KITFINDER_ORDER_STACK 32768
 #define KITFINDER_LOAD_STACK 131072
 #define KITFINDER_LOAD_POOLED_STACK 131072
@@ -119,6 +121,17 @@ void kitfinder_join(uint32_t t,
                     uint32_t *work, size_t work_len,
                     uint16_t *pairs, size_t pairs_len,
                     uint64_t answer[KITFINDER_JOIN_ANSWER]);
+
+/* Finds the first kit that one stack contains, and compares no further. `right` is the stack's items alone, its end the list's length; it
+ * is bad where it has over 255 items, an item of t or more, or items that don't rise. An empty kit is contained in every stack. All is
+ * tested before a kit is compared, and nothing is written but the answer.
+ * Refuses with 5 and 6: with 6, then with 5 for the first bad kit, then with 5 for the stack, as side 1 and place 0.
+ * answer[3] 1 where such a kit was found, else 0; [4] its place, 0 where none was; [5] the kits compared: the place plus one, or all. */
+void kitfinder_first(uint32_t t,
+                     const uint32_t *left_ends, size_t left_ends_len,
+                     const uint16_t *left_items, size_t left_items_len,
+                     const uint16_t *right, size_t right_len,
+                     uint64_t answer[KITFINDER_FIRST_ANSWER]);
 
 /* Ranks the items by frequency, rising, or falling where `falling` is not 0; ties go to the lower item. ranks_len must be t.
  * Refuses with 5 and 6. */

@@ -2,6 +2,7 @@
 //! Usage: bench [--write] [ROUNDS]
 
 mod files;
+mod first;
 mod joins;
 
 use std::fs;
@@ -42,8 +43,9 @@ fn main() {
     }
     let machine = machine();
     let joins = joins::measure(rounds);
+    let first = first::measure(rounds);
     let files = files::measure(rounds);
-    let figures = format!("{machine}; best of {rounds} rounds.\n\n{}{files}", joins.tables);
+    let figures = format!("{machine}; best of {rounds} rounds.\n\n{}{first}{files}", joins.tables);
     print!("{figures}");
     if write {
         let readme = fs::read_to_string(README).expect("bench/README.md can be read");

@@ -1,5 +1,7 @@
-//! The inputs that are measured: eight kinds of join, the growth of one of them, and tag files. All follow from their seeds.
+//! The inputs that are measured: eight kinds of join, the growth of one of them, waiting screens, and tag files. All follow from their
+//! seeds.
 
+use crate::peers::is_within;
 use crate::random::Random;
 use kitfinder::Collection;
 use std::ops::Range;
@@ -257,6 +259,37 @@ pub fn small(seed: u64) -> Workload {
 /// The kind `FULL` with fewer sets.
 pub fn growth() -> Vec<Workload> {
     [256, 512, 1024, 2048].iter().map(|&n| even(&n.to_string(), n)).collect()
+}
+
+/// A waiting screen: left sets, and right sets that come one by one. Where a right set is built around a left one, the first that it has
+/// whole is in their last third; any other has none.
+fn screen(name: &str, seed: u64, kind: &Kind) -> Workload {
+    let random = &mut Random(seed);
+    let zipf = Zipf::new(kind.t, kind.zipf, random);
+    let left = zipf.sets(kind.left.0, kind.left.1, random);
+    let late = left.len() * 2 / 3;
+    let mut right = || loop {
+        let is_around = random.below(10) < kind.around;
+        let given = if is_around { left[random.within(late, left.len() - 1)].as_slice() } else { &[] };
+        let set = zipf.set(given, random.within(kind.right.1 .0, kind.right.1 .1), random);
+        let first = left.iter().position(|left| is_within(left, &set));
+        if first.is_some() == is_around && first.is_none_or(|k| k >= late) {
+            break set;
+        }
+    };
+    let right: Vec<Vec<u16>> = (0..kind.right.0).map(|_| right()).collect();
+    Workload::new(name, kind.t, &left, &right)
+}
+
+/// The waiting screens: that of a kiosk, half of whose stacks have a whole kit, and those of a full library whose stacks have none. The
+/// kiosk has so many stacks because a processor remembers the jumps of some hundred of them.
+pub fn screens() -> Vec<Workload> {
+    let full = |length: usize| Kind { t: 4096, zipf: 0.5, left: (4096, (2, 12)), right: (64, (length, length)), around: 0 };
+    vec![
+        screen("30 kits, 16 tags", 12, &Kind { t: 300, zipf: 0.5, left: (30, (2, 12)), right: (4095, (16, 16)), around: 5 }),
+        screen("4096 kits, 16 tags", 13, &full(16)),
+        screen("4096 kits, 255 tags", 14, &full(255)),
+    ]
 }
 
 /// The tag files of two pads over the same tags. The first has about so many bytes, and four records in ten are left sets; the second has right

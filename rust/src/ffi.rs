@@ -29,6 +29,18 @@ extern "C" {
         answer: *mut [u64; 9],
     );
 
+    /// Finds the first left set that one right set contains.
+    pub fn kitfinder_first(
+        t: u32,
+        left_ends: *const u32,
+        left_ends_len: usize,
+        left_items: *const u16,
+        left_items_len: usize,
+        right: *const u16,
+        right_len: usize,
+        answer: *mut [u64; 6],
+    );
+
     /// Ranks the items by frequency.
     pub fn kitfinder_order(
         t: u32,

@@ -1,8 +1,8 @@
-//! Safe Rust functions over the proved static library of the kit finder: a set containment join of kits and stacks, the order of
-//! tags, and the tag file's loader and writer, for one pad or two.
+//! Safe Rust functions over the proved static library of the kit finder: a set containment join of kits and stacks, the first kit for
+//! one stack, the order of tags, and the tag file's loader and writer, for one pad or two.
 //!
-//! Two levels. [`join`], [`order`], [`load`], [`load_pooled`], [`write()`] and [`read_record`] each call one function of the library on
-//! lists that the caller lends, and allocate nothing. [`TagFile`], [`Sets`] and [`Query::run`] own their lists.
+//! Two levels. [`join`], [`first`], [`order`], [`load`], [`load_pooled`], [`write()`] and [`read_record`] each call one function of the
+//! library on lists that the caller lends, and allocate nothing. [`TagFile`], [`Sets`] and [`Query::run`] own their lists.
 //!
 //! ```
 //! # fn main() -> Result<(), kitfinder::Refusal> {
@@ -48,6 +48,8 @@ pub const TAG_BYTES: usize = 12;
 pub const RECORD_HEAD_BYTES: usize = 5;
 /// The bytes of stack that a join may take.
 pub const JOIN_STACK: usize = 131072;
+/// The bytes of stack that finding the first kit may take.
+pub const FIRST_STACK: usize = 8192;
 /// The bytes of stack that ordering may take.
 pub const ORDER_STACK: usize = 32768;
 /// The bytes of stack that loading may take.
@@ -137,6 +139,16 @@ pub struct Counts {
     pub dropped: u32,
     /// Checks that the items ended.
     pub false_drops: u32,
+}
+
+/// What the search for the first left set found.
+#[derive(Clone, Copy, Debug, PartialEq, Eq)]
+#[non_exhaustive]
+pub struct First {
+    /// The lowest place of a left set that the right set contains, where there is one.
+    pub place: Option<usize>,
+    /// The left sets compared: the place plus one, or all of them.
+    pub compared: usize,
 }
 
 /// The seven lists that a loader fills.
@@ -283,6 +295,40 @@ pub fn join(query: &Query, work: &mut [u32], pairs: &mut [u16]) -> Result<Counts
         dropped: answer[7] as u32,
         false_drops: answer[8] as u32,
     })
+}
+
+/// Finds the first left set that one right set contains, and compares no further. The right set is its items alone. An empty left set
+/// is contained in every right set. [`TagFile::first_kit`] gives the kit's number.
+///
+/// Everything is tested before a left set is compared: [`Refusal::BadSettings`] where `t` is above [`MAX_ITEMS`], then
+/// [`Refusal::BadSet`] of the first bad left set, then that of the right set, at place 0.
+///
+/// ```
+/// use kitfinder::Collection;
+/// let left = Collection { ends: &[2, 3, 4], items: &[0, 1, 1, 2] };
+/// let first = kitfinder::first(3, left, &[1, 2])?;
+/// assert_eq!((first.place, first.compared), (Some(1), 2));
+/// let first = kitfinder::first(3, left, &[0])?;
+/// assert_eq!((first.place, first.compared), (None, 3));
+/// # Ok::<(), kitfinder::Refusal>(())
+/// ```
+pub fn first(t: u32, left: Collection, right: &[u16]) -> Result<First, Refusal> {
+    let mut answer = [0u64; 6];
+    // SAFETY: each pointer comes from a slice of the length that follows it, and the answer overlaps none of them.
+    unsafe {
+        ffi::kitfinder_first(
+            t,
+            left.ends.as_ptr(),
+            left.ends.len(),
+            left.items.as_ptr(),
+            left.items.len(),
+            right.as_ptr(),
+            right.len(),
+            &mut answer,
+        );
+    }
+    refusal::accepted(&answer)?;
+    Ok(First { place: (answer[3] == 1).then_some(answer[4] as usize), compared: answer[5] as usize })
 }
 
 /// Gives each item its rank by frequency, rising or falling. The list of ranks must have `t` places.

@@ -1,8 +1,8 @@
 //! Lists that are owned: a collection under construction, a loaded tag file, and the result of a join.
 
 use crate::{
-    file_bytes, join, load, load_pooled, order, pair_places, pairs, work_words, write, Collection, Counts, Lists, Loaded, Query, Refusal,
-    Rule, MAX_ENTRIES, MAX_ITEMS, MAX_SETS, RECORD_HEAD_BYTES, TAG_BYTES,
+    file_bytes, first, join, load, load_pooled, order, pair_places, pairs, work_words, write, Collection, Counts, Lists, Loaded, Query,
+    Refusal, Rule, MAX_ENTRIES, MAX_ITEMS, MAX_SETS, RECORD_HEAD_BYTES, TAG_BYTES,
 };
 
 /// A collection that is built set by set.
@@ -257,5 +257,25 @@ impl TagFile {
         let query = Query { t: self.t(), left, right, limit: 2, ranks: &ranks, budget: u32::MAX, rule: Rule::Merge };
         let found = query.run()?;
         Ok(found.pairs().map(|(kit, stack)| (self.left_numbers[kit], self.right_numbers[stack])).collect())
+    }
+
+    /// The number of the first kit, by its place in the file, that a stack holds whole, where there is one: what a screen can show before
+    /// all of them are found. The stack is its items, as [`TagFile::right`] has them. See [`first`](crate::first()).
+    ///
+    /// ```
+    /// # fn main() -> Result<(), kitfinder::Refusal> {
+    /// // Kits 7 and 5 have a tag each. Stack 9 has the tag of kit 5 alone, and stack 8 both.
+    /// let kits = [&b"KT\x00\x07\x01"[..], &[1; 12], b"KT\x00\x05\x01", &[2; 12]].concat();
+    /// let stacks = [&b"SK\x00\x09\x01"[..], &[2; 12], b"SK\x00\x08\x02", &[2; 12], &[1; 12]].concat();
+    /// let file = kitfinder::TagFile::load(&[kits, stacks].concat())?;
+    /// let stack = |place| file.right().get(place).unwrap_or_default();
+    /// assert_eq!((file.first_kit(stack(0))?, file.first_kit(stack(1))?), (Some(5), Some(7)));
+    /// assert_eq!(file.first_kit(&[])?, None);
+    /// # Ok(())
+    /// # }
+    /// ```
+    pub fn first_kit(&self, stack: &[u16]) -> Result<Option<u16>, Refusal> {
+        let found = first(self.t(), self.left.collection(), stack)?;
+        Ok(found.place.map(|kit| self.left_numbers[kit]))
     }
 }

@@ -70,6 +70,49 @@ fn the_join_refuses() {
 }
 
 #[test]
+fn the_first_kit_is_that_of_the_first_pair() {
+    let (kits, stacks) = shelf();
+    let found = query(&kits, &stacks).run().expect("the shelf is accepted");
+    for (stack, (place, compared)) in [(Some(0), 1), (Some(1), 2), (Some(2), 3)].into_iter().enumerate() {
+        let first = kitfinder::first(4, kits.collection(), stacks.get(stack).expect("a stack")).expect("the shelf is accepted");
+        assert_eq!((first.place, first.compared), (place, compared));
+        assert_eq!(found.pairs().find(|pair| pair.1 == stack).map(|pair| pair.0), place);
+    }
+    let none = kitfinder::first(4, kits.collection(), &[0, 3]).expect("the shelf is accepted");
+    assert_eq!((none.place, none.compared), (None, 3));
+    let none = kitfinder::first(0, Collection::default(), &[]).expect("nothing is accepted");
+    assert_eq!((none.place, none.compared), (None, 0));
+}
+
+#[test]
+fn the_first_kit_refuses() {
+    let (kits, _) = shelf();
+    let left = kits.collection();
+    assert_eq!(kitfinder::first(4097, left, &[9, 9]), Err(Refusal::BadSettings));
+    assert_eq!(kitfinder::first(3, left, &[9, 9]), Err(Refusal::BadSet(Side::Left, 2)));
+    assert_eq!(kitfinder::first(4, left, &[1, 1]), Err(Refusal::BadSet(Side::Right, 0)));
+    assert_eq!(kitfinder::first(4, left, &[0, 4]), Err(Refusal::BadSet(Side::Right, 0)));
+    let long: Vec<u16> = (0..256).collect();
+    assert_eq!(kitfinder::first(256, left, &long), Err(Refusal::BadSet(Side::Right, 0)));
+    assert_eq!(kitfinder::first(256, left, &long[..255]).expect("255 items").place, Some(0));
+    let wild = Collection { ends: &[u32::MAX], items: &[] };
+    assert_eq!(kitfinder::first(4, wild, &[]), Err(Refusal::BadSet(Side::Left, 0)));
+}
+
+#[test]
+fn the_first_kit_of_a_loaded_stack_is_the_first_whole_one() {
+    for bytes in [repository("examples/library.tags"), record(b"SK", 7, &[]), Vec::new()] {
+        let file = TagFile::load(&bytes).expect("in order");
+        let whole = file.whole_kits().expect("accepted");
+        for (place, &number) in file.right_numbers().iter().enumerate() {
+            let first = file.first_kit(file.right().get(place).expect("a stack"));
+            assert_eq!(first, Ok(whole.iter().find(|pair| pair.1 == number).map(|pair| pair.0)));
+        }
+        assert_eq!(file.first_kit(&[4096]), Err(Refusal::BadSet(Side::Right, 0)));
+    }
+}
+
+#[test]
 fn wild_collections_ask_for_no_more_than_the_limits() {
     let wild = Collection { ends: &[u32::MAX], items: &[] };
     assert!(kitfinder::work_words(u32::MAX, wild, wild) <= 2_293_792);
@@ -282,6 +325,7 @@ fn constants_are_the_headers() {
         ("TAG_BYTES", kitfinder::TAG_BYTES),
         ("RECORD_HEAD_BYTES", kitfinder::RECORD_HEAD_BYTES),
         ("JOIN_STACK", kitfinder::JOIN_STACK),
+        ("FIRST_STACK", kitfinder::FIRST_STACK),
         ("ORDER_STACK", kitfinder::ORDER_STACK),
         ("LOAD_STACK", kitfinder::LOAD_STACK),
         ("LOAD_POOLED_STACK", kitfinder::LOAD_POOLED_STACK),

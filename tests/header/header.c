@@ -100,6 +100,36 @@ static void test_largest(void)
     free(file);
 }
 
+/* The limits are those of the first kit too: of T, of the kits, and of the items of a lone stack. Its answer has as many words as are
+ * named. */
+static void test_first(void)
+{
+    uint64_t words[KITFINDER_FIRST_ANSWER + 1];
+    size_t longest = KITFINDER_MAX_SET_LENGTH;
+    make_sets(right_ends, right_items, 1, longest + 1, 0);
+    HOLD(make_sets(left_ends, left_items, SETS, 15, SETS - 1) == ENTRIES);
+    left_items[ENTRIES - 1] = (uint16_t)(longest - 1);
+    for (size_t k = 0; k + 1 < SETS; k++)
+        left_items[left_ends[k] - 1] = ITEMS - 1;
+    words[KITFINDER_FIRST_ANSWER] = 77;
+    kitfinder_first(ITEMS, left_ends, SETS, left_items, ENTRIES, right_items, longest, words);
+    HOLD(words[0] == KITFINDER_ACCEPTED && words[1] == 0 && words[2] == 0);
+    HOLD(words[3] == 1 && words[4] == SETS - 1 && words[5] == SETS);
+    kitfinder_first(ITEMS, left_ends, SETS, left_items, ENTRIES, right_items, longest - 1, words);
+    HOLD(words[0] == KITFINDER_ACCEPTED && words[3] == 0 && words[4] == 0 && words[5] == SETS);
+    kitfinder_first(ITEMS, left_ends, SETS, left_items, ENTRIES, right_items, longest + 1, words);
+    HOLD(words[0] == KITFINDER_BAD_SET && words[1] == KITFINDER_STACKS && words[2] == 0);
+    HOLD(words[3] == 0 && words[4] == 0 && words[5] == 0);
+    kitfinder_first(ITEMS - 1, left_ends, SETS, left_items, ENTRIES, right_items, longest + 1, words);
+    HOLD(words[0] == KITFINDER_BAD_SET && words[1] == KITFINDER_KITS && words[2] == 0 && words[5] == 0);
+    left_ends[SETS] = left_ends[SETS - 1];
+    kitfinder_first(ITEMS, left_ends, SETS + 1, left_items, ENTRIES, right_items, longest, words);
+    HOLD(words[0] == KITFINDER_BAD_SET && words[1] == KITFINDER_KITS && words[2] == SETS && words[5] == 0);
+    kitfinder_first(ITEMS + 1, left_ends, SETS + 1, left_items, ENTRIES, right_items, longest + 1, words);
+    HOLD(words[0] == KITFINDER_BAD_SETTINGS && words[1] == 0 && words[2] == 0 && words[5] == 0);
+    HOLD(words[KITFINDER_FIRST_ANSWER] == 77);
+}
+
 /* A stack record of number 1 with tags of so many numbers, from one on. */
 static size_t make_stack(uint8_t *file, size_t from, size_t count)
 {
@@ -147,6 +177,15 @@ static void test_null(void)
         kitfinder_join(0, NULL, 0, NULL, 0, NULL, 0, NULL, 0, 1, NULL, 0, 0, rule, 0, 0, 0, 0, NULL, 0, NULL, 0, answer);
         HOLD(answer[0] == KITFINDER_SHORT_WORK);
     }
+    kitfinder_first(0, NULL, 0, NULL, 0, NULL, 0, answer);
+    HOLD(answer[0] == 0 && answer[3] == 0 && answer[4] == 0 && answer[5] == 0);
+    kitfinder_first(0, empty, 2, NULL, 0, NULL, 0, answer);
+    HOLD(answer[0] == 0 && answer[3] == 1 && answer[4] == 0 && answer[5] == 1);
+    const uint16_t item = 0;
+    kitfinder_first(1, NULL, 0, NULL, 0, &item, 1, answer);
+    HOLD(answer[0] == 0 && answer[3] == 0 && answer[5] == 0);
+    kitfinder_first(KITFINDER_MAX_ITEMS + 1, NULL, 0, NULL, 0, NULL, 0, answer);
+    HOLD(answer[0] == KITFINDER_BAD_SETTINGS);
     kitfinder_order(0, NULL, 0, NULL, 0, NULL, 0, NULL, 0, 0, NULL, 0, answer);
     HOLD(answer[0] == 0);
     kitfinder_load(NULL, 0, NULL, 0, NULL, 0, NULL, 0, NULL, 0, NULL, 0, NULL, 0, NULL, 0, answer);
@@ -183,6 +222,7 @@ static void test_names(void)
 int main(void)
 {
     test_largest();
+    test_first();
     test_pooled();
     test_null();
     test_names();

@@ -100,7 +100,7 @@ static uint8_t file[16 << 20], second[2 << 20], tags[12 * TAGS];
 static size_t file_len, file_room = sizeof file, second_len, tags_room = sizeof tags, at;
 static uint32_t left_ends[SETS], right_ends[SETS], work[WORDS];
 static uint16_t left_numbers[SETS], right_numbers[SETS], left_items[ENTRIES], right_items[ENTRIES], ranks[TAGS], pairs[PLACES];
-static size_t lefts, rights, places;
+static size_t lefts, rights, places, right_len;
 static uint64_t answer[16];
 
 static size_t entries(const uint32_t *ends, size_t sets)
@@ -112,6 +112,11 @@ static void join(void)
 {
     kitfinder_join(t, left_ends, lefts, left_items, entries(left_ends, lefts), right_ends, rights, right_items,
                    entries(right_ends, rights), limit, ranks, t, budget, rule, weight, 0, 0, 1, work, WORDS, pairs, places, answer);
+}
+
+static void first(void)
+{
+    kitfinder_first(t, left_ends, lefts, left_items, entries(left_ends, lefts), right_items, right_len, answer);
 }
 
 static void order(void)
@@ -223,6 +228,44 @@ static size_t join_at(uint32_t depth, uint32_t by)
     most = before;
     more(bytes);
     return bytes;
+}
+
+/* A search for the first kit with so many items in the stack, and the answer's number. */
+static void find(size_t items, uint64_t number)
+{
+    right_len = items;
+    more(taken("kitfinder_first", KITFINDER_FIRST_STACK, first));
+    refused("kitfinder_first", number);
+}
+
+/* Searches in long kits, in 4,096 of them and in none, found at once, at the last place or not at all; and each refusal. The stack's
+ * items are those of the path that make_sets has. */
+static void find_first(void)
+{
+    for (int shape = 0; shape < SHAPES; shape++) {
+        make_sets(shape);
+        find(LONGEST, 0);
+        find(LONGEST - 1, 0);
+        find(0, 0);
+        find(LONGEST + 1, 5);
+    }
+    for (uint32_t shared = 0; shared < ENTRIES / SETS; shared += ENTRIES / SETS - 1) {
+        t = TAGS;
+        for (lefts = 0; lefts < SETS;)
+            lefts = add_set(left_ends, left_items, lefts, shared, lefts + 1 < SETS ? TAGS - 1 : LONGEST - 1);
+        find(LONGEST, 0);
+        find(LONGEST - 1, 0);
+        lefts--;
+        find(LONGEST, 0);
+        left_items[entries(left_ends, lefts) - 1] = TAGS;
+        find(LONGEST, 5);
+        t++;
+        find(LONGEST, 6);
+    }
+    t = TAGS;
+    lefts = 0;
+    find(LONGEST, 0);
+    find(LONGEST + 1, 5);
 }
 
 /* Puts records into a file, kits and stacks in turn: so many tags each, from one place of the record's 255 on, and so many distinct in
@@ -380,6 +423,9 @@ int main(void)
         accepted("kitfinder_order");
     }
     say("kitfinder_order", KITFINDER_ORDER_STACK);
+
+    find_first();
+    say("kitfinder_first", KITFINDER_FIRST_STACK);
 
     static const char *const rules[] = { "Merge", "Check", "Weighed" };
     for (uint32_t by = 0; by < 3; by++) {

@@ -3,6 +3,7 @@
 //! caller keeps the work list, so that a measured call allocates nothing. None keeps the six counts or tests its input.
 
 mod bit_rows;
+pub mod first;
 mod fresh;
 mod index;
 mod limit;
@@ -26,7 +27,7 @@ pub trait Peer {
 }
 
 /// Whether the numbers of one rising list are all in another.
-fn is_within(small: &[u16], large: &[u16]) -> bool {
+pub(crate) fn is_within(small: &[u16], large: &[u16]) -> bool {
     if small.len() > large.len() {
         return false;
     }

@@ -9,6 +9,7 @@ ghost use Rattle.tag_file.specs.Reading.{readAt, readWords};
 ghost use Rattle.join_spec.specs.Answer.{roomOf, joinWords, JoinCall};
 ghost use Rattle.inputs.specs.Input.{inputOf};
 ghost use Rattle.join.specs.Numbered.{weightsOf, numberedAnswer};
+ghost use Rattle.first_spec.specs.First.{firstAnswer, firstWords};
 ghost use Rattle.item_order.specs.Order.{orderAnswer, orderRanks, orderWords};
 ghost use Rattle.tag_file.specs.Loading.{listsOf, loadAnswer, loadWords, LoadCall};
 ghost use Rattle.tag_pooling.specs.Pooling.{pooledAnswer, PooledCall};
@@ -61,6 +62,21 @@ pub extern "C" fn kitfinder_join(
         work,
         pairs,
     ));
+}
+
+// Finds the first left set that one right set contains.
+#[no_mangle]
+pub extern "C" fn kitfinder_first(
+    t: u32,
+    left_ends: &[u32],
+    left_items: &[u16],
+    right: &[u16],
+    answer: &mut [u64; 6],
+)
+    ensures answer { λ _. ⌜ now (answer .exit) ≡ firstWords (firstAnswer t
+        (record { ends = now («left_ends» .entry); items = now («left_items» .entry) }) (now (right .entry))) ⌝ }
+{
+    *answer = first_spec::first_words(first_search::find_first(t, left_ends, left_items, right));
 }
 
 // Reads the record at a place of a tag file.

@@ -105,6 +105,34 @@ pub fn join_by_number(random: &mut Random, q: &Query, rule: u32, w: [f64; 4], wa
     }
 }
 
+/// Searches once for the first kit. `contained` are the places of all kits that the stack contains, where the query is accepted.
+pub fn first(random: &mut Random, q: &FirstQuery, contained: &[usize]) -> Result<(), String> {
+    let mut left_ends = Lent::of(random, &q.left.ends);
+    let mut left_items = Lent::of(random, &q.left.items);
+    let mut right = Lent::of(random, &q.right);
+    let mut answer = Lent::<u64>::new(random, 6);
+    // SAFETY: each pointer comes from a list of the length that follows it, and the answer has six words.
+    unsafe {
+        ffi::kitfinder_first(
+            q.t,
+            left_ends.pointer(),
+            left_ends.length(),
+            left_items.pointer(),
+            left_items.length(),
+            right.pointer(),
+            right.length(),
+            answer.pointer().cast(),
+        );
+    }
+    let lowest = contained.iter().copied().min();
+    let values = [lowest.is_some() as u64, lowest.unwrap_or(0) as u64, compared(q, lowest) as u64];
+    same_words(answer.now(), &words::<6>(first_refusal(q), &values))?;
+    answer.is_free("answer")?;
+    left_ends.is_kept("left ends")?;
+    left_items.is_kept("left items")?;
+    right.is_kept("right")
+}
+
 /// Orders items once.
 pub fn order(random: &mut Random, q: &OrderQuery) -> Result<(), String> {
     let mut ranks = Lent::<u16>::new(random, q.places);

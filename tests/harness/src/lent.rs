@@ -52,6 +52,14 @@ impl<T: Word> Lent<T> {
         Lent { cells, before }
     }
 
+    /// A list that is lent to be read: it has this content, and must keep it.
+    pub fn of(random: &mut Random, content: &[T]) -> Lent<T> {
+        let mut lent = Lent::new(random, content.len());
+        lent.cells[GUARD..GUARD + content.len()].copy_from_slice(content);
+        lent.before.copy_from_slice(&lent.cells);
+        lent
+    }
+
     pub fn pointer(&mut self) -> *mut T {
         self.cells[GUARD..].as_mut_ptr()
     }

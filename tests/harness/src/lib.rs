@@ -3,6 +3,7 @@
 
 pub mod calls;
 pub mod files;
+pub mod firsts;
 pub mod joins;
 pub mod lent;
 pub mod oracle;

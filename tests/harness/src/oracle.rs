@@ -291,6 +291,42 @@ pub fn walk_refusal(q: &Query, counts: &Counts) -> Option<Refusal> {
     ((q.places as u64) < 2 * counts.pairs).then_some(Refusal(9, 0, 0))
 }
 
+/// What the search for the first kit is asked: the kits, and one stack as its items.
+#[derive(Clone, Debug, PartialEq)]
+pub struct FirstQuery {
+    pub t: u32,
+    pub left: Collection,
+    pub right: Vec<u16>,
+}
+
+/// Whether a lone stack is bad: over 255 items, an item of t or more, or items that don't rise. It has no end of its own.
+pub fn is_bad_stack(t: u32, stack: &[u16]) -> bool {
+    stack.len() > 255 || stack.iter().any(|&i| u32::from(i) >= t) || stack.windows(2).any(|w| w[0] >= w[1])
+}
+
+/// What comes before the search: 6, 5 of the kits, 5 of the stack.
+pub fn first_refusal(q: &FirstQuery) -> Option<Refusal> {
+    if q.t > 4096 {
+        return Some(Refusal(6, 0, 0));
+    }
+    if let Some(k) = q.left.first_bad(q.t) {
+        return Some(Refusal(5, 0, k as u64));
+    }
+    is_bad_stack(q.t, &q.right).then_some(Refusal(5, 1, 0))
+}
+
+/// The places of all kits that the stack contains, of an accepted query.
+pub fn contained_kits(q: &FirstQuery) -> Vec<usize> {
+    let stack: HashSet<u16> = q.right.iter().copied().collect();
+    let is_contained = |kit: &Vec<u16>| kit.iter().all(|item| stack.contains(item));
+    q.left.sets().iter().enumerate().filter(|(_, kit)| is_contained(kit)).map(|(k, _)| k).collect()
+}
+
+/// How many kits are compared, where the lowest place is known: up to it, or all.
+pub fn compared(q: &FirstQuery, lowest: Option<usize>) -> usize {
+    lowest.map_or(q.left.ends.len(), |place| place + 1)
+}
+
 /// What the order of items is asked, with the length of the list that is lent.
 #[derive(Clone, Debug)]
 pub struct OrderQuery {
