@@ -4,7 +4,6 @@ use lib.ListN.{length-replicate}
 use Rattle.tag_index.specs.Index.{indexRoom}
 use Rattle.pool_loader.proofs.Filling.{sorted-here, tags-room, tags-filled, left-ready, right-ready, left-numbers-filled}
 use Rattle.pool_loader.proofs.Filling.{left-ends-filled, left-items-filled, right-ends-filled, right-items-filled}
-use borrow.Author.Needs.{needs}
 use Rattle.pool_loader.proofs.fill_pooled.Statement.{statement}
 use Rattle.pool_loader.proofs.fill_pooled.Tie as tie
 
@@ -24,37 +23,48 @@ fill-right-requires : tie.Need-fill-right-requires
 fill-right-requires c κs =
     right-ready (c .before .before .before .before .before .before .before .before .before .before .before .before .before .before .before .before .before .before .before .before .before .before .before .before .before .before .before .before .before .before .before .before .before .before .pre) (c .before .before .before .before .before .before .before .before .before .before .before .before .before .before .before .before .before .before .before .before .rank-ids .ensures) (λ i. c .before .before .before .before .before .before .before .before .before .before .before .before .before .before .before .before .before .before .before .before .before .before .before .before .before .before .before .before .before .before .before .before .before .shared-slice-known .given i .fits)
 
+-- where the right sets are filled; before it, where the left sets are filled, and before that the tags
+abbrev filled-right : tie.After-slice-known16 → tie.After-fill-right
+filled-right c = c .before .before .before .before .before .before .before .before
+
+abbrev filled-left : tie.After-slice-known16 → tie.After-fill-side
+filled-left c = filled-right c .before .before .before .before .before .before .before .before .before .before .before .before
+
+abbrev filled-tags : tie.After-slice-known16 → tie.After-fill-tags
+filled-tags c = filled-left c .before .before .before .before .before .before .before
+
+-- each list is as long as it was: so says the call, of its parameters in their order
 same-length : tie.Need-same-length
-same-length c = search needs
+same-length c = filled-right c .fill-right .kept .1 .1 .1 .1 .1 .1 .1 .1 .1 .1 .0
 
 same-length-2 : tie.Need-same-length-2
-same-length-2 c = search needs
+same-length-2 c = filled-tags c .fill-tags .kept .1 .1 .1 .1 .0
 
 same-length-3 : tie.Need-same-length-3
-same-length-3 c = search needs
+same-length-3 c = filled-left c .fill-side .kept .1 .1 .1 .1 .1 .1 .1 .1 .0
 
 same-length-4 : tie.Need-same-length-4
-same-length-4 c = search needs
+same-length-4 c = filled-left c .fill-side .kept .1 .1 .1 .1 .1 .1 .1 .1 .1 .0
 
 same-length-5 : tie.Need-same-length-5
-same-length-5 c = search needs
+same-length-5 c = filled-left c .fill-side .kept .1 .1 .1 .1 .1 .1 .1 .1 .1 .1 .0
 
 same-length-6 : tie.Need-same-length-6
-same-length-6 c = search needs
+same-length-6 c = filled-right c .fill-right .kept .1 .1 .1 .1 .1 .1 .1 .1 .1 .1 .1 .0
 
 same-length-7 : tie.Need-same-length-7
-same-length-7 c = search needs
+same-length-7 c = filled-right c .fill-right .kept .1 .1 .1 .1 .1 .1 .1 .1 .1 .1 .1 .1 .0
 
 same-length-8 : tie.Need-same-length-8
-same-length-8 c = search needs
+same-length-8 c = filled-right c .fill-right .kept .1 .1 .1 .1 .1 .1 .1 .1 .1 .1 .1 .1 .1 .0
 
 returns : tie.Need-returns
 returns c =
-    let start = c .before .before .before .before .before .before .before .before .before .before .before .before .before .before .before .before .before .before .before .before .before .before .before .before .before .before .before .before .before .before .before .before .before .before .before .before .before .before .before .before .before .before .before in
-    let l = c .before .before .before .before .before .before .before .before .before .before .before .before .before .before .before .before .before .before .before .before .fill-side .ensures in
-    let r = c .before .before .before .before .before .before .before .before .fill-right .ensures in
+    let start = filled-tags c .before .before .before .before .before .before .before .before .before .before .before .before .before .before .before .before in
+    let l = filled-left c .fill-side .ensures in
+    let r = filled-right c .fill-right .ensures in
     record {
-      tags-filled = tags-filled (start .pre) (start .args .tags .now) (c .before .before .before .before .before .before .before .before .before .before .before .before .before .before .before .before .before .before .before .before .before .before .before .before .before .before .before .fill-tags .ensures);
+      tags-filled = tags-filled (start .pre) (start .args .tags .now) (filled-tags c .fill-tags .ensures);
       leftNumbers-filled = left-numbers-filled (start .pre) (start .args .left-numbers .now) (l .0);
       leftEnds-filled = left-ends-filled (start .pre) (start .args .left-ends .now) (l .1 .0);
       leftItems-filled = left-items-filled (start .pre) (start .args .left-items .now) (l .1 .1);

@@ -85,29 +85,34 @@ write-lists-requires c κs =
           (i .noted) (i .counted) (sym is ∙ e);
     }
 
+-- where `write_lists` has come back
+abbrev written : tie.After-slice-known14 → tie.After-write-lists
+written c = c .before .before .before .before .before .before .before .before .before .before .before .before .before .before .before
+
+-- each list is as long as it was: so says the call, of its parameters in their order
 same-length : tie.Need-same-length
-same-length c = search needs
+same-length c = written c .write-lists .kept .1 .1 .1 .1 .1 .1 .1 .1 .1 .1 .0
 
 same-length-2 : tie.Need-same-length-2
-same-length-2 c = search needs
+same-length-2 c = written c .write-lists .kept .1 .1 .1 .1 .1 .1 .1 .1 .1 .1 .1 .0
 
 same-length-3 : tie.Need-same-length-3
-same-length-3 c = search needs
+same-length-3 c = written c .write-lists .kept .1 .1 .1 .1 .1 .1 .1 .1 .1 .1 .1 .1 .0
 
 same-length-4 : tie.Need-same-length-4
-same-length-4 c = search needs
+same-length-4 c = written c .write-lists .kept .1 .1 .1 .1 .1 .1 .1 .1 .1 .1 .1 .1 .1 .0
 
 same-length-5 : tie.Need-same-length-5
-same-length-5 c = search needs
+same-length-5 c = written c .write-lists .kept .1 .1 .1 .1 .1 .1 .1 .1 .1 .1 .1 .1 .1 .1 .0
 
 same-length-6 : tie.Need-same-length-6
-same-length-6 c = search needs
+same-length-6 c = written c .write-lists .kept .1 .1 .1 .1 .1 .1 .1 .1 .1 .1 .1 .1 .1 .1 .1 .0
 
 same-length-7 : tie.Need-same-length-7
-same-length-7 c = search needs
+same-length-7 c = written c .write-lists .kept .1 .1 .1 .1 .1 .1 .1 .1 .1 .1 .1 .1 .1 .1 .1 .1 .0
 
 returns : tie.Need-returns
-returns c = search needs
+returns c = written c .write-lists .ensures
 
 pub pool-second-spec : {M : Type 1} → statement M
 pool-second-spec =

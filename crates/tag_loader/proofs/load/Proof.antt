@@ -24,31 +24,35 @@ enum-told c = search needs
 clear-lists-requires : tie.Need-clear-lists-requires
 clear-lists-requires c κs = search needs
 
+-- where `clear_lists` has come back, after a fault
+abbrev cleared : tie.After-slice-known14 → tie.After-clear-lists
+cleared c = c .before .before .before .before .before .before .before .before .before .before .before .before .before .before
+
+-- each list is as long as it was: so says the call, of its parameters in their order
 same-length : tie.Need-same-length
-same-length c = search needs
+same-length c = cleared c .clear-lists .kept .0
 
 same-length-2 : tie.Need-same-length-2
-same-length-2 c = search needs
+same-length-2 c = cleared c .clear-lists .kept .1 .0
 
 same-length-3 : tie.Need-same-length-3
-same-length-3 c = search needs
+same-length-3 c = cleared c .clear-lists .kept .1 .1 .0
 
 same-length-4 : tie.Need-same-length-4
-same-length-4 c = search needs
+same-length-4 c = cleared c .clear-lists .kept .1 .1 .1 .0
 
 same-length-5 : tie.Need-same-length-5
-same-length-5 c = search needs
+same-length-5 c = cleared c .clear-lists .kept .1 .1 .1 .1 .0
 
 same-length-6 : tie.Need-same-length-6
-same-length-6 c = search needs
+same-length-6 c = cleared c .clear-lists .kept .1 .1 .1 .1 .1 .0
 
 same-length-7 : tie.Need-same-length-7
-same-length-7 c = search needs
+same-length-7 c = cleared c .clear-lists .kept .1 .1 .1 .1 .1 .1 .0
 
 returns : tie.Need-returns
 returns c =
-    let at-clear =
-    c .before .before .before .before .before .before .before .before .before .before .before .before .before .before in
+    let at-clear = cleared c in
     let at-told = at-clear .before .before .before .before .before .before .before .before in
     let at-scan = at-told .before .before in
     let told = at-told .enum-told .given in
@@ -62,31 +66,34 @@ has-room-requires c κs =
 clear-lists-requires-2 : tie.Need-clear-lists-requires-2
 clear-lists-requires-2 c κs = search needs
 
+-- where `clear_lists` has come back, for want of room
+abbrev cleared-2 : tie.After-slice-known21 → tie.After-clear-lists2
+cleared-2 c = c .before .before .before .before .before .before .before .before .before .before .before .before .before .before
+
 same-length-8 : tie.Need-same-length-8
-same-length-8 c = search needs
+same-length-8 c = cleared-2 c .clear-lists2 .kept .0
 
 same-length-9 : tie.Need-same-length-9
-same-length-9 c = search needs
+same-length-9 c = cleared-2 c .clear-lists2 .kept .1 .0
 
 same-length-10 : tie.Need-same-length-10
-same-length-10 c = search needs
+same-length-10 c = cleared-2 c .clear-lists2 .kept .1 .1 .0
 
 same-length-11 : tie.Need-same-length-11
-same-length-11 c = search needs
+same-length-11 c = cleared-2 c .clear-lists2 .kept .1 .1 .1 .0
 
 same-length-12 : tie.Need-same-length-12
-same-length-12 c = search needs
+same-length-12 c = cleared-2 c .clear-lists2 .kept .1 .1 .1 .1 .0
 
 same-length-13 : tie.Need-same-length-13
-same-length-13 c = search needs
+same-length-13 c = cleared-2 c .clear-lists2 .kept .1 .1 .1 .1 .1 .0
 
 same-length-14 : tie.Need-same-length-14
-same-length-14 c = search needs
+same-length-14 c = cleared-2 c .clear-lists2 .kept .1 .1 .1 .1 .1 .1 .0
 
 returns-2 : tie.Need-returns-2
 returns-2 c =
-    let at-clear =
-    c .before .before .before .before .before .before .before .before .before .before .before .before .before .before in
+    let at-clear = cleared-2 c in
     let at-if1 = at-clear .before .before .before .before .before .before .before .before in
     let at-room = at-if1 .before in
     let at-answer = at-room .before .before in
@@ -104,31 +111,34 @@ fill-lists-requires c κs =
     room-fillable (at-scan .scan .ensures) (at-answer .answer .given .1) (lent at-scan)
     (at-room .has-room .ensures) (at-if1 .if1 .left)
 
+-- where `fill_lists` has come back
+abbrev filled : tie.After-slice-known28 → tie.After-fill-lists
+filled c = c .before .before .before .before .before .before .before .before .before .before .before .before .before .before
+
 same-length-15 : tie.Need-same-length-15
-same-length-15 c = search needs
+same-length-15 c = filled c .fill-lists .kept .1 .1 .1 .1 .1 .1 .0
 
 same-length-16 : tie.Need-same-length-16
-same-length-16 c = search needs
+same-length-16 c = filled c .fill-lists .kept .1 .1 .1 .1 .1 .1 .1 .0
 
 same-length-17 : tie.Need-same-length-17
-same-length-17 c = search needs
+same-length-17 c = filled c .fill-lists .kept .1 .1 .1 .1 .1 .1 .1 .1 .0
 
 same-length-18 : tie.Need-same-length-18
-same-length-18 c = search needs
+same-length-18 c = filled c .fill-lists .kept .1 .1 .1 .1 .1 .1 .1 .1 .1 .0
 
 same-length-19 : tie.Need-same-length-19
-same-length-19 c = search needs
+same-length-19 c = filled c .fill-lists .kept .1 .1 .1 .1 .1 .1 .1 .1 .1 .1 .0
 
 same-length-20 : tie.Need-same-length-20
-same-length-20 c = search needs
+same-length-20 c = filled c .fill-lists .kept .1 .1 .1 .1 .1 .1 .1 .1 .1 .1 .1 .0
 
 same-length-21 : tie.Need-same-length-21
-same-length-21 c = search needs
+same-length-21 c = filled c .fill-lists .kept .1 .1 .1 .1 .1 .1 .1 .1 .1 .1 .1 .1 .0
 
 returns-3 : tie.Need-returns-3
 returns-3 c =
-    let at-fill =
-    c .before .before .before .before .before .before .before .before .before .before .before .before .before .before in
+    let at-fill = filled c in
     let at-if1 = at-fill .before .before .before .before .before .before .before .before .before .before .before .before in
     let at-room = at-if1 .before in
     let at-answer = at-room .before .before in
