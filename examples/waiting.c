@@ -68,7 +68,8 @@ int main(int argc, char **argv)
     size_t kits = loaded[3], stacks = loaded[4], kit_entries = loaded[5];
     uint32_t t = (uint32_t)loaded[7];
 
-    for (size_t s = 0, start = 0; s < stacks; start = stack_ends[s++]) {
+    for (size_t s = 0; s < stacks; s++) {
+        size_t start = s ? stack_ends[s - 1] : 0;
         uint64_t first[KITFINDER_FIRST_ANSWER];
         kitfinder_first(t, kit_ends, kits, kit_items, kit_entries, stack_items + start, stack_ends[s] - start, first);
         need_accepted(first);

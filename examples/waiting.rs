@@ -11,10 +11,16 @@ fn fail(what: &str) -> ExitCode {
     ExitCode::from(2)
 }
 
-/// What the screen needs of each stack.
-fn find(file: &TagFile) -> Result<Vec<First>, Refusal> {
-    let stacks = (0..file.right().len()).filter_map(|place| file.right().get(place));
-    stacks.map(|stack| kitfinder::first(file.t(), file.left().collection(), stack)).collect()
+/// A loaded file, and what the screen needs of each of its stacks.
+fn find(bytes: &[u8]) -> Result<(TagFile, Vec<First>), Refusal> {
+    let file = TagFile::load(bytes)?;
+    let kits = file.left().collection();
+    let mut found = Vec::new();
+    for place in 0..file.right().len() {
+        let stack = file.right().get(place).unwrap_or_default();
+        found.push(kitfinder::first(file.t(), kits, stack)?);
+    }
+    Ok((file, found))
 }
 
 fn print(file: &TagFile, found: &[First]) -> io::Result<()> {
@@ -36,7 +42,7 @@ fn main() -> ExitCode {
         Ok(bytes) => bytes,
         Err(error) => return fail(&format!("{}: {error}", path.to_string_lossy())),
     };
-    let (found, file) = match TagFile::load(&bytes).and_then(|file| Ok((find(&file)?, file))) {
+    let (file, found) = match find(&bytes) {
         Ok(both) => both,
         Err(refusal) => {
             eprintln!("waiting: {refusal}");

@@ -1,6 +1,7 @@
 //! The same join by other methods: published ones and the bit rows that bound what can be had here. Each is given what the library is
 //! given and writes the same list, pair by pair in rising order, into a lent list. A peer keeps its memory from call to call, as the library's
-//! caller keeps the work list, so that a measured call allocates nothing. None keeps the six counts or tests its input.
+//! caller keeps the work list, so that a measured call allocates nothing. None keeps the six counts or tests its input. The first kit alone is
+//! no join: its loop (`first`) makes the library's tests.
 
 mod bit_rows;
 pub mod first;

@@ -3,37 +3,54 @@
 use Prim.Native.Nat.{ℕ, _+_, _*_, _<_, _≤_}
 use mathlib.Core.Path.{_≡_, refl, sym, ap, ap₂, _∙_}
 use mathlib.Core.List.{List, [], _∷_}
-use mathlib.Core.Bool.{Bool, true, false, _&&_, _||_, or-false}
+use mathlib.Core.Bool.{Bool, true, false, cond, _&&_, _||_, or-false}
 use native.Mathlib.Nat.{sub-zero}
 use native.Mathlib.Numerals.{add-one}
 use native.Mathlib.Omega.{arith}
 use borrow.Author.Tests.{ltb-true}
 use lib.Dec.{ltb, leb}
-use lib.ListN.{length, getD, drop, replicate, length-replicate}
-use lib.Seq.{take-length}
+use lib.ListN.{length, getD, drop, drop-of-length-le, replicate}
+use lib.Seq.{drop-cons, take-length}
 use Rattle.lists.specs.Lists.{all, memb, rising, slice}
 use Rattle.lists.proofs.Bools.{and-left, and-right}
 use Rattle.lists.proofs.Slices.{slice-from}
 use Rattle.lists.proofs.Throughout.{all-at}
 use Rattle.bit_sets.specs.BitSets.{member, PartFits, InsertedAll}
 use Rattle.bit_sets.proofs.Members.{no-member}
-use Rattle.sets.specs.Limits.{maxItems, maxSetLength}
-use Rattle.sets.specs.Collections.{between, setsFrom, setsOf, goodItems, firstBadFrom, firstBad, contained}
+use Rattle.sets.specs.Limits.{maxSetLength}
+use Rattle.sets.specs.Collections.{between, setsFrom, goodItems, firstBadFrom, firstBad, contained}
 use Rattle.sets.specs.declared.Verdict.the-variants.{Good}
 use Rattle.sets.proofs.Good.{good-step, good-next, set-item}
 use Rattle.sets.proofs.Containment.{contained-subset}
-use Rattle.first_spec.specs.declared.Search.{Search}
 use Rattle.first_spec.specs.First.{foundAt, noneOf, firstFrom, firstContained}
-use Rattle.first_spec.proofs.FirstLaws.{first-agree, first-set-end, first-set-stop, first-set-next}
-use Rattle.first_search.specs.Searching.{CanSearch}
+use Rattle.first_spec.proofs.FirstLaws.{first-agree}
+use Rattle.first_search.specs.Searching.{CanSearch, allMarked, firstMarked}
 
--- the first left set whose items are all marked
-abbrev pub firstMarked : List ℕ → List ℕ → List ℕ → Search
-firstMarked ends items marks = firstFrom (all (member marks)) 0 (setsOf ends items)
+-- the walk over the sets of a collection, by the ends that are left
+module _ (test : List ℕ → Bool) (ends items : List ℕ) (k start : ℕ) where
+  first-set-end : length ends ≤ k → firstFrom test k (setsFrom start (drop k ends) items) ≡ noneOf k
+  unfolding firstFrom setsFrom
+  first-set-end over = rw (drop-of-length-le ends {i = k} over)
+
+  first-set-step : k < length ends
+      → firstFrom test k (setsFrom start (drop k ends) items)
+      ≡ cond (test (between start (getD ends k 0) items)) (foundAt k)
+      (firstFrom test (k + 1) (setsFrom (getD ends k 0) (drop (k + 1) ends) items))
+  unfolding firstFrom setsFrom
+  first-set-step below = rw (drop-cons ends k 0 below, add-one k)
+
+  first-set-stop : k < length ends → test (between start (getD ends k 0) items) ≡ true
+      → firstFrom test k (setsFrom start (drop k ends) items) ≡ foundAt k
+  first-set-stop below passes = first-set-step below ∙ rw passes
+
+  first-set-next : k < length ends → test (between start (getD ends k 0) items) ≡ false
+      → firstFrom test k (setsFrom start (drop k ends) items)
+      ≡ firstFrom test (k + 1) (setsFrom (getD ends k 0) (drop (k + 1) ends) items)
+  first-set-next below fails = first-set-step below ∙ rw fails
 
 -- at place k, whose set begins at start: what is left decides, and is good
 pub record Searching (ends items marks : List ℕ) (k start : ℕ) : Type 0 where
-  pub same : firstFrom (all (member marks)) k (setsFrom start (drop k ends) items) ≡ firstMarked ends items marks
+  pub same : firstFrom (allMarked marks) k (setsFrom start (drop k ends) items) ≡ firstMarked ends items marks
   pub good : (T : ℕ) → firstBad T ends items ≡ Good → firstBadFrom T k start (drop k ends) items ≡ Good
 
 pub searching-start : (ends items marks : List ℕ) → Searching ends items marks 0 0
@@ -41,7 +58,7 @@ searching-start ends items marks = record { same = refl; good = λ T e. e }
 
 module _ {ends items marks : List ℕ} {k start : ℕ} (s : Searching ends items marks k start) where
   pub searching-end : length ends ≤ k → noneOf k ≡ firstMarked ends items marks
-  searching-end over = sym (first-set-end (all (member marks)) ends items k start over) ∙ s .same
+  searching-end over = sym (first-set-end (allMarked marks) ends items k start over) ∙ s .same
 
   module _ (more : k < length ends) where
     -- the set at k can be probed
@@ -54,19 +71,19 @@ module _ {ends items marks : List ℕ} {k start : ℕ} (s : Searching ends items
           small = λ e low high. omega (arith, set-item (can .T) start (getD ends k 0) items k set e low high, can .wide);
         }
 
-    probed : all (member marks) (slice start (getD ends k 0) items) ≡ all (member marks) (between start (getD ends k 0) items)
-    probed = ap (all (member marks)) (slice-from start (getD ends k 0) items)
+    probed : allMarked marks (slice start (getD ends k 0) items) ≡ allMarked marks (between start (getD ends k 0) items)
+    probed = ap (allMarked marks) (slice-from start (getD ends k 0) items)
 
-    pub searching-stop : true ≡ all (member marks) (slice start (getD ends k 0) items)
+    pub searching-stop : true ≡ allMarked marks (slice start (getD ends k 0) items)
         → record { found = true; place = k; compared = k + 1 } ≡ firstMarked ends items marks
     searching-stop all-there =
-        rw (add-one k) (sym (first-set-stop (all (member marks)) ends items k start more (sym probed ∙ sym all-there)) ∙ s .same)
+        rw (add-one k) (sym (first-set-stop (allMarked marks) ends items k start more (sym probed ∙ sym all-there)) ∙ s .same)
 
-    pub searching-next : false ≡ all (member marks) (slice start (getD ends k 0) items)
+    pub searching-next : false ≡ allMarked marks (slice start (getD ends k 0) items)
         → Searching ends items marks (k + 1) (getD ends k 0)
     searching-next one-out =
         record {
-          same = sym (first-set-next (all (member marks)) ends items k start more (sym probed ∙ sym one-out)) ∙ s .same;
+          same = sym (first-set-next (allMarked marks) ends items k start more (sym probed ∙ sym one-out)) ∙ s .same;
           good = λ T e. good-next T ends items k start more (s .good T e);
         }
 
@@ -99,5 +116,5 @@ module _ (words : ℕ) (right : List ℕ) {marks : List ℕ}
       go [] = refl
       go (x ∷ xs) = ap₂ (λ (a b : Bool). a && b) (marked-item x) (go xs)
 
-  pub marked-first : (lefts : List (List ℕ)) → firstFrom (all (member marks)) 0 lefts ≡ firstContained lefts right
-  marked-first lefts = first-agree (all (member marks)) (λ left. contained left right) 0 lefts marked-set
+  pub marked-first : (lefts : List (List ℕ)) → firstFrom (allMarked marks) 0 lefts ≡ firstContained lefts right
+  marked-first lefts = first-agree (allMarked marks) (λ left. contained left right) 0 lefts marked-set

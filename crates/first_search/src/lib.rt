@@ -15,11 +15,8 @@ use sets::Tested;
 const ITEM_WORDS: usize = (MAX_ITEMS as usize) / 64;
 
 ghost use mathlib.Core.Path.{_≡_};
-ghost use Rattle.lists.specs.Lists.{all};
-ghost use Rattle.bit_sets.specs.BitSets.{member};
-ghost use Rattle.sets.specs.Collections.{setsOf};
-ghost use Rattle.first_spec.specs.First.{firstFrom, firstTest, firstAnswer};
-ghost use Rattle.first_search.specs.Searching.{CanSearch};
+ghost use Rattle.first_spec.specs.First.{firstTest, firstAnswer};
+ghost use Rattle.first_search.specs.Searching.{CanSearch, firstMarked};
 
 // What is lent can be searched: T, the left sets, then the right set.
 fn test_first(t: u32, left_ends: &[u32], left_items: &[u16], right: &[u16]) -> Tested
@@ -40,8 +37,7 @@ fn test_first(t: u32, left_ends: &[u32], left_items: &[u16], right: &[u16]) -> T
 // The first left set whose items are all marked.
 fn search(left_ends: &[u32], left_items: &[u16], marks: &[u64]) -> Search
     requires { ⌜ CanSearch (now «left_ends») (now «left_items») (now marks) ⌝ }
-    ensures { λ r. ⌜ r ≡ firstFrom (all (member (now (marks .entry)))) 0
-        (setsOf (now («left_ends» .entry)) (now («left_items» .entry))) ⌝ }
+    ensures { λ r. ⌜ r ≡ firstMarked (now («left_ends» .entry)) (now («left_items» .entry)) (now (marks .entry)) ⌝ }
 {
     let mut k: usize = 0;
     let mut start: usize = 0;

@@ -1,4 +1,4 @@
-// The search for the first kit on document 01's shelf and at its edges: empty kits, no kits, T = 0, and each refusal. A line says
+// The search for the first kit on document 01's shelf and at its edges: empty kits, no kits, T = 0 and 4,096, and each refusal. A line says
 // the case and the six words of the answer.
 use libc::STDOUT_FILENO;
 
@@ -47,7 +47,19 @@ fn run_empty() {
     run_case(b"no items", 0, &[0u32, 0], &[0u16; 0], &[0u16; 0]);
 }
 
+// Kits {4094} and {4095}, with the greatest T.
+fn run_greatest() {
+    run_case(
+        b"T of 4,096",
+        4096,
+        &[1u32, 2],
+        &[4094u16, 4095],
+        &[4095u16],
+    );
+}
+
 fn main() {
     run_shelf();
     run_empty();
+    run_greatest();
 }

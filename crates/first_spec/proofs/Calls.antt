@@ -1,41 +1,21 @@
--- What calls show. An accepted search: what its answer says of the left sets. And a search beside an accepted join over the same
--- left sets, whatever the join's settings and lists: the search is accepted with each right set of the join, and its place is that
--- of the first pair with this right set; with one right set alone that is the first pair of the list.
-use Prim.Native.Nat.{ℕ, _*_, _<_, _≤_}
-use mathlib.Core.Path.{_≡_, sym, ap, subst, _∙_}
-use mathlib.Core.List.{List, [], _∷_}
+-- What an accepted search shows: what its answer says of the left sets.
+use Prim.Native.Nat.{ℕ, _≤_}
+use mathlib.Core.Path.{_≡_, sym, subst}
+use mathlib.Core.List.{List, []}
 use mathlib.Core.Bool.{true, false}
-use native.Mathlib.Omega.{arith}
-use lib.Dec.{ltb}
-use lib.ListN.{length, getD, take}
-use lib.Seq.{take-take}
-use borrow.Author.Tests.{lt-ltb, ltb-true}
-use Rattle.lists.proofs.Bools.{by-test}
-use Rattle.lists.proofs.Throughout.{all-at}
-use Rattle.sets.specs.Collections.{Collection, setsIn, contained, goodItems}
+use lib.ListN.{length}
+use Rattle.sets.specs.Collections.{Collection, setsIn, contained}
 use Rattle.sets.proofs.Between.{length-sets}
-use Rattle.sets.proofs.Good.{all-good}
-use Rattle.inputs.specs.Input.{Input, leftSets, rightSets}
-use Rattle.join_spec.specs.declared.Counts.{Counts}
-use Rattle.join_spec.specs.declared.JoinAnswer.the-variants.{Joined}
-use Rattle.join_spec.specs.PairList.{pairList, pairCount}
-use Rattle.join_spec.specs.Query.{Settings}
-use Rattle.join_spec.specs.Answer.{roomOf, RunCall}
-use Rattle.join_spec.proofs.PairListLaws.{pairOccurs}
-use Rattle.join_spec.proofs.Accepted.{accepted}
-use Rattle.join_spec.proofs.AcceptedRuns.{pairs-counted}
-use Rattle.join_spec.proofs.Calls.{call-filled, call-once}
-use Rattle.first_spec.specs.declared.FirstAnswer.{FirstAnswer}
 use Rattle.first_spec.specs.declared.FirstAnswer.the-variants.{Searched}
 use Rattle.first_spec.specs.declared.Search.{Search}
 use Rattle.first_spec.specs.First.{firstContained, firstAnswer}
 use Rattle.first_spec.proofs.FirstLaws.{FoundIn, NoneIn, found-in, none-in, compared-bound}
-use Rattle.first_spec.proofs.FirstPairs.{first-counted, first-pair}
-use Rattle.first_spec.proofs.FirstTests.{Searchable, first-accepted, searchable-answer}
+use Rattle.first_spec.proofs.FirstTests.{first-accepted}
 
 -- an accepted search
 module _ (T : ℕ) (left : Collection) (right : List ℕ) {f : Search} (search : Searched f ≡ firstAnswer T left right) where
-  search-is : firstContained (setsIn left) right ≡ f
+  -- it is that of the definition
+  pub search-is : firstContained (setsIn left) right ≡ f
   search-is = sym (first-accepted T left right search .1)
 
   -- the left set at its place is contained and none before it is; or none is
@@ -55,75 +35,3 @@ module _ (T : ℕ) (left : Collection) (right : List ℕ) {f : Search} (search :
       subst (λ (n : ℕ). f .compared ≤ n) (length-sets 0 (left .ends) (left .items))
       (subst (λ (s : Search). s .compared ≤ length (setsIn left)) search-is
       (compared-bound (λ set. contained set right) [] (setsIn left)))
-
--- the right set at a place
-abbrev pub rightAt : Input → ℕ → List ℕ
-rightAt i p = getD (rightSets i) p []
-
-module _ (i : Input) (s : Settings) {counts : Counts} {work before work′ after : List ℕ}
-    (call : RunCall i s work before work′ after (Joined counts)) where
-  -- where the join is accepted, so is the search with each of its right sets
-  module _ (p : ℕ) (there : p < length (rightSets i)) where
-    searchable : Searchable (i .T) (i .left) (rightAt i p)
-    searchable =
-        let tests = accepted i s (roomOf work before) counts (sym (call .answer)) .tests in
-        let rights-good = all-good (i .T) (i .right .ends) (i .right .items) (tests .good .right) in
-        record {
-          few = tests .settings .few-items;
-          lefts-good = tests .good .left;
-          right-good = all-at (goodItems (i .T)) [] (rightSets i) rights-good p there;
-        }
-
-    pub search-accepted : {r : FirstAnswer} → r ≡ firstAnswer (i .T) (i .left) (rightAt i p)
-        → r ≡ Searched (firstContained (leftSets i) (rightAt i p))
-    search-accepted e = e ∙ sym (searchable-answer (i .T) (i .left) (rightAt i p) searchable)
-
-    -- no pair of it with a left set that is not contained
-    pair-absent : (l : ℕ) → (l < length (leftSets i) → contained (getD (leftSets i) l []) (rightAt i p) ≡ false)
-        → pairOccurs l p (take (2 * counts .pairs) after) ≡ 0
-    pair-absent l out =
-        call-once i s call l p
-        ∙ by-test (ltb l (length (leftSets i)))
-        (λ low. rw (low, lt-ltb p (length (rightSets i)) there, out (ltb-true l (length (leftSets i)) low)))
-        (λ high. rw high)
-
-    -- the place found is that of its first pair in the list, and where none is found it has no pair
-    module _ {f : Search} (search : Searched f ≡ firstAnswer (i .T) (i .left) (rightAt i p)) where
-      pub search-pair-once : f .found ≡ true → pairOccurs (f .place) p (take (2 * counts .pairs) after) ≡ 1
-      search-pair-once e =
-          let at = search-found (i .T) (i .left) (rightAt i p) search e in
-          call-once i s call (f .place) p
-          ∙ rw (lt-ltb (f .place) (length (leftSets i)) (at .within), lt-ltb p (length (rightSets i)) there, at .passes)
-
-      pub search-pair-before : f .found ≡ true → (l : ℕ) → l < f .place → pairOccurs l p (take (2 * counts .pairs) after) ≡ 0
-      search-pair-before e l low =
-          pair-absent l (λ inside. search-found (i .T) (i .left) (rightAt i p) search e .before l low)
-
-      pub search-pair-none : f .found ≡ false → (l : ℕ) → pairOccurs l p (take (2 * counts .pairs) after) ≡ 0
-      search-pair-none e l = pair-absent l (search-none (i .T) (i .left) (rightAt i p) search e .none l)
-
-  -- one right set alone
-  module _ (right : List ℕ) (alone : rightSets i ≡ right ∷ []) where
-    pub alone-accepted : {r : FirstAnswer} → r ≡ firstAnswer (i .T) (i .left) right → r ≡ Searched (firstContained (leftSets i) right)
-    alone-accepted {r} =
-        subst (λ (set : List ℕ). r ≡ firstAnswer (i .T) (i .left) set → r ≡ Searched (firstContained (leftSets i) set))
-        (ap (λ (sets : List (List ℕ)). getD sets 0 []) alone) (search-accepted 0 (rw alone (omega arith)))
-
-    module _ {f : Search} (search : Searched f ≡ firstAnswer (i .T) (i .left) right) where
-      -- a left set is found exactly where the join has a pair
-      pub alone-found : f .found ≡ ltb 0 (counts .pairs)
-      alone-found =
-          ap (λ (g : Search). g .found) (sym (search-is (i .T) (i .left) right search))
-          ∙ first-counted contained right 0 (leftSets i)
-          ∙ ap (ltb 0)
-          (sym
-          (pairs-counted i s (roomOf work before) counts (sym (call .answer)) ∙ ap (pairCount (leftSets i)) alone))
-
-      -- and its place is that of the first pair
-      pub alone-place : f .found ≡ true → take 2 after ≡ f .place ∷ 0 ∷ []
-      alone-place e =
-          let some = ltb-true 0 (counts .pairs) (sym alone-found ∙ e) in
-          sym (take-take 2 (2 * counts .pairs) after (omega (arith, some)))
-          ∙ ap (take 2) (call-filled i s call ∙ ap (pairList (leftSets i)) alone)
-          ∙ subst (λ (g : Search). g .found ≡ true → take 2 (pairList (leftSets i) (right ∷ [])) ≡ g .place ∷ 0 ∷ [])
-          (search-is (i .T) (i .left) right search) (first-pair contained right 0 (leftSets i)) e

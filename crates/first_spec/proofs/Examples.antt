@@ -2,12 +2,12 @@
 -- empty sets, equal left sets, none at all, and each refusal in its order. Every row states all six words of the answer.
 use Prim.Native.Nat.{ℕ}
 use mathlib.Core.List.{List, [], _∷_}
-use mathlib.Core.Bool.{Bool}
-use lib.Dec.{T}
-use Rattle.lists.specs.Lists.{all, memb, range, upto, rising, risingAfter}
+use mathlib.Core.Bool.{Bool, _&&_}
+use lib.Dec.{T, eqb}
+use lib.ListN.{length}
+use Rattle.lists.specs.Lists.{all, memb, range, upto, rising, risingAfter, prefix}
 use Rattle.sets.specs.Collections.{setsFrom, contained, firstBadFrom, badSet}
 use Rattle.inputs.specs.Tests.{loneTest}
-use Rattle.join_spec.proofs.Examples.{same}
 use Rattle.first_spec.specs.First.{firstFrom, firstTest, firstAnswer, firstWords}
 
 -- one example: its input, and the words that are right
@@ -20,7 +20,9 @@ record Example : Type 0 where
 
 -- whether the definitions give what the example says
 right : Example → Bool
-right e = same (firstWords (firstAnswer (e .items) (record { ends = e .leftEnds; items = e .leftItems }) (e .right))) (e .words)
+right e =
+    let words = firstWords (firstAnswer (e .items) (record { ends = e .leftEnds; items = e .leftItems }) (e .right)) in
+    eqb (length words) (length (e .words)) && prefix words (e .words)
 
 example : ℕ → List ℕ → List ℕ → List ℕ → List ℕ → Example
 example items leftEnds leftItems right words =
@@ -74,6 +76,6 @@ examples =
 
 -- the definitions give every example
 examples-right : T (all right examples)
-unfolding all memb range rising risingAfter setsFrom contained firstBadFrom badSet loneTest firstFrom firstTest firstAnswer same right
+unfolding all memb range rising risingAfter setsFrom contained firstBadFrom badSet loneTest firstFrom firstTest firstAnswer prefix right
     example found none refused shelf examples
 examples-right = tt

@@ -1,18 +1,13 @@
--- Laws of `firstFrom`, the first element that passes a test, over elements of any kind: tests that agree, the steps of the walk over
--- the sets of a collection, and what it finds: a place, the first whose element passes, with all up to it compared, or that none
--- does.
+-- Laws of `firstFrom`, the first element that passes a test, over elements of any kind: tests that agree, and what it finds: a place,
+-- the first whose element passes, with all up to it compared, or that none does.
 use Prim.Native.Nat.{ℕ, zero, suc, _+_, _<_, _≤_}
 use mathlib.Core.Path.{_≡_, refl, ap, _∙_}
 use mathlib.Core.List.{List, [], _∷_}
-use mathlib.Core.Bool.{Bool, true, false, cond, _||_}
-use native.Mathlib.Numerals.{add-one}
+use mathlib.Core.Bool.{Bool, true, false, cond}
 use native.Mathlib.Nat.{add-zero, zero-add}
 use native.Mathlib.Omega.{arith}
-use lib.ListN.{length, getD, drop, drop-of-length-le}
-use lib.Seq.{drop-cons}
-use Rattle.lists.specs.Lists.{any}
+use lib.ListN.{length, getD}
 use Rattle.lists.proofs.Bools.{by-test, true-false}
-use Rattle.sets.specs.Collections.{between, setsFrom}
 use Rattle.first_spec.specs.declared.Search.{Search}
 use Rattle.first_spec.specs.First.{foundAt, noneOf, firstFrom}
 
@@ -21,28 +16,6 @@ pub first-agree : {A : Type 0} (p q : A → Bool) (k : ℕ) (xs : List A) → ((
 unfolding firstFrom
 first-agree p q k [] same = refl
 first-agree p q k (x ∷ xs) same = rw (same x, first-agree p q (suc k) xs same)
-
--- the walk over the sets of a collection, by the ends that are left
-module _ (test : List ℕ → Bool) (ends items : List ℕ) (k start : ℕ) where
-  pub first-set-end : length ends ≤ k → firstFrom test k (setsFrom start (drop k ends) items) ≡ noneOf k
-  unfolding firstFrom setsFrom
-  first-set-end over = rw (drop-of-length-le ends {i = k} over)
-
-  pub first-set-step : k < length ends
-      → firstFrom test k (setsFrom start (drop k ends) items)
-      ≡ cond (test (between start (getD ends k 0) items)) (foundAt k)
-      (firstFrom test (k + 1) (setsFrom (getD ends k 0) (drop (k + 1) ends) items))
-  unfolding firstFrom setsFrom
-  first-set-step below = rw (drop-cons ends k 0 below, add-one k)
-
-  pub first-set-stop : k < length ends → test (between start (getD ends k 0) items) ≡ true
-      → firstFrom test k (setsFrom start (drop k ends) items) ≡ foundAt k
-  first-set-stop below passes = first-set-step below ∙ rw passes
-
-  pub first-set-next : k < length ends → test (between start (getD ends k 0) items) ≡ false
-      → firstFrom test k (setsFrom start (drop k ends) items)
-      ≡ firstFrom test (k + 1) (setsFrom (getD ends k 0) (drop (k + 1) ends) items)
-  first-set-next below fails = first-set-step below ∙ rw fails
 
 -- what holds where one was found from place k on: how far on it stands, that it passes, and that none before it does
 pub record FoundFrom {A : Type 0} (test : A → Bool) (past : A) (k : ℕ) (xs : List A) : Type 0 where
@@ -58,17 +31,6 @@ pub record NoneFrom {A : Type 0} (test : A → Bool) (past : A) (k : ℕ) (xs : 
   pub none : (i : ℕ) → i < length xs → test (getD xs i past) ≡ false
 
 module _ {A : Type 0} (test : A → Bool) where
-  -- one is found exactly where some element passes
-  pub first-found : (k : ℕ) (xs : List A) → firstFrom test k xs .found ≡ any test xs
-  unfolding firstFrom any
-  first-found k [] = refl
-  first-found k (x ∷ xs) = by-first (test x) (first-found (suc k) xs)
-    where
-      by-first : (b : Bool) → firstFrom test (suc k) xs .found ≡ any test xs
-          → cond b (foundAt k) (firstFrom test (suc k) xs) .found ≡ (b || any test xs)
-      by-first true e = refl
-      by-first false e = e
-
   module _ (past : A) where
     none-cons : (x : A) (xs : List A) (n : ℕ) → test x ≡ false → ((i : ℕ) → i < n → test (getD xs i past) ≡ false)
         → (i : ℕ) → i < suc n → test (getD (x ∷ xs) i past) ≡ false

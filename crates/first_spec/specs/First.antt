@@ -1,6 +1,6 @@
 -- The first left set that is contained in one right set, and how many were compared to find it. Document 02, C-12 (a left set is a
--- kit there, and the right set a stack). The search is over elements of any kind and any test of one, so that a set may come to
--- carry more than its items.
+-- kit there, and the right set a stack). The search is over elements of any kind and any test of one. In plain words it is
+-- `FoundIn` and `NoneIn` of proofs/FirstLaws.antt: the element at its place passes and none before it does, or none passes at all.
 use Prim.Native.Nat.{ℕ, suc}
 use mathlib.Core.List.{List, [], _∷_}
 use mathlib.Core.Bool.{Bool, true, false, cond}
@@ -19,11 +19,11 @@ use Rattle.first_spec.specs.declared.FirstAnswer.the-variants.{Searched,
 abbrev pub foundAt : ℕ → Search
 foundAt place = record { found = true; place = place; compared = suc place }
 
--- not among so many, all of them compared
+-- not among so many, all of them compared; the place is 0
 abbrev pub noneOf : ℕ → Search
 noneOf many = record { found = false; place = 0; compared = many }
 
--- the first element from place k on that passes the test
+-- the first element that passes the test, the head being at place k; all up to it were compared, or k and the whole list
 unfoldable pub firstFrom : {A : Type 0} → (A → Bool) → ℕ → List A → Search
 firstFrom test k [] = noneOf k
 firstFrom test k (x ∷ xs) = cond (test x) (foundAt k) (firstFrom test (suc k) xs)
@@ -40,7 +40,7 @@ firstTest T left right = unless Failed (itemsTest T) (unless Failed (sideTest T 
 unfoldable pub firstAnswer : ℕ → Collection → List ℕ → FirstAnswer
 firstAnswer T left right = unless Refused (firstTest T left right) (Searched (firstContained (setsIn left) right))
 
--- the words of an answer: found, place, compared
+-- the words of an answer: found (1 or 0), place, compared; three zeros in a refusal
 abbrev pub firstWords : FirstAnswer → List ℕ
 firstWords (Searched s) = acceptedWords (one (s .found) ∷ s .place ∷ s .compared ∷ [])
 firstWords (Refused why) = refusedWords why 3

@@ -3,13 +3,12 @@
 use Prim.Native.Nat.{ℕ, _+_, _-_, _*_, _/_, _%_, _<_, _≤_}
 use mathlib.Core.Path.{_≡_}
 use mathlib.Core.List.{List, [], _∷_, _++_}
-use mathlib.Core.Bool.{true, cond, _||_}
+use mathlib.Core.Bool.{true, cond}
 use lib.Dec.{ltb}
 use lib.ListN.{length, getD, set}
 use lib.Seq as seq
 use Rattle.lists.specs.Lists.{memb, slice}
 use Rattle.lists.specs.Writing.{Put}
-use Rattle.bit_sets.specs.BitSets.{member}
 use Rattle.sets.specs.Limits.{maxItems, maxSets, maxEntries, halfWords}
 use Rattle.sets.specs.declared.Side.the-variants.{Right}
 use Rattle.tag_file.specs.Records.{totalLength, records, ofSide, allTags, itemsOf, setsOfSide}

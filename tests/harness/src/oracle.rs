@@ -35,11 +35,10 @@ impl Collection {
     pub fn first_bad(&self, t: u32) -> Option<usize> {
         let mut start = 0;
         for (k, &end) in self.ends.iter().enumerate() {
-            if k >= 4096 || end < start || end > 65535 || end as usize > self.items.len() || end - start > 255 {
+            if k >= 4096 || end < start || end > 65535 || end as usize > self.items.len() {
                 return Some(k);
             }
-            let set = &self.items[start as usize..end as usize];
-            if set.iter().any(|&i| i as u32 >= t) || set.windows(2).any(|w| w[0] >= w[1]) {
+            if has_bad_items(t, &self.items[start as usize..end as usize]) {
                 return Some(k);
             }
             start = end;
@@ -50,6 +49,11 @@ impl Collection {
     pub fn entries(&self) -> usize {
         self.ends.last().map_or(0, |&end| end as usize)
     }
+}
+
+/// Whether the items of a set make it bad: over 255 of them, one of t or more, or items that don't rise. A lone stack has no other fault.
+pub fn has_bad_items(t: u32, set: &[u16]) -> bool {
+    set.len() > 255 || set.iter().any(|&i| u32::from(i) >= t) || set.windows(2).any(|w| w[0] >= w[1])
 }
 
 #[derive(Clone, Copy, Debug, PartialEq)]
@@ -299,11 +303,6 @@ pub struct FirstQuery {
     pub right: Vec<u16>,
 }
 
-/// Whether a lone stack is bad: over 255 items, an item of t or more, or items that don't rise. It has no end of its own.
-pub fn is_bad_stack(t: u32, stack: &[u16]) -> bool {
-    stack.len() > 255 || stack.iter().any(|&i| u32::from(i) >= t) || stack.windows(2).any(|w| w[0] >= w[1])
-}
-
 /// What comes before the search: 6, 5 of the kits, 5 of the stack.
 pub fn first_refusal(q: &FirstQuery) -> Option<Refusal> {
     if q.t > 4096 {
@@ -312,7 +311,7 @@ pub fn first_refusal(q: &FirstQuery) -> Option<Refusal> {
     if let Some(k) = q.left.first_bad(q.t) {
         return Some(Refusal(5, 0, k as u64));
     }
-    is_bad_stack(q.t, &q.right).then_some(Refusal(5, 1, 0))
+    has_bad_items(q.t, &q.right).then_some(Refusal(5, 1, 0))
 }
 
 /// The places of all kits that the stack contains, of an accepted query.

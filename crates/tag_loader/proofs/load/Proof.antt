@@ -67,33 +67,33 @@ clear-lists-requires-2 : tie.Need-clear-lists-requires-2
 clear-lists-requires-2 c κs = search needs
 
 -- where `clear_lists` has come back, for want of room
-abbrev cleared-2 : tie.After-slice-known21 → tie.After-clear-lists2
-cleared-2 c = c .before .before .before .before .before .before .before .before .before .before .before .before .before .before
+abbrev cleared-short : tie.After-slice-known21 → tie.After-clear-lists2
+cleared-short c = c .before .before .before .before .before .before .before .before .before .before .before .before .before .before
 
 same-length-8 : tie.Need-same-length-8
-same-length-8 c = cleared-2 c .clear-lists2 .kept .0
+same-length-8 c = cleared-short c .clear-lists2 .kept .0
 
 same-length-9 : tie.Need-same-length-9
-same-length-9 c = cleared-2 c .clear-lists2 .kept .1 .0
+same-length-9 c = cleared-short c .clear-lists2 .kept .1 .0
 
 same-length-10 : tie.Need-same-length-10
-same-length-10 c = cleared-2 c .clear-lists2 .kept .1 .1 .0
+same-length-10 c = cleared-short c .clear-lists2 .kept .1 .1 .0
 
 same-length-11 : tie.Need-same-length-11
-same-length-11 c = cleared-2 c .clear-lists2 .kept .1 .1 .1 .0
+same-length-11 c = cleared-short c .clear-lists2 .kept .1 .1 .1 .0
 
 same-length-12 : tie.Need-same-length-12
-same-length-12 c = cleared-2 c .clear-lists2 .kept .1 .1 .1 .1 .0
+same-length-12 c = cleared-short c .clear-lists2 .kept .1 .1 .1 .1 .0
 
 same-length-13 : tie.Need-same-length-13
-same-length-13 c = cleared-2 c .clear-lists2 .kept .1 .1 .1 .1 .1 .0
+same-length-13 c = cleared-short c .clear-lists2 .kept .1 .1 .1 .1 .1 .0
 
 same-length-14 : tie.Need-same-length-14
-same-length-14 c = cleared-2 c .clear-lists2 .kept .1 .1 .1 .1 .1 .1 .0
+same-length-14 c = cleared-short c .clear-lists2 .kept .1 .1 .1 .1 .1 .1 .0
 
 returns-2 : tie.Need-returns-2
 returns-2 c =
-    let at-clear = cleared-2 c in
+    let at-clear = cleared-short c in
     let at-if1 = at-clear .before .before .before .before .before .before .before .before in
     let at-room = at-if1 .before in
     let at-answer = at-room .before .before in

@@ -5,7 +5,7 @@
 
 use harness::firsts::query;
 use harness::joins::{limit, permutation, rule};
-use harness::oracle::{self, contained_kits, first_refusal, is_bad_stack, Collection, FirstQuery, Refusal};
+use harness::oracle::{self, contained_kits, first_refusal, has_bad_items, Collection, FirstQuery, Refusal};
 use harness::random::Random;
 use harness::{calls, run::Plan};
 use kitfinder::Side;
@@ -134,7 +134,7 @@ impl Case<'_> {
     }
 
     /// Refused for the stack, of which these are all the faults.
-    fn is_bad_stack(&self, faults: &[Fault]) -> bool {
+    fn has_bad_items(&self, faults: &[Fault]) -> bool {
         self.refusal == Some(Refusal(5, 1, 0)) && item_faults(self.q.t, &self.q.right) == faults
     }
 }
@@ -219,21 +219,21 @@ const KINDS: [Kind; 77] = [
     }),
     ("equal neighbours in a kit", |c| c.is_bad_kit(&[Fault::Equal])),
     ("a fall in a kit", |c| c.is_bad_kit(&[Fault::Fall])),
-    ("a stack of 256 items", |c| c.is_bad_stack(&[Fault::Length]) && c.q.right.len() == 256),
-    ("a stack of 512 items", |c| c.is_bad_stack(&[Fault::Length]) && c.q.right.len() == 512),
-    ("an item of T in the stack", |c| c.is_bad_stack(&[Fault::Item]) && c.q.right.last().is_some_and(|&i| u32::from(i) == c.q.t)),
-    ("an item above T in the stack", |c| c.is_bad_stack(&[Fault::Item]) && c.q.right.last().is_some_and(|&i| u32::from(i) > c.q.t)),
+    ("a stack of 256 items", |c| c.has_bad_items(&[Fault::Length]) && c.q.right.len() == 256),
+    ("a stack of 512 items", |c| c.has_bad_items(&[Fault::Length]) && c.q.right.len() == 512),
+    ("an item of T in the stack", |c| c.has_bad_items(&[Fault::Item]) && c.q.right.last().is_some_and(|&i| u32::from(i) == c.q.t)),
+    ("an item above T in the stack", |c| c.has_bad_items(&[Fault::Item]) && c.q.right.last().is_some_and(|&i| u32::from(i) > c.q.t)),
     ("equal neighbours at the start of the stack", |c| {
-        c.is_bad_stack(&[Fault::Equal]) && c.q.right.len() > 2 && c.q.right[0] == c.q.right[1]
+        c.has_bad_items(&[Fault::Equal]) && c.q.right.len() > 2 && c.q.right[0] == c.q.right[1]
     }),
     ("equal neighbours at the end of the stack", |c| {
-        c.is_bad_stack(&[Fault::Equal]) && c.q.right.len() > 2 && c.q.right[..c.q.right.len() - 1].windows(2).all(|w| w[0] < w[1])
+        c.has_bad_items(&[Fault::Equal]) && c.q.right.len() > 2 && c.q.right[..c.q.right.len() - 1].windows(2).all(|w| w[0] < w[1])
     }),
     ("a fall at the start of the stack", |c| {
-        c.is_bad_stack(&[Fault::Fall]) && c.q.right.len() > 2 && c.q.right[1..].windows(2).all(|w| w[0] < w[1])
+        c.has_bad_items(&[Fault::Fall]) && c.q.right.len() > 2 && c.q.right[1..].windows(2).all(|w| w[0] < w[1])
     }),
     ("a fall at the end of the stack", |c| {
-        c.is_bad_stack(&[Fault::Fall]) && c.q.right.len() > 2 && c.q.right[..c.q.right.len() - 1].windows(2).all(|w| w[0] < w[1])
+        c.has_bad_items(&[Fault::Fall]) && c.q.right.len() > 2 && c.q.right[..c.q.right.len() - 1].windows(2).all(|w| w[0] < w[1])
     }),
     ("a bad stack and no kits", |c| c.refusal == Some(Refusal(5, 1, 0)) && c.q.left.ends.is_empty()),
     ("a bad stack and an empty kit first", |c| c.refusal == Some(Refusal(5, 1, 0)) && c.q.left.ends.first() == Some(&0)),
@@ -288,7 +288,7 @@ fn main() {
             }
         }
         let kits = if refusal.is_none() { q.left.sets() } else { Vec::new() };
-        let (bad_kit, bad_stack) = (q.left.first_bad(q.t), is_bad_stack(q.t, &q.right));
+        let (bad_kit, bad_stack) = (q.left.first_bad(q.t), has_bad_items(q.t, &q.right));
         let case = Case { q, refusal, kits, contained, bad_kit, bad_stack };
         for (count, (_, is_of)) in counts.iter_mut().zip(KINDS) {
             *count += u64::from(is_of(&case));
