@@ -102,7 +102,8 @@ enum {
     KITFINDER_OVERLONG = 10
 };
 
-/* Lists every pair of a kit and a stack that contains it: two places a pair, kit then stack, rising by kit, then stack.
+/* Lists every pair of a kit and a stack that contains it: two places a pair, kit then stack, rising by kit, then stack. An empty kit is
+ * accepted and counts in n below, but no stack contains it, and it adds to none of the six counts.
  * t items; limit 1 to 255; ranks: a permutation of 0 .. t-1 by item; budget: the allowance of checks; rule: one of the three
  * above, with the weights a, b, g and h of KITFINDER_WEIGHED. The work list needs 16n + 64 words, where n is the number of kits,
  * stacks, their entries and t (kitfinder_work_words). It is the sole undecided result: its length stays, and after 5, 6 and 7 its
@@ -123,8 +124,8 @@ void kitfinder_join(uint32_t t,
                     uint64_t answer[KITFINDER_JOIN_ANSWER]);
 
 /* Finds the first kit that one stack contains, and compares no further. `right` is the stack's items alone, its end the list's length; it
- * is bad where it has over 255 items, an item of t or more, or items that don't rise. An empty kit is contained in every stack. All is
- * tested before a kit is compared, and nothing is written but the answer.
+ * is bad where it has over 255 items, an item of t or more, or items that don't rise. An empty kit is passed over, but its place
+ * counts among the kits compared. All is tested before a kit is compared, and nothing is written but the answer.
  * Refuses with 5 and 6: with 6, then with 5 for the first bad kit, then with 5 for the stack, as side 1 and place 0.
  * answer[3] 1 where such a kit was found, else 0; [4] its place, 0 where none was; [5] the kits compared: the place plus one, or all. */
 void kitfinder_first(uint32_t t,

@@ -147,7 +147,7 @@ pub struct Counts {
 pub struct First {
     /// The lowest place of a left set that the right set contains, where there is one.
     pub place: Option<usize>,
-    /// The left sets compared: the place plus one, or all of them.
+    /// The left sets compared, empty ones included: the place plus one, or all of them.
     pub compared: usize,
 }
 
@@ -235,7 +235,8 @@ pub fn pairs(filled: &[u16]) -> impl ExactSizeIterator<Item = (usize, usize)> + 
 }
 
 /// Lists every pair of a left set and a right set that contains it: two places a pair, rising by left, then right. The work list needs
-/// [`work_words`], and the pair list two places a pair ([`pair_places`] always suffices); [`pairs`] goes through what was filled.
+/// [`work_words`], and the pair list two places a pair ([`pair_places`] always suffices); [`pairs`] goes through what was filled. An
+/// empty left set is accepted, but no right set contains it, and it adds to none of the counts.
 ///
 /// The work list is the sole undecided result: kept after [`Refusal::BadSet`], [`Refusal::BadSettings`] and [`Refusal::ShortWork`], else its
 /// content is free.
@@ -298,18 +299,19 @@ pub fn join(query: &Query, work: &mut [u32], pairs: &mut [u16]) -> Result<Counts
 }
 
 /// Finds the first left set that one right set contains, and compares no further. The right set is its items alone. An empty left set
-/// is contained in every right set. [`TagFile::first_kit`] gives the kit's number.
+/// is passed over, but its place counts among those compared. [`TagFile::first_kit`] gives the kit's number.
 ///
 /// Everything is tested before a left set is compared: [`Refusal::BadSettings`] where `t` is above [`MAX_ITEMS`], then
 /// [`Refusal::BadSet`] of the first bad left set, then that of the right set, at place 0.
 ///
 /// ```
 /// use kitfinder::Collection;
-/// let left = Collection { ends: &[2, 3, 4], items: &[0, 1, 1, 2] };
+/// // The second of four left sets is empty.
+/// let left = Collection { ends: &[2, 2, 3, 4], items: &[0, 1, 1, 2] };
 /// let first = kitfinder::first(3, left, &[1, 2])?;
-/// assert_eq!((first.place, first.compared), (Some(1), 2));
+/// assert_eq!((first.place, first.compared), (Some(2), 3));
 /// let first = kitfinder::first(3, left, &[0])?;
-/// assert_eq!((first.place, first.compared), (None, 3));
+/// assert_eq!((first.place, first.compared), (None, 4));
 /// # Ok::<(), kitfinder::Refusal>(())
 /// ```
 pub fn first(t: u32, left: Collection, right: &[u16]) -> Result<First, Refusal> {

@@ -250,7 +250,7 @@ impl TagFile {
     }
 
     /// Kit number and stack number of each kit that a stack holds whole, by their places in the file: with limit 2, Merge, rising
-    /// ranks and the greatest allowance.
+    /// ranks and the greatest allowance. A kit without tags is never among them.
     pub fn whole_kits(&self) -> Result<Vec<(u16, u16)>, Refusal> {
         let ranks = self.ranks(false)?;
         let (left, right) = (self.left.collection(), self.right.collection());
@@ -260,7 +260,8 @@ impl TagFile {
     }
 
     /// The number of the first kit, by its place in the file, that a stack holds whole, where there is one: what a screen can show before
-    /// all of them are found. The stack is its items, as [`TagFile::right`] has them. See [`first`](crate::first()).
+    /// all of them are found. A kit without tags is passed over. The stack is its items, as [`TagFile::right`] has them. See
+    /// [`first`](crate::first()).
     ///
     /// ```
     /// # fn main() -> Result<(), kitfinder::Refusal> {

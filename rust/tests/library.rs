@@ -1,6 +1,6 @@
 //! The safe functions over the library: each refusal, the owned lists against the lent ones, and the header's constants.
 
-use kitfinder::{Collection, Query, Refusal, Rule, Sets, Side, TagFile, Weights};
+use kitfinder::{Collection, Counts, Query, Refusal, Rule, Sets, Side, TagFile, Weights};
 use std::collections::HashMap;
 use std::path::Path;
 
@@ -29,6 +29,11 @@ fn query<'a>(kits: &'a Sets, stacks: &'a Sets) -> Query<'a> {
     Query { t: 4, left, right, limit: 2, ranks: &[0, 1, 2, 3], budget: u32::MAX, rule: Rule::Merge }
 }
 
+/// The counts in the order of document 01.
+fn six(counts: Counts) -> [u32; 6] {
+    [counts.pairs, counts.by_path, counts.confirmed, counts.checks, counts.dropped, counts.false_drops]
+}
+
 #[test]
 fn every_rule_and_limit_finds_the_same_pairs() {
     let (kits, stacks) = shelf();
@@ -44,11 +49,45 @@ fn every_rule_and_limit_finds_the_same_pairs() {
 }
 
 #[test]
+fn empty_kits_pair_with_nothing_and_add_to_no_count() {
+    let (kits, stacks) = shelf();
+    let among: Sets = [vec![], vec![0, 1], vec![], vec![], vec![1], vec![0, 2, 3], vec![]].into_iter().collect();
+    let empty: Sets = (0..3).map(|_| []).collect();
+    let with_empty: Sets = [vec![], vec![0, 1, 2], vec![]].into_iter().collect();
+    let none = Sets::new();
+    for rule in [Rule::Merge, Rule::Check, Rule::Weighed(Weights { a: 1.0, b: 1.0, g: 0.0, h: 1.5 })] {
+        for limit in [1, 2, 255] {
+            let run = |kits, stacks| Query { rule, limit, ..query(kits, stacks) }.run().expect("the shelf is accepted");
+            assert!(run(&among, &stacks).pairs().eq([(1, 0), (4, 0), (4, 1), (5, 2)]));
+            assert_eq!(run(&among, &stacks).counts(), run(&kits, &stacks).counts());
+            for stacks in [&stacks, &with_empty, &empty, &none] {
+                let alone = Query { rule, limit, budget: 0, ..query(&empty, stacks) };
+                let mut work = vec![0; kitfinder::work_words(4, alone.left, alone.right)];
+                assert_eq!(kitfinder::join(&alone, &mut work, &mut []).map(six), Ok([0; 6]));
+                assert_eq!(kitfinder::join(&alone, &mut work[1..], &mut []), Err(Refusal::ShortWork));
+            }
+        }
+    }
+}
+
+#[test]
+fn the_first_kit_passes_over_empty_ones_and_counts_them() {
+    let kits: Sets = [vec![], vec![0, 1], vec![], vec![1], vec![]].into_iter().collect();
+    let empty: Sets = (0..3).map(|_| []).collect();
+    let first = |kits: &Sets, stack: &[u16]| kitfinder::first(4, kits.collection(), stack).map(|first| (first.place, first.compared));
+    assert_eq!(first(&kits, &[0, 1]), Ok((Some(1), 2)));
+    assert_eq!(first(&kits, &[1, 3]), Ok((Some(3), 4)));
+    assert_eq!(first(&kits, &[0, 3]), Ok((None, 5)));
+    assert_eq!(first(&kits, &[]), Ok((None, 5)));
+    assert_eq!(first(&empty, &[0, 1]), Ok((None, 3)));
+    assert_eq!(first(&empty, &[]), Ok((None, 3)));
+}
+
+#[test]
 fn counts_are_those_of_the_library() {
     let (kits, stacks) = shelf();
     let counts = Query { rule: Rule::Check, ..query(&kits, &stacks) }.run().expect("the shelf is accepted").counts();
-    let all = (counts.pairs, counts.by_path, counts.confirmed, counts.checks, counts.dropped, counts.false_drops);
-    assert_eq!(all, (4, 0, 4, 7, 3, 0));
+    assert_eq!(six(counts), [4, 0, 4, 7, 3, 0]);
 }
 
 #[test]
@@ -101,7 +140,9 @@ fn the_first_kit_refuses() {
 
 #[test]
 fn the_first_kit_of_a_loaded_stack_is_the_first_whole_one() {
-    for bytes in [repository("examples/library.tags"), record(b"SK", 7, &[]), Vec::new()] {
+    let empty = [record(b"KT", 3, &[]), record(b"SK", 7, &[1, 2])].concat();
+    let more = [empty.clone(), record(b"KT", 2, &[2]), record(b"SK", 4, &[])].concat();
+    for bytes in [repository("examples/library.tags"), record(b"SK", 7, &[]), empty, more, Vec::new()] {
         let file = TagFile::load(&bytes).expect("in order");
         let whole = file.whole_kits().expect("accepted");
         for (place, &number) in file.right_numbers().iter().enumerate() {
@@ -147,7 +188,8 @@ fn a_loaded_file_has_its_tags_kits_and_stacks() {
     assert_eq!(loaded.right().get(0), Some(&[0, 1][..]));
     assert_eq!(loaded.ranks(false), Ok(vec![2, 0, 1]));
     assert_eq!(loaded.ranks(true), Ok(vec![0, 1, 2]));
-    assert_eq!(loaded.whole_kits(), Ok(vec![(9, 9), (300, 9)]));
+    assert_eq!(loaded.whole_kits(), Ok(vec![(9, 9)]));
+    assert_eq!(loaded.first_kit(&[]), Ok(None));
     let written = loaded.write().expect("it can be written");
     let kits_first = [record(b"KT", 9, &[1]), record(b"KT", 300, &[]), record(b"KT", 4, &[1, 7]), record(b"SK", 9, &[1, 5])].concat();
     assert_eq!(written, kits_first);
@@ -215,6 +257,8 @@ fn stacks_of_two_pads_are_pooled() {
     assert_eq!((of_second.left().len(), of_second.right_numbers(), of_second.t()), (0, &[2, 9][..], 3));
     let written = pooled.write().expect("it can be written");
     assert_eq!(TagFile::load(&written).as_ref(), Ok(&pooled));
+    let empty = TagFile::load_pooled(&[record(b"KT", 5, &[]), first].concat(), &[second, record(b"KT", 5, &[1])].concat());
+    assert_eq!(empty.and_then(|pooled| pooled.whole_kits()), pooled.whole_kits());
 }
 
 #[test]

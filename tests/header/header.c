@@ -1,5 +1,5 @@
 /* What the header says beyond the functions' contracts: its helpers' lengths suffice and are not one too many, its limits are the
- * library's, refusals have names, and a null pointer may stand for an empty list. It is C and C++. */
+ * library's, empty kits are passed over, refusals have names, and a null pointer may stand for an empty list. It is C and C++. */
 #include <stdio.h>
 #include <stdlib.h>
 #include <string.h>
@@ -130,6 +130,44 @@ static void test_first(void)
     HOLD(words[KITFINDER_FIRST_ANSWER] == 77);
 }
 
+/* Kits without an item, before and behind one that all five stacks hold: they are in no pair and in no count, and need no place and no
+ * allowance, but they need their words of the work list. The first kit passes over them and counts them. */
+static void test_empty(void)
+{
+    static const uint32_t ends[5] = { 0, 0, 1, 1, 1 };
+    static const uint16_t item[1] = { 2 };
+    static uint32_t work[16 * (5 + 5 + 1 + 15 + 3) + 64];
+    size_t words = sizeof work / sizeof *work;
+    HOLD(make_sets(right_ends, right_items, 5, 3, 0) == 15);
+    HOLD(kitfinder_work_words(3, ends, 5, right_ends, 5) == words);
+    for (uint32_t rule = KITFINDER_MERGE; rule <= KITFINDER_WEIGHED; rule++) {
+        uint64_t checks = rule == KITFINDER_CHECK ? 5 : 0;
+        uint16_t pairs[11] = { 0 };
+        pairs[10] = 77;
+        kitfinder_join(3, ends, 5, item, 1, right_ends, 5, right_items, 15, 1, ranks, 3, (uint32_t)checks, rule, 0, 0, -1, 0, work, words,
+                       pairs, 10, answer);
+        HOLD(answer[0] == KITFINDER_ACCEPTED && answer[3] == 5 && answer[4] == 5 - checks && answer[5] == checks);
+        HOLD(answer[6] == checks && answer[7] == 0 && answer[8] == 0);
+        for (uint16_t stack = 0; stack < 5; stack++)
+            HOLD(pairs[2 * stack] == 2 && pairs[2 * stack + 1] == stack);
+        HOLD(pairs[10] == 77);
+        kitfinder_join(3, ends, 5, item, 1, right_ends, 5, right_items, 15, 1, ranks, 3, UINT32_MAX, rule, 0, 0, -1, 0, work, words - 1,
+                       pairs, 10, answer);
+        HOLD(answer[0] == KITFINDER_SHORT_WORK);
+        kitfinder_join(3, ends, 2, NULL, 0, right_ends, 5, right_items, 15, 1, ranks, 3, 0, rule, 0, 0, -1, 0, work, words, NULL, 0,
+                       answer);
+        HOLD(answer[0] == KITFINDER_ACCEPTED);
+        for (size_t count = 3; count < KITFINDER_JOIN_ANSWER; count++)
+            HOLD(answer[count] == 0);
+    }
+    kitfinder_first(3, ends, 5, item, 1, right_items, 3, answer);
+    HOLD(answer[0] == KITFINDER_ACCEPTED && answer[3] == 1 && answer[4] == 2 && answer[5] == 3);
+    kitfinder_first(3, ends, 5, item, 1, right_items, 2, answer);
+    HOLD(answer[0] == KITFINDER_ACCEPTED && answer[3] == 0 && answer[4] == 0 && answer[5] == 5);
+    kitfinder_first(3, ends, 2, NULL, 0, right_items, 3, answer);
+    HOLD(answer[0] == KITFINDER_ACCEPTED && answer[3] == 0 && answer[4] == 0 && answer[5] == 2);
+}
+
 /* A stack record of number 1 with tags of so many numbers, from one on. */
 static size_t make_stack(uint8_t *file, size_t from, size_t count)
 {
@@ -164,14 +202,13 @@ static void test_pooled(void)
 static void test_null(void)
 {
     static uint32_t work[1024];
-    uint16_t pairs[8];
     uint32_t empty[2] = { 0, 0 };
     HOLD(kitfinder_work_words(0, NULL, 0, NULL, 0) == 64 && kitfinder_file_bytes(NULL, 0, NULL, 0) == 0);
     for (uint32_t rule = 0; rule < 3; rule++) {
         kitfinder_join(0, NULL, 0, NULL, 0, NULL, 0, NULL, 0, 1, NULL, 0, 0, rule, 0, 0, 0, 0, work, 64, NULL, 0, answer);
         HOLD(answer[0] == 0 && answer[3] == 0);
-        kitfinder_join(0, empty, 2, NULL, 0, empty, 2, NULL, 0, 1, NULL, 0, 0, rule, 0, 0, 0, 0, work, 128, pairs, 8, answer);
-        HOLD(answer[0] == 0);
+        kitfinder_join(0, empty, 2, NULL, 0, empty, 2, NULL, 0, 1, NULL, 0, 0, rule, 0, 0, 0, 0, work, 128, NULL, 0, answer);
+        HOLD(answer[0] == 0 && answer[3] == 0);
         kitfinder_join(0, NULL, 0, NULL, 0, empty, 2, NULL, 0, 1, NULL, 0, 0, rule, 0, 0, 0, 0, work, 128, NULL, 0, answer);
         HOLD(answer[0] == 0 && answer[3] == 0);
         kitfinder_join(0, NULL, 0, NULL, 0, NULL, 0, NULL, 0, 1, NULL, 0, 0, rule, 0, 0, 0, 0, NULL, 0, NULL, 0, answer);
@@ -180,7 +217,7 @@ static void test_null(void)
     kitfinder_first(0, NULL, 0, NULL, 0, NULL, 0, answer);
     HOLD(answer[0] == 0 && answer[3] == 0 && answer[4] == 0 && answer[5] == 0);
     kitfinder_first(0, empty, 2, NULL, 0, NULL, 0, answer);
-    HOLD(answer[0] == 0 && answer[3] == 1 && answer[4] == 0 && answer[5] == 1);
+    HOLD(answer[0] == 0 && answer[3] == 0 && answer[4] == 0 && answer[5] == 2);
     const uint16_t item = 0;
     kitfinder_first(1, NULL, 0, NULL, 0, &item, 1, answer);
     HOLD(answer[0] == 0 && answer[3] == 0 && answer[5] == 0);
@@ -223,9 +260,10 @@ int main(void)
 {
     test_largest();
     test_first();
+    test_empty();
     test_pooled();
     test_null();
     test_names();
-    printf("header: %s\n", failures ? "FAILED" : "helpers, limits, null and names hold");
+    printf("header: %s\n", failures ? "FAILED" : "helpers, limits, empty kits, null and names hold");
     return failures > 0;
 }

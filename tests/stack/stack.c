@@ -175,24 +175,35 @@ static size_t add_set(uint32_t *ends, uint16_t *items, size_t sets, uint32_t sha
     return sets + 1;
 }
 
-/* Left sets along one path as long as a set can be: 0 prefixes of it, 1 prefixes with an item of their own, 2 none of these; and in
- * each the whole path four times. Each prefix is there, or as many as a collection holds. The right sets hold the path whole, or
- * half of it. */
+/* Left sets along one path as long as a set can be: 0 prefixes of it, 1 prefixes with an item of their own, 2 none of these; in each the
+ * whole path four times, and an empty set first and last. Each prefix is there, or as many as a collection holds. The right sets hold
+ * the path whole, or half of it. */
 enum { SHAPES = 3, LONGEST = KITFINDER_MAX_SET_LENGTH, STEP = LONGEST * LONGEST / (3 * ENTRIES / 2) + 1 };
 static void make_sets(int shape)
 {
     t = 2 * LONGEST;
-    lefts = rights = 0;
+    rights = 0;
+    lefts = add_set(left_ends, left_items, 0, 0, t);
     for (uint32_t k = 1; shape < 2 && k <= LONGEST; k += STEP)
         lefts = add_set(left_ends, left_items, lefts, shape ? k - 1 : k, shape ? LONGEST + k - 1 : 0);
     for (uint32_t k = 0; k < 4; k++)
         lefts = add_set(left_ends, left_items, lefts, LONGEST, 0);
+    lefts = add_set(left_ends, left_items, lefts, 0, t);
     for (uint32_t k = 0; k < 8; k++)
         rights = add_set(right_ends, right_items, rights, k % 3 == 2 ? LONGEST / 2 : LONGEST, 0);
     for (uint32_t i = 0; i < t; i++)
         ranks[i] = (uint16_t)i;
     budget = UINT32_MAX;
     places = PLACES;
+}
+
+/* Empty left sets alone, as many as there can be, beside the right sets that are there. They need no place and no check. */
+static void make_empty(void)
+{
+    for (lefts = 0; lefts < SETS;)
+        lefts = add_set(left_ends, left_items, lefts, 0, t);
+    budget = 0;
+    places = 0;
 }
 
 static size_t most;
@@ -224,6 +235,9 @@ static size_t join_at(uint32_t depth, uint32_t by)
         more(taken("kitfinder_join", KITFINDER_JOIN_STACK, join));
         refused("kitfinder_join", answer[0] == 8 ? 8 : 9);
     }
+    make_empty();
+    more(taken("kitfinder_join", KITFINDER_JOIN_STACK, join));
+    accepted("kitfinder_join");
     size_t bytes = most;
     most = before;
     more(bytes);
@@ -238,8 +252,8 @@ static void find(size_t items, uint64_t number)
     refused("kitfinder_first", number);
 }
 
-/* Searches in long kits, in 4,096 of them and in none, found at once, at the last place or not at all; and each refusal. The stack's
- * items are those of the path that make_sets has. */
+/* Searches in long kits, in 4,096 of them, in as many empty ones and in none, found at once, at the last place or not at all; and each
+ * refusal. The stack's items are those of the path that make_sets has. */
 static void find_first(void)
 {
     for (int shape = 0; shape < SHAPES; shape++) {
@@ -263,6 +277,10 @@ static void find_first(void)
         find(LONGEST, 6);
     }
     t = TAGS;
+    make_empty();
+    find(LONGEST, 0);
+    find(0, 0);
+    find(LONGEST + 1, 5);
     lefts = 0;
     find(LONGEST, 0);
     find(LONGEST + 1, 5);

@@ -29,7 +29,7 @@ fn probe(w: &Workload, rows: &mut Vec<u64>, pairs: &mut [[u16; 2]]) -> usize {
     w.right.set(0).iter().for_each(|&item| rows[item as usize / 64] |= 1 << (item % 64));
     let mut n = 0;
     for (k, set) in w.left.iter().enumerate() {
-        if set.iter().all(|&item| rows[item as usize / 64] >> (item % 64) & 1 == 1) {
+        if !set.is_empty() && set.iter().all(|&item| rows[item as usize / 64] >> (item % 64) & 1 == 1) {
             pairs[n] = [k as u16, 0];
             n += 1;
         }
@@ -42,15 +42,14 @@ fn join_rows<const W: usize>(w: &Workload, rows: &mut Vec<u64>, pairs: &mut [[u1
     rows.clear();
     rows.resize(w.t * W, 0);
     let (rows, _) = rows.as_chunks_mut::<W>();
-    let mut all = [0; W];
     for (s, set) in w.right.iter().enumerate() {
-        all[s / 64] |= 1 << (s % 64);
         set.iter().for_each(|&item| rows[item as usize][s / 64] |= 1 << (s % 64));
     }
     let mut n = 0;
     for (k, set) in w.left.iter().enumerate() {
-        let mut shared = all;
-        for &item in set {
+        let Some((&first, others)) = set.split_first() else { continue };
+        let mut shared = rows[first as usize];
+        for &item in others {
             let mut any = 0;
             for (word, other) in shared.iter_mut().zip(&rows[item as usize]) {
                 *word &= other;
@@ -116,13 +115,8 @@ impl BitRows {
         known.clear(w.left.len());
         let mut n = 0;
         for (k, set) in w.left.iter().enumerate() {
-            if set.is_empty() {
-                (0..w.right.len()).for_each(|s| pairs[n + s] = [k as u16, s as u16]);
-                n += w.right.len();
-                continue;
-            }
             let mut common = set.iter().fold(u64::MAX, |common, &item| common & blocks[item as usize]);
-            if common == 0 {
+            if set.is_empty() || common == 0 {
                 continue;
             }
             if let Some(same) = known.find(w, k, set) {

@@ -1,5 +1,5 @@
 //! The first kit of one stack by a plain loop. It makes the library's tests in the same order and refuses as it does, marks the stack's
-//! items in a local bit set, and goes through the kits until one has all its items marked.
+//! items in a local bit set, and goes through the kits until one that is not empty has all its items marked.
 
 use kitfinder::{Collection, Refusal, Side, MAX_ENTRIES, MAX_ITEMS, MAX_SETS, MAX_SET_LENGTH};
 
@@ -39,7 +39,7 @@ pub fn first(t: u32, kits: Collection, stack: &[u16]) -> Result<(Option<usize>, 
     let mut start = 0;
     for (k, &end) in kits.ends.iter().enumerate() {
         let end = end as usize;
-        if kits.items[start..end].iter().all(|&item| marks[item as usize / 64] >> (item % 64) & 1 == 1) {
+        if start < end && kits.items[start..end].iter().all(|&item| marks[item as usize / 64] >> (item % 64) & 1 == 1) {
             return Ok((Some(k), k + 1));
         }
         start = end;

@@ -215,9 +215,6 @@ impl Peer for Limit {
         self.grown.sets.resize(w.right.items.len(), 0);
         self.levels.resize_with(256, Vec::new);
         self.runs.clear(w.left.len());
-        for k in self.tree.ends(ROOT) {
-            self.runs.add(k, 0..w.right.len() as u16);
-        }
         let mut walk = Walk {
             w,
             limit: self.limit,

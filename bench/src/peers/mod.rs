@@ -23,7 +23,7 @@ pub use pretti::Pretti;
 use crate::workloads::Workload;
 
 pub trait Peer {
-    /// Writes the pairs, left place and right place, and says how many there are.
+    /// Writes the pairs, left place and right place, and says how many there are. An empty left set has none.
     fn join(&mut self, w: &Workload, pairs: &mut [[u16; 2]]) -> usize;
 }
 

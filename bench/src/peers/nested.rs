@@ -1,5 +1,5 @@
-//! A nested loop with marks: document 002's signature nested loop, in memory. Every left set against every right set, first by a word in
-//! which each item sets one of 64 bits, then by a merge of the items.
+//! A nested loop with marks: document 002's signature nested loop, in memory. Every left set that has an item against every right set,
+//! first by a word in which each item sets one of 64 bits, then by a merge of the items.
 
 use super::{is_within, Peer};
 use crate::workloads::{Sets, Workload};
@@ -20,7 +20,7 @@ impl Peer for NestedLoop {
         mark_all(&w.left, &mut self.left);
         mark_all(&w.right, &mut self.right);
         let mut n = 0;
-        for (k, (set, mark)) in w.left.iter().zip(&self.left).enumerate() {
+        for (k, (set, mark)) in w.left.iter().zip(&self.left).enumerate().filter(|(_, (set, _))| !set.is_empty()) {
             for (s, other) in self.right.iter().enumerate() {
                 if mark & !other == 0 && is_within(set, w.right.set(s)) {
                     pairs[n] = [k as u16, s as u16];

@@ -46,9 +46,6 @@ impl Peer for Pretti {
         self.tree.build(&self.left, w.left.len(), u16::MAX);
         self.levels.resize_with(256, Vec::new);
         self.runs.clear(w.left.len());
-        for k in self.tree.ends(ROOT) {
-            self.runs.add(k, 0..w.right.len() as u16);
-        }
         let mut walk = Walk { right: &self.right, tree: &self.tree, runs: &mut self.runs };
         for child in self.tree.children(ROOT) {
             walk.visit(child, self.right.list(self.tree.node(child).rank as usize), &mut self.levels);

@@ -7,13 +7,13 @@ use mathlib.Core.Bool.{Bool, true, false, cond, _&&_, _||_, or-false}
 use native.Mathlib.Nat.{sub-zero}
 use native.Mathlib.Numerals.{add-one}
 use native.Mathlib.Omega.{arith}
-use borrow.Author.Tests.{ltb-true}
+use borrow.Author.Tests.{ltb-true, lt-ltb}
 use lib.Dec.{ltb, leb}
 use lib.ListN.{length, getD, drop, drop-of-length-le, replicate}
 use lib.Seq.{drop-cons, take-length}
 use Rattle.lists.specs.Lists.{all, memb, rising, slice}
 use Rattle.lists.proofs.Bools.{and-left, and-right}
-use Rattle.lists.proofs.Slices.{slice-from}
+use Rattle.lists.proofs.Slices.{slice-from, slice-past, length-slice}
 use Rattle.lists.proofs.Throughout.{all-at}
 use Rattle.bit_sets.specs.BitSets.{member, PartFits, InsertedAll}
 use Rattle.bit_sets.proofs.Members.{no-member}
@@ -21,10 +21,20 @@ use Rattle.sets.specs.Limits.{maxSetLength}
 use Rattle.sets.specs.Collections.{between, setsFrom, goodItems, firstBadFrom, firstBad, contained}
 use Rattle.sets.specs.declared.Verdict.the-variants.{Good}
 use Rattle.sets.proofs.Good.{good-step, good-next, set-item}
-use Rattle.sets.proofs.Containment.{contained-subset}
+use Rattle.sets.proofs.Containment.{contained-none, contained-subset}
 use Rattle.first_spec.specs.First.{foundAt, noneOf, firstFrom, firstContained}
 use Rattle.first_spec.proofs.FirstLaws.{first-agree}
 use Rattle.first_search.specs.Searching.{CanSearch, allMarked, firstMarked}
+
+-- the left set from start to end: where it has items they decide, and where it is empty it is not marked
+module _ (marks items : List ℕ) {start end : ℕ} where
+  pub marked-some : end ≤ length items → start < end
+      → all (member marks) (slice start end items) ≡ allMarked marks (slice start end items)
+  marked-some within some =
+      rw (lt-ltb 0 (length (slice start end items)) (omega (arith, length-slice start end items within)))
+
+  pub marked-none : end ≤ start → false ≡ allMarked marks (slice start end items)
+  marked-none none = rw (slice-past start end items none)
 
 -- the walk over the sets of a collection, by the ends that are left
 module _ (test : List ℕ → Bool) (ends items : List ℕ) (k start : ℕ) where
@@ -108,9 +118,11 @@ module _ (words : ℕ) (right : List ℕ) {marks : List ℕ}
       (ap (memb x) (slice-from 0 (length right) right ∙ rw (sub-zero (length right)) (take-length right))) (no-member words x)
       ∙ or-false (memb x right)
 
-  marked-set : (left : List ℕ) → all (member marks) left ≡ contained left right
+  marked-set : (left : List ℕ) → allMarked marks left ≡ contained left right
   unfolding all
-  marked-set left = go left ∙ sym (contained-subset left right)
+  marked-set [] = sym (contained-none right)
+  marked-set (i ∷ left) =
+      rw (lt-ltb 0 (length (i ∷ left)) (omega arith)) (go (i ∷ left) ∙ sym (contained-subset (i ∷ left) right (omega arith)))
     where
       go : (l : List ℕ) → all (member marks) l ≡ all (λ x. memb x right) l
       go [] = refl

@@ -2,7 +2,8 @@
 use Prim.Native.Nat.{ℕ, _*_, _≤_}
 use mathlib.Core.Path.{_≡_}
 use mathlib.Core.List.{List}
-use mathlib.Core.Bool.{Bool}
+use mathlib.Core.Bool.{Bool, _&&_}
+use lib.Dec.{ltb}
 use lib.ListN.{length}
 use Rattle.lists.specs.Lists.{all}
 use Rattle.bit_sets.specs.BitSets.{member}
@@ -17,10 +18,10 @@ pub record CanSearch (ends items marks : List ℕ) : Type 0 where
   pub wide : T ≤ 64 * length marks
   pub good : firstBad T ends items ≡ Good
 
--- whether all items of a left set are marked
+-- whether a left set has items and all of them are marked
 abbrev pub allMarked : List ℕ → List ℕ → Bool
-allMarked marks set = all (member marks) set
+allMarked marks set = ltb 0 (length set) && all (member marks) set
 
--- the first left set whose items are all marked
+-- the first left set of which this holds
 abbrev pub firstMarked : List ℕ → List ℕ → List ℕ → Search
 firstMarked ends items marks = firstFrom (allMarked marks) 0 (setsOf ends items)

@@ -1,5 +1,5 @@
 // The first left set that is contained in one right set: the right set's items as a bit set, and the left sets probed one by one,
-// in place order, until one has all its items there. Nothing is sorted and no index is built.
+// in place order, until one has items and all of them are there. Nothing is sorted and no index is built.
 use bit_sets::contains_part;
 use bit_sets::insert_part;
 use first_spec::FirstAnswer;
@@ -15,8 +15,10 @@ use sets::Tested;
 const ITEM_WORDS: usize = (MAX_ITEMS as usize) / 64;
 
 ghost use mathlib.Core.Path.{_≡_};
+ghost use Rattle.lists.specs.Lists.{slice};
+ghost use Rattle.bit_sets.specs.BitSets.{PartFits};
 ghost use Rattle.first_spec.specs.First.{firstTest, firstAnswer};
-ghost use Rattle.first_search.specs.Searching.{CanSearch, firstMarked};
+ghost use Rattle.first_search.specs.Searching.{CanSearch, allMarked, firstMarked};
 
 // What is lent can be searched: T, the left sets, then the right set.
 fn test_first(t: u32, left_ends: &[u32], left_items: &[u16], right: &[u16]) -> Tested
@@ -34,7 +36,15 @@ fn test_first(t: u32, left_ends: &[u32], left_items: &[u16], right: &[u16]) -> T
     test_lone(t, 0, right)
 }
 
-// The first left set whose items are all marked.
+// Whether the left set from one end up to the next has items and all of them are marked.
+fn is_marked(marks: &[u64], items: &[u16], start: usize, end: usize) -> bool
+    requires { ⌜ PartFits (now marks) (now items) start end ⌝ }
+    ensures { λ r. ⌜ r ≡ allMarked (now (marks .entry)) (slice start end (now (items .entry))) ⌝ }
+{
+    start < end && contains_part(marks, items, start, end)
+}
+
+// The first left set that has items and all of them marked.
 fn search(left_ends: &[u32], left_items: &[u16], marks: &[u64]) -> Search
     requires { ⌜ CanSearch (now «left_ends») (now «left_items») (now marks) ⌝ }
     ensures { λ r. ⌜ r ≡ firstMarked (now («left_ends» .entry)) (now («left_items» .entry)) (now (marks .entry)) ⌝ }
@@ -43,7 +53,7 @@ fn search(left_ends: &[u32], left_items: &[u16], marks: &[u64]) -> Search
     let mut start: usize = 0;
     while k < left_ends.len() {
         let end = left_ends[k] as usize;
-        if contains_part(marks, left_items, start, end) {
+        if is_marked(marks, left_items, start, end) {
             return Search {
                 found: true,
                 place: k,

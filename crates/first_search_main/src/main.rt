@@ -40,9 +40,19 @@ fn run_shelf() {
     );
 }
 
-// Kits {0} and {}, with an item past the last end; no kits; no items.
+// Kits {} and {1}; kits {0} and {}, with an item past the last end; kits {} and {}, with a stack that has a tag and with an empty one; no
+// kits; no items.
 fn run_empty() {
-    run_case(b"an empty kit", 2, &[1u32, 1], &[0u16, 1], &[1u16]);
+    run_case(b"an empty kit first", 2, &[0u32, 1], &[1u16], &[1u16]);
+    run_case(b"an empty kit last", 2, &[1u32, 1], &[0u16, 1], &[1u16]);
+    run_case(b"only empty kits", 2, &[0u32, 0], &[1u16], &[1u16]);
+    run_case(
+        b"only empty kits, an empty stack",
+        2,
+        &[0u32, 0],
+        &[1u16],
+        &[0u16; 0],
+    );
     run_case(b"no kits", 2, &[0u32; 0], &[0u16, 1], &[1u16]);
     run_case(b"no items", 0, &[0u32, 0], &[0u16; 0], &[0u16; 0]);
 }

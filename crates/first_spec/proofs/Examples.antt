@@ -49,12 +49,20 @@ examples =
     ∷ shelf (1 ∷ 3 ∷ []) (found 1 2)
     ∷ shelf (0 ∷ 2 ∷ 3 ∷ []) (found 2 3)
     ∷ shelf (2 ∷ 3 ∷ []) (none 3)
+    -- an empty left set is passed over and counts among those compared: first, and between others; first and last where none is found
+    ∷ example 1 (0 ∷ 1 ∷ []) (0 ∷ []) (0 ∷ []) (found 1 2)
+    ∷ example 2 (1 ∷ 1 ∷ 2 ∷ []) (1 ∷ 0 ∷ []) (0 ∷ []) (found 2 3)
+    ∷ example 2 (0 ∷ 1 ∷ []) (1 ∷ []) (0 ∷ []) (none 2)
+    ∷ example 2 (1 ∷ 1 ∷ []) (1 ∷ []) (0 ∷ []) (none 2)
+    -- left sets {}, {}: none of them, with an item in the right set and without
+    ∷ example 1 (0 ∷ 0 ∷ []) [] (0 ∷ []) (none 2)
+    ∷ example 1 (0 ∷ 0 ∷ []) [] [] (none 2)
     -- left sets {} and {0}, in this order and the other, with an empty right set
-    ∷ example 1 (0 ∷ 1 ∷ []) (0 ∷ []) [] (found 0 1)
-    ∷ example 1 (1 ∷ 1 ∷ []) (0 ∷ []) [] (found 1 2)
+    ∷ example 1 (0 ∷ 1 ∷ []) (0 ∷ []) [] (none 2)
+    ∷ example 1 (1 ∷ 1 ∷ []) (0 ∷ []) [] (none 2)
     -- no left sets; no items at all, with a left set and without
     ∷ example 4 [] [] (0 ∷ 1 ∷ []) (none 0)
-    ∷ example 0 (0 ∷ []) [] [] (found 0 1)
+    ∷ example 0 (0 ∷ []) [] [] (none 1)
     ∷ example 0 [] [] [] (none 0)
     -- left sets {0}, {1}, {1}: of two equal ones the first
     ∷ example 2 (1 ∷ 2 ∷ 3 ∷ []) (0 ∷ 1 ∷ 1 ∷ []) (1 ∷ []) (found 1 2)

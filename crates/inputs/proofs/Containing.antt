@@ -1,9 +1,11 @@
--- The merge of two rising lists that decides containment: what is left of both decides it, and both rise.
+-- The merge of two rising lists that decides containment where the left one has an item: what is left of both decides it, and both
+-- rise.
 use Prim.Native.Nat.{ℕ, suc, _+_, _≤_, _<_}
 use mathlib.Core.Path.{_≡_, sym, _∙_}
-use mathlib.Core.List.{List}
+use mathlib.Core.List.{List, [], _∷_}
 use mathlib.Core.Bool.{true, false}
 use native.Mathlib.Numerals.{add-one}
+use native.Mathlib.Omega.{arith}
 use lib.ListN.{length, getD, drop, drop-of-length-le}
 use lib.Seq.{drop-cons}
 use Rattle.lists.specs.Lists.{rising, subset}
@@ -11,16 +13,21 @@ use Rattle.lists.proofs.Throughout.{subset-nil, subset-none}
 use Rattle.lists.proofs.Rising.{rising-tail}
 use Rattle.lists.proofs.Merging.{subset-low, subset-same, subset-high}
 use Rattle.sets.specs.Collections.{contained}
-use Rattle.sets.proofs.Containment.{contained-subset}
+use Rattle.sets.proofs.Containment.{contained-none, contained-subset}
 
 pub record Containing (left right : List ℕ) (i j : ℕ) : Type 0 where
   pub left-rises : rising (drop i left) ≡ true
   pub right-rises : rising (drop j right) ≡ true
   pub same : subset (drop i left) (drop j right) ≡ contained left right
 
-pub containing-start : (left right : List ℕ) → rising left ≡ true → rising right ≡ true → Containing left right 0 0
-containing-start left right rise rises =
-    record { left-rises = rise; right-rises = rises; same = sym (contained-subset left right) }
+-- an empty left set
+pub containing-none : (left right : List ℕ) → length left ≡ 0 → false ≡ contained left right
+containing-none [] right none = sym (contained-none right)
+containing-none (i ∷ left) right none = absurd (omega arith)
+
+pub containing-start : (left right : List ℕ) → 0 < length left → rising left ≡ true → rising right ≡ true → Containing left right 0 0
+containing-start left right some rise rises =
+    record { left-rises = rise; right-rises = rises; same = sym (contained-subset left right some) }
 
 rising-further : (l : List ℕ) (i : ℕ) → i < length l → rising (drop i l) ≡ true → rising (drop (i + 1) l) ≡ true
 rising-further l i h r = rw (add-one i) (rising-tail (getD l i 0) (drop (suc i) l) (rw (drop-cons l i 0 h) at r))

@@ -102,11 +102,14 @@ pub fn test_work(
     Tested::Passed
 }
 
-// Whether one set of items is contained in another: both strictly rise, and one pass over them decides.
+// Whether one set of items is contained in another: both strictly rise, and one pass over them decides. An empty one is in none.
 pub fn is_contained(left: &[u16], right: &[u16]) -> bool
     requires { ⌜ (rising (now left) ≡ true) × (rising (now right) ≡ true) ⌝ }
     ensures { λ r. ⌜ r ≡ contained (now (left .entry)) (now (right .entry)) ⌝ }
 {
+    if left.len() == 0 {
+        return false;
+    }
     let mut i: usize = 0;
     let mut j: usize = 0;
     while i < left.len() {

@@ -95,7 +95,7 @@ module _ {i : Input} {limit : ℕ} {ranks : List ℕ} {words : ℕ} (ok : Tests 
     walk-index = record { ground = ground; room = room }
 
     pub walk-ready : (budget : ℕ)
-        → WalkReady lay (record { limit = limit; rule = rule; budget = budget }) q w (length (i .left .ends)) (length (i .right .ends))
+        → WalkReady lay (record { limit = limit; rule = rule; budget = budget }) q w (length (i .left .ends))
     walk-ready budget =
         record {
           index = walk-index;
@@ -104,7 +104,6 @@ module _ {i : Input} {limit : ℕ} {ranks : List ℕ} {words : ℕ} (ok : Tests 
           rule = refl;
           some = positive limit (ok .settings .limit-above);
           leftCount = lefts-count;
-          rightCount = rights-count;
         }
       where
         positive : (n : ℕ) → (n ≡ 0 → ⊥) → 0 < n
@@ -112,7 +111,6 @@ module _ {i : Input} {limit : ℕ} {ranks : List ℕ} {words : ℕ} (ok : Tests 
 
     pub walk-made : {budget : ℕ} {w′ : List ℕ} {r : Walked}
         → ((q : Query) → WalkReady lay (record { limit = limit; rule = rule; budget = budget }) q w (length (i .left .ends))
-        (length (i .right .ends))
         → WalkDone lay q budget w w′ r)
         → WalkDone lay q budget w w′ r
     walk-made {budget} made = made q (walk-ready budget)
@@ -157,14 +155,13 @@ module _ {i : Input} {limit : ℕ} {ranks : List ℕ} {words : ℕ} {rule : Rule
     answer-short places short = short-places asked budget places (done .counted .within calm) (omega (arith, short, count-is))
 
     pub pairs-room : Index lay asked w → (pairs : List ℕ) → 2 * (r .at .tally .«by_path» + r .at .tally .confirmed) ≤ length pairs
-        → PairsRoom lay asked w′ (length (i .left .ends)) (length (i .right .ends)) pairs
+        → PairsRoom lay asked w′ (length (i .left .ends)) pairs
     pairs-room index pairs enough =
         record {
           index = index-framed index (done .framed) (omega arith);
           top = r .at .top;
           rows = done .rows calm;
           leftCount = lefts-count ok rule;
-          rightCount = rights-count ok rule;
           room = omega (arith, count-is);
         }
 

@@ -49,7 +49,6 @@ fn join_ready(
         (setsOf (now («right_ends» .entry)) (now («right_items» .entry)))) (now (pairs .entry)) ⌝ }
 {
     let lefts = left_ends.len();
-    let rights = right_ends.len();
     let lay = build(
         t,
         left_ends,
@@ -67,7 +66,7 @@ fn join_ready(
         budget: budget,
     };
     let mut flags = clear_flags();
-    let walked = walk(work, &mut flags, lay, st, lefts, rights);
+    let walked = walk(work, &mut flags, lay, st, lefts);
     if walked.spent {
         zero_u16(pairs);
         return JoinAnswer::Refused(Refusal::Spent);
@@ -78,7 +77,7 @@ fn join_ready(
         zero_u16(pairs);
         return JoinAnswer::Refused(Refusal::ShortPairs);
     }
-    write_pairs(work, &mut flags, lay, lefts, rights, pairs);
+    write_pairs(work, &mut flags, lay, lefts, pairs);
     JoinAnswer::Joined(Counts {
         pairs: count,
         by_path: tally.by_path,

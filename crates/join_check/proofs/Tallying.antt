@@ -5,7 +5,7 @@ use mathlib.Core.Path.{_≡_, refl, sym, ap, ap₂, _∙_}
 use mathlib.Core.List.{List, []}
 use mathlib.Core.Bool.{Bool, true, cond}
 use native.Mathlib.Omega.{arith}
-use lib.ListN.{getD, take}
+use lib.ListN.{getD}
 use Rattle.lists.specs.Lists.{all, memb, subset, sum, slice, rising}
 use Rattle.lists.proofs.Throughout.{all-after}
 use Rattle.lists.proofs.Rising.{rising-drop}
@@ -13,10 +13,12 @@ use Rattle.lists.proofs.Summing.{sum-same, sum-add}
 use Rattle.lists.proofs.Slices.{all-slice}
 use Rattle.sets.specs.Collections.{contained}
 use Rattle.sets.specs.Signatures.{signature, drops}
+use Rattle.sets.proofs.Containment.{contained-subset}
 use Rattle.join_spec.specs.Query.{Query}
-use Rattle.join_spec.specs.Walk.{Outcome, dropped, falseDrop, confirmed}
+use Rattle.join_spec.specs.Walk.{Outcome, isCandidate, dropped, falseDrop, confirmed}
 use Rattle.join_spec.specs.Counting.{isByPath, isConfirmed, isDropped, isFalse}
 use Rattle.join_spec.specs.Kinds.{Kind, pathPair, confirmedCheck, droppedCheck, falseCheck, isOf}
+use Rattle.join_spec.proofs.Outcomes.{candidate-holds, candidate-some}
 use Rattle.join_index.specs.Grouping.{leftAt, rightAt}
 use Rattle.join_index.specs.declared.Layout.{Layout}
 use Rattle.join_index.proofs.Ordering.{left-rising}
@@ -83,14 +85,15 @@ pub probe-check : {lay : Layout} {q : Query} {w : List ℕ} {k e from to : ℕ} 
     → ProbeOf q w k e p → (i s : ℕ) → from ≤ i → i < to → Word w i s → probeOutcome q w p s ≡ checkAt q k s
 probe-check {lay} {q} {w} {k} {e} {from} {to} {p} there probe i s low high word =
     let right = place-right (there .places) i s low high word in
-    let holds : subset (take e (leftAt q k)) (rightAt q s) ≡ true =
-    ap (λ (n : ℕ). subset (take e (leftAt q k)) (rightAt q n)) (word .is)
-    ∙ all-slice (λ (n : ℕ). subset (take e (leftAt q k)) (rightAt q n)) from to w (there .places .within) (there .holding) i
+    let candidate : isCandidate e (leftAt q k) (rightAt q s) ≡ true =
+    ap (λ (n : ℕ). isCandidate e (leftAt q k) (rightAt q n)) (word .is)
+    ∙ all-slice (λ (n : ℕ). isCandidate e (leftAt q k) (rightAt q n)) from to w (there .places .within) (there .holding) i
     low high
     in
     let items : subset (slice (p .from) (p .to) w) (rightAt q s) ≡ contained (getD (q .lefts) k []) (getD (q .rights) s []) =
     ap (λ (l : List ℕ). subset l (rightAt q s)) (probe .rest)
-    ∙ sym (all-after (λ (x : ℕ). memb x (rightAt q s)) e (leftAt q k) holds)
+    ∙ sym (all-after (λ (x : ℕ). memb x (rightAt q s)) e (leftAt q k) (candidate-holds e (leftAt q k) (rightAt q s) candidate))
+    ∙ sym (contained-subset (leftAt q k) (rightAt q s) (candidate-some e (leftAt q k) (rightAt q s) candidate))
     ∙ sym (there .left .index .ground .faithful k s (there .left .below) (right .below))
     in
     ap₂ (λ (a : ℕ) (b : Bool). cond (drops a (signature (getD (q .rights) s []))) dropped (cond b confirmed falseDrop))

@@ -4,10 +4,10 @@ use Prim.Native.Nat.{ℕ, _+_, _-_, _*_, _≤_}
 use mathlib.Core.Path.{_≡_}
 use mathlib.Core.List.{List, []}
 use mathlib.Core.Bool.{Bool, true}
-use lib.ListN.{length, getD, take}
-use Rattle.lists.specs.Lists.{all, count, sum, subset, slice}
+use lib.ListN.{length, getD}
+use Rattle.lists.specs.Lists.{all, count, sum, slice}
 use Rattle.join_spec.specs.Query.{Query}
-use Rattle.join_spec.specs.Walk.{Outcome, check}
+use Rattle.join_spec.specs.Walk.{Outcome, isCandidate, check}
 use Rattle.join_index.specs.Grouping.{leftAt, rightAt}
 use Rattle.join_index.specs.declared.Layout.{Layout}
 use Rattle.join_check.specs.declared.Tally.{Tally}
@@ -27,21 +27,21 @@ rowCount q is places k = count (λ s. is (checkAt q k s)) places
 abbrev pub runCount : Query → (Outcome → Bool) → List ℕ → List ℕ → ℕ
 runCount q is places lefts = sum (rowCount q is places) lefts
 
--- whether each of the right sets holds the first e ranks of the left set k
-abbrev pub holdFirst : Query → ℕ → List ℕ → ℕ → Bool
-holdFirst q e places k = all (λ s. subset (take e (leftAt q k)) (rightAt q s)) places
+-- whether each of the right sets is a candidate of the left set k after its first e ranks
+abbrev pub areCandidates : Query → ℕ → List ℕ → ℕ → Bool
+areCandidates q e places k = all (λ s. isCandidate e (leftAt q k) (rightAt q s)) places
 
 -- the left set k can be checked after e ranks against the places from one up to another
 pub record RowThere (lay : Layout) (q : Query) (w : List ℕ) (k e from to : ℕ) : Type 0 where
   pub left : LeftThere lay q w k
   pub places : PlacesThere lay q w from to
-  pub holding : holdFirst q e (slice from to w) k ≡ true
+  pub holding : areCandidates q e (slice from to w) k ≡ true
 
 -- the left sets at the places lo up to hi of the order can be checked so
 pub record RunsThere (lay : Layout) (q : Query) (w : List ℕ) (e lo hi from to : ℕ) : Type 0 where
   pub places : PlacesThere lay q w from to
   pub within : hi ≤ length (q .lefts)
-  pub holding : all (holdFirst q e (slice from to w)) (run lay w lo hi) ≡ true
+  pub holding : all (areCandidates q e (slice from to w)) (run lay w lo hi) ≡ true
 
 -- one left set was checked against each of the places
 pub record RowChecked (lay : Layout) (w : List ℕ) (k e from to : ℕ) (tally r : Tally) : Type 0 where

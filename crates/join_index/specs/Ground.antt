@@ -5,7 +5,7 @@ use mathlib.Core.Path.{_≡_}
 use mathlib.Core.List.{List, []}
 use mathlib.Core.Bool.{Bool, true, false, _&&_}
 use lib.ListN.{length, getD}
-use Rattle.lists.specs.Lists.{count, keep, memb, subset, upto, slice}
+use Rattle.lists.specs.Lists.{count, keep, memb, upto, slice}
 use Rattle.sets.specs.Limits.{maxSets, maxItems, fullWords}
 use Rattle.sets.specs.Collections.{contained}
 use Rattle.sets.specs.Signatures.{signature}
@@ -82,7 +82,7 @@ pub record Ground (lay : Layout) (q : Query) (w : List ℕ) : Type 0 where
   -- ranks decide containment
   pub faithful :
       (k s : ℕ) → k < length (q .lefts) → s < length (q .rights)
-      → contained (getD (q .lefts) k []) (getD (q .rights) s []) ≡ subset (leftAt q k) (rightAt q s)
+      → contained (getD (q .lefts) k []) (getD (q .rights) s []) ≡ contained (leftAt q k) (rightAt q s)
   -- the sizes of the input
   pub leftFew : length (q .lefts) ≤ maxSets
   pub rightFew : length (q .rights) ≤ maxSets

@@ -8,8 +8,7 @@ use native.Mathlib.Omega.{arith}
 use borrow.Author.Tests.{leb-true, leb-false}
 use lib.Dec.{eqb, leb, ltb, eqb·suc-zero}
 use lib.ListN.{length, take, getD}
-use lib.Seq.{take-take}
-use Rattle.lists.specs.Lists.{all, count, prefix, subset, sum, upto, slice}
+use Rattle.lists.specs.Lists.{all, count, prefix, sum, upto, slice}
 use Rattle.lists.proofs.Bools.{by-test, and-left, and-right, and-both, true-false}
 use Rattle.lists.proofs.Throughout.{all-weaken}
 use Rattle.lists.proofs.Counting.{count-none, count-same-where}
@@ -22,10 +21,10 @@ use Rattle.join_index.specs.Ground.{Listing}
 use Rattle.join_index.specs.declared.Layout.{Layout}
 use Rattle.join_check.specs.Asking.{Index}
 use Rattle.join_check.specs.Runs.{run}
-use Rattle.join_check.specs.Checks.{rowCount, runCount, holdFirst, RunsThere}
+use Rattle.join_check.specs.Checks.{rowCount, runCount, areCandidates, RunsThere}
 use Rattle.join_nodes.specs.Rows.{goes, row, pathPairs}
 use Rattle.join_nodes.proofs.Prefixes.{prefix-take, prefix-length}
-use Rattle.join_nodes.proofs.Narrowing.{candidate-path, candidate-holds, listing-same}
+use Rattle.join_nodes.proofs.Narrowing.{candidate-path, listing-same}
 use Rattle.join_nodes.proofs.RowLaws.{MetOnly, row-stops, row-merges}
 use Rattle.join_nodes.proofs.PathLaws.{paths-many}
 
@@ -104,19 +103,14 @@ module _ {q : Query} {path : List ℕ} {d : ℕ} {lefts : List ℕ} (rooted : Ro
       subst (λ (n : ℕ). goes q (take n (leftAt q k)) ≡ b) (rooted .depth)
       (sym (ap (goes q) (prefix-take path (leftAt q k) begins)) ∙ is)
 
-  -- where the candidates hold the path's first e ranks they hold those of each left set
-  pub rooted-holds : (e : ℕ) (list : List ℕ) → e ≤ d
-      → Listing (length (q .rights)) (λ s. isCandidate e path (rightAt q s)) list → all (holdFirst q e list) lefts ≡ true
-  rooted-holds e list short listing =
-      all-weaken (λ k. prefix path (leftAt q k)) (holdFirst q e list) lefts
+  -- so the path's candidates are those of each left set
+  pub rooted-candidates : (e : ℕ) (list : List ℕ) → e ≤ d
+      → Listing (length (q .rights)) (λ s. isCandidate e path (rightAt q s)) list → all (areCandidates q e list) lefts ≡ true
+  rooted-candidates e list short listing =
+      all-weaken (λ k. prefix path (leftAt q k)) (areCandidates q e list) lefts
       (λ k begins.
-      all-weaken (λ s. isCandidate e path (rightAt q s)) (λ s. subset (take e (leftAt q k)) (rightAt q s)) list
-      (λ s is.
-      subst (λ (l : List ℕ). subset l (rightAt q s) ≡ true)
-      (ap (take e) (prefix-take path (leftAt q k) begins)
-      ∙ take-take e (length path) (leftAt q k) (omega (arith, rooted .depth, short)))
-      (candidate-holds e path (rightAt q s) some is))
-      (listing-all (length (q .rights)) (λ s. isCandidate e path (rightAt q s)) list listing))
+      listing-all (length (q .rights)) (λ s. isCandidate e (leftAt q k) (rightAt q s)) list
+      (listing-left e k list begins short listing))
       (rooted .begin)
 
   module _ (list : List ℕ) (is : Outcome → Bool) (met : MetOnly is) where
@@ -157,5 +151,5 @@ runs-there {lay} {q} {path} {w} {d} {e} {lo} {hi} {from} {to} rooted index insid
         below = listing-below (length (q .rights)) (λ s. isCandidate e path (rightAt q s)) (slice from to w) listing;
       };
       within = few;
-      holding = rooted-holds rooted e (slice from to w) short listing;
+      holding = rooted-candidates rooted e (slice from to w) short listing;
     }

@@ -47,7 +47,7 @@ Unmet q d k = Listing (length (q .rights)) (λ s. isCandidate d (leftAt q k) (ri
 -- a candidate after one rank more is one before
 candidate-before : (d : ℕ) (left right : List ℕ) → isCandidate (suc d) left right ≡ true → isCandidate d left right ≡ true
 unfolding isCandidate
-candidate-before d [] right is = refl
+candidate-before d [] right is = is
 candidate-before d (r ∷ ranks) right is =
     let left = r ∷ ranks in
     and-both (and-left (seen r right) (subset (take (suc d) left) right) is)

@@ -10,7 +10,7 @@ use lib.Dec.{eqb, ltb}
 use lib.ListN.{length, take}
 use lib.Seq.{take-take, take-suc}
 use Rattle.lists.specs.Lists.{all, count, keep, memb, subset, prefix, upto, slice}
-use Rattle.lists.proofs.Bools.{and-left, and-right}
+use Rattle.lists.proofs.Bools.{and-left}
 use Rattle.lists.proofs.Counting.{count-same, count-true, count-bound}
 use Rattle.lists.proofs.Filtering.{keep-same, memb-keep, count-keep, keep-keep, keep-same-where}
 use Rattle.lists.proofs.Ranges.{all-upto, memb-upto, length-range}
@@ -35,13 +35,6 @@ candidate-path e (p ∷ ps) (x ∷ xs) right some begins short =
     ap₂ (λ (a : ℕ) (l : List ℕ). seen a right && subset l right)
     (sym (eqb-true p x (and-left (eqb p x) (prefix ps xs) begins)))
     (sym (ap (take e) (prefix-take (p ∷ ps) (x ∷ xs) begins) ∙ take-take e (length (p ∷ ps)) (x ∷ xs) short))
-
--- a candidate holds the ranks that it is a candidate after
-pub candidate-holds : (e : ℕ) (path right : List ℕ) → 0 < length path → isCandidate e path right ≡ true
-    → subset (take e path) right ≡ true
-unfolding isCandidate
-candidate-holds e [] right some is = absurd (omega arith)
-candidate-holds e (p ∷ ps) right some is = and-right (seen p right) (subset (take e (p ∷ ps)) right) is
 
 pub subset-append : (xs ys right : List ℕ) → subset (xs ++ ys) right ≡ (subset xs right && subset ys right)
 unfolding all

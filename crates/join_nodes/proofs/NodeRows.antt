@@ -18,7 +18,7 @@ use Rattle.join_index.specs.declared.Layout.{Layout}
 use Rattle.word_lists.specs.Words.{Word}
 use Rattle.join_check.specs.Asking.{LeftThere, RunThere}
 use Rattle.join_check.specs.Runs.{run, leftIn, lead}
-use Rattle.join_check.specs.Checks.{holdFirst}
+use Rattle.join_check.specs.Checks.{areCandidates}
 use Rattle.join_check.proofs.Orders.{order-left, order-within, lead-pass, lead-fail, lead-nil}
 use Rattle.kept_rows.specs.Kept.{containedAt, containing}
 use Rattle.kept_rows.specs.Keeping.{ListThere}
@@ -88,7 +88,7 @@ module _ {lay : Layout} {st : Settings} {q : Query} {path w : List ℕ} {d lo hi
           row = record {
             left = row-left;
             places = going-there going .places;
-            holding = throughout (holdFirst q d (slice from to w)) (going-there going .holding);
+            holding = throughout (areCandidates q d (slice from to w)) (going-there going .holding);
           };
           rows = going .rows;
           below = going .below;

@@ -1,5 +1,5 @@
 -- The pairs by path of left sets that end at a node: one left set's, those of many, and how the counters grow by them.
-use Prim.Native.Nat.{ℕ, _+_, _*_}
+use Prim.Native.Nat.{ℕ, _*_}
 use mathlib.Core.Path.{_≡_, refl, sym, ap, _∙_}
 use mathlib.Core.List.{List, [], _∷_}
 use mathlib.Core.Bool.{Bool, true, false, cond}
@@ -9,9 +9,9 @@ use lib.ListN.{length}
 use Rattle.lists.specs.Lists.{count, sum}
 use Rattle.lists.proofs.Counting.{count-none, count-true}
 use Rattle.join_spec.specs.Walk.{Outcome, byPath}
-use Rattle.join_spec.specs.Counting.{isByPath, isCheck}
-use Rattle.join_spec.specs.Kinds.{isOf, kinds, checkKinds}
-use Rattle.join_check.specs.Counters.{checksIn, pairsIn}
+use Rattle.join_spec.specs.Counting.{isByPath}
+use Rattle.join_spec.specs.Kinds.{isOf, checkKinds}
+use Rattle.join_check.specs.Counters.{checksIn}
 use Rattle.join_check.specs.declared.Tally.{Tally}
 use Rattle.join_check.proofs.Tallying.{tallied-sum}
 use Rattle.join_nodes.specs.Rows.{pathPairs}
@@ -26,11 +26,6 @@ sum-const c (x ∷ xs) = omega (arith, sum-const c xs, suc-mul (length xs) c)
 pub paths-all : (m c : ℕ) → pathPairs m c isByPath ≡ m * c
 unfolding pathPairs
 paths-all m c = refl
-
--- and none is checked
-pub paths-unchecked : (m c : ℕ) → pathPairs m c isCheck ≡ 0
-unfolding pathPairs
-paths-unchecked m c = refl
 
 -- one left set by path with every candidate, and many of them
 pub paths-one : (is : Outcome → Bool) (list : List ℕ) → count (λ s. is byPath) list ≡ pathPairs 1 (length list) is
@@ -57,9 +52,3 @@ module _ {m c : ℕ} {tally r : Tally} (merged : Merged m c tally r) where
     where
       none : sum (λ kind. pathPairs m c (isOf kind)) checkKinds ≡ 0
       none = unfold pathPairs sum in refl
-
-  pub merged-pairs : pairsIn r ≡ pairsIn tally + m * c
-  merged-pairs = omega (arith, tallied-sum kinds (merged .tallied), together)
-    where
-      together : sum (λ kind. pathPairs m c (isOf kind)) kinds ≡ m * c
-      together = unfold pathPairs sum in omega arith

@@ -7,9 +7,10 @@ use mathlib.Core.Bool.{true}
 use borrow.Author.Tests.{ltb-true}
 use lib.Dec.{ltb}
 use lib.ListN.{length}
-use Rattle.lists.specs.Lists.{keep, prefix, subset, upto}
+use Rattle.lists.specs.Lists.{keep, prefix, upto}
 use Rattle.lists.proofs.Filtering.{keep-same-where, keep-through}
 use Rattle.lists.proofs.Ranges.{all-upto}
+use Rattle.sets.specs.Collections.{contained}
 use Rattle.join_spec.specs.Query.{Query}
 use Rattle.join_spec.specs.Walk.{isCandidate}
 use Rattle.join_spec.proofs.Outcomes.{candidate-contained, candidate-whole}
@@ -23,7 +24,7 @@ use Rattle.join_nodes.proofs.Narrowing.{candidate-path}
 
 module _ {lay : Layout} {q : Query} {w : List ℕ} {k : ℕ} (there : LeftThere lay q w k) where
   -- ranks decide containment
-  held : (s : ℕ) → ltb s (length (q .rights)) ≡ true → containedAt q k s ≡ subset (leftAt q k) (rightAt q s)
+  held : (s : ℕ) → ltb s (length (q .rights)) ≡ true → containedAt q k s ≡ contained (leftAt q k) (rightAt q s)
   held s below =
       there .index .ground .faithful k s (there .below) (ltb-true s (length (q .rights)) below)
 

@@ -22,7 +22,7 @@ use Rattle.join_pairs.specs.Containing.{pairsWith, rowAt}
 use Rattle.join_pairs.specs.Writing.{KeptRoom, LeftRoom}
 use Rattle.join_pairs.proofs.RowPairs.{row-whole}
 
-module _ {lay : Layout} {q : Query} {w : List ℕ} {k rights at : ℕ} {was : List ℕ} (there : LeftRoom lay q w k rights at was) where
+module _ {lay : Layout} {q : Query} {w : List ℕ} {k at : ℕ} {was : List ℕ} (there : LeftRoom lay q w k at was) where
   -- the two words of the row are there
   pub row-words : (lay .«row_starts» + k < length w) × (lay .«row_ends» + k < length w)
   row-words =

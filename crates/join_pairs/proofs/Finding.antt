@@ -1,6 +1,6 @@
 -- A left set as it was found, and its candidates: its row of the pair list is that of the candidates.
 use Prim.Native.Nat.{ℕ, _+_, _-_, _≤_, _<_}
-use mathlib.Core.Path.{_≡_, sym, ap, _∙_}
+use mathlib.Core.Path.{_≡_, refl, sym, ap, _∙_}
 use mathlib.Core.List.{List}
 use mathlib.Core.Bool.{Bool, true, false}
 use native.Mathlib.Omega.{arith}
@@ -10,11 +10,13 @@ use lib.Seq.{drop-drop}
 use borrow.Author.Tests.{ltb-true}
 use Rattle.lists.specs.Lists.{all, memb, subset, rising, slice, upto}
 use Rattle.lists.specs.Writing.{Put}
+use Rattle.lists.proofs.Membership.{memb-some}
 use Rattle.lists.proofs.Throughout.{all-elim}
 use Rattle.lists.proofs.Filtering.{keep-agree}
-use Rattle.lists.proofs.Ranges.{length-range, range-upper}
+use Rattle.lists.proofs.Ranges.{range-upper}
 use Rattle.lists.proofs.Rising.{rising-drop}
 use Rattle.lists.proofs.Slices.{slice-past, frame-slice}
+use Rattle.sets.proofs.Containment.{contained-subset}
 use Rattle.join_spec.specs.Query.{Query}
 use Rattle.join_index.specs.Grouping.{leftAt, rightAt}
 use Rattle.join_index.specs.declared.Layout.{Layout}
@@ -27,8 +29,8 @@ use Rattle.join_pairs.specs.declared.candidates.Shortlist.{Shortlist}
 use Rattle.kept_rows.specs.Kept.{containedAt}
 use Rattle.join_pairs.specs.Containing.{RanksThere, pairsWith, rowAt, rowOf}
 use Rattle.join_pairs.specs.Shortlists.{FindThere, ShortlistOf, Shortlisted}
-use Rattle.join_pairs.specs.Writing.{AllRoom, RowRoom, LeftRoom}
-use Rattle.join_pairs.proofs.RowPairs.{length-pairs, row-whole, row-empty}
+use Rattle.join_pairs.specs.Writing.{RowRoom, LeftRoom}
+use Rattle.join_pairs.proofs.RowPairs.{row-whole, row-empty}
 
 rising-rest : (w : List ℕ) (from to rest : ℕ) → from ≤ rest → rising (slice from to w) ≡ true → rising (slice rest to w) ≡ true
 unfolding slice
@@ -62,28 +64,16 @@ module _ {lay : Layout} {w : List ℕ} {k : ℕ} {p : Probe} (found : Probed lay
   find-there {q} left there =
       record { index = left .index; within = found .within; below = ranks-below q left; rise = ranks-rise q left; there = there }
 
-  -- a left set without ranks pairs with every right set
-  module _ {q : Query} {rights at : ℕ} {was : List ℕ} (there : LeftRoom lay q w k rights at was) (none : p .to ≤ p .from) where
-    empty-row : rowAt q k ≡ pairsWith k (upto rights)
-    empty-row =
-        row-empty (there .left) (sym (ranks-are q (there .left)) ∙ slice-past (p .from) (p .to) w none)
-        ∙ ap (λ (n : ℕ). pairsWith k (upto n)) (there .rightCount)
-
-    pub empty-room : AllRoom at k rights was
-    empty-room =
-        record {
-          left = omega (arith, there .left .below, there .left .index .ground .leftFew);
-          right = omega (arith, there .rightCount, there .left .index .ground .rightFew);
-          room = omega (arith, there .room, ap length empty-row, length-pairs k (upto rights), length-range 0 rights);
-        }
-
-    pub empty-put : {r : ℕ} {u : List ℕ} → Put was at (pairsWith k (upto rights)) r u → Put was at (rowAt q k) r u
-    empty-put put = rw empty-row put
+  -- a left set without ranks has no pair
+  pub empty-put : {q : Query} {at : ℕ} {was : List ℕ} → LeftRoom lay q w k at was → p .to ≤ p .from → Put was at (rowAt q k) at was
+  empty-put {q} there none =
+      let row = row-empty (there .left) (sym (ranks-are q (there .left)) ∙ slice-past (p .from) (p .to) w none) in
+      rw row (record { written = refl; past = omega arith })
 
   -- the candidates
   module _ {r : ℕ} {v : List ℕ} {c : Shortlist} (pivot : memb r (slice (p .from) (p .to) w) ≡ true)
       (listed : Shortlisted lay w (p .from) (p .to) r v c)
-      {q : Query} {rights at : ℕ} {was : List ℕ} (there : LeftRoom lay q w k rights at was)
+      {q : Query} {at : ℕ} {was : List ℕ} (there : LeftRoom lay q w k at was)
     where
       shortlist : ShortlistOf lay q w (p .from) (p .to) v c
       shortlist = listed .is q (find-there (there .left) pivot)
@@ -91,9 +81,13 @@ module _ {lay : Layout} {w : List ℕ} {k : ℕ} {p : Probe} (found : Probed lay
       abbrev holding : ℕ → Bool
       holding s = subset (slice (p .from) (p .to) w) (rightAt q s)
 
+      some : 0 < length (leftAt q k)
+      some = memb-some r (leftAt q k) (ap (memb r) (sym (ranks-are q (there .left))) ∙ pivot)
+
       same : (s : ℕ) → s < length (q .rights) → holding s ≡ containedAt q k s
       same s below =
           ap (λ (l : List ℕ). subset l (rightAt q s)) (ranks-are q (there .left))
+          ∙ sym (contained-subset (leftAt q k) (rightAt q s) some)
           ∙ sym (there .left .index .ground .faithful k s (there .left .below) below)
 
       below-memb : (s : ℕ) → memb s (slice (c .from) (c .to) v) ≡ true → s < length (q .rights)

@@ -1,5 +1,5 @@
 -- The pairs of one left set, with a list of right places one by one, and with all of them.
-use Prim.Native.Nat.{ℕ, zero, suc, _+_, _-_, _*_, _≤_, _<_}
+use Prim.Native.Nat.{ℕ, zero, suc, _+_, _-_, _≤_, _<_}
 use mathlib.Core.Path.{_≡_, refl, sym, ap, _∙_}
 use mathlib.Core.List.{List, [], _∷_, _++_}
 use mathlib.Core.Bool.{Bool, true, false}
@@ -8,12 +8,12 @@ use lib.Dec.{ltb}
 use lib.ListN.{length, getD, drop, drop-of-length-le}
 use lib.Seq.{drop-cons}
 use borrow.Author.Tests.{ltb-true}
-use Rattle.lists.specs.Lists.{onto, keep, subset, range, slice, upto}
-use Rattle.lists.proofs.Throughout.{all-weaken, subset-nil}
-use Rattle.lists.proofs.Filtering.{keep-all}
+use Rattle.lists.specs.Lists.{onto, keep, range, slice, upto}
+use Rattle.lists.proofs.Filtering.{keep-none, keep-same-where}
 use Rattle.lists.proofs.Ranges.{all-upto}
 use Rattle.lists.proofs.Slices.{slice-next, slice-past}
 use Rattle.sets.specs.Collections.{contained}
+use Rattle.sets.proofs.Containment.{contained-none}
 use Rattle.join_spec.specs.Query.{Query}
 use Rattle.join_spec.specs.PairList.{ontoPair, rowFrom, pairsFrom}
 use Rattle.join_index.specs.Grouping.{leftAt, rightAt}
@@ -22,11 +22,6 @@ use Rattle.word_lists.specs.Words.{Word}
 use Rattle.join_check.specs.Asking.{LeftThere}
 use Rattle.kept_rows.specs.Kept.{containedAt}
 use Rattle.join_pairs.specs.Containing.{pairsWith, rowOf, rowAt}
-
-pub length-pairs : (k : ℕ) (places : List ℕ) → length (pairsWith k places) ≡ 2 * length places
-unfolding pairsWith
-length-pairs k [] = refl
-length-pairs k (s ∷ places) = omega (arith, length-pairs k places)
 
 -- one place after the other
 pub row-next : (p : ℕ → Bool) (k s : ℕ) (places : List ℕ)
@@ -53,18 +48,6 @@ kept-next {w} {i} {s} k word {to} more within =
 pub kept-none : (k : ℕ) (w : List ℕ) (i to : ℕ) → to ≤ i → pairsWith k (slice i to w) ≡ []
 unfolding pairsWith
 kept-none k w i to past = ap (pairsWith k) (slice-past i to w past)
-
-pub all-next : (k s rights : ℕ) → s < rights
-    → pairsWith k (range s (rights - s)) ≡ ontoPair true k s [] ++ pairsWith k (range (s + 1) (rights - (s + 1)))
-unfolding pairsWith range
-all-next k s rights more =
-    let one-more : rights - s ≡ suc (rights - (s + 1)) = omega arith in
-    let next : suc s ≡ s + 1 = omega arith in
-    rw one-more (ap (λ (n : ℕ). k ∷ s ∷ pairsWith k (range n (rights - (s + 1)))) next)
-
-pub all-none : (k s rights : ℕ) → rights ≤ s → pairsWith k (range s (rights - s)) ≡ []
-unfolding pairsWith range
-all-none k s rights past = let none : rights - s ≡ 0 = omega arith in rw none
 
 -- a row of the pair list, as the right places that are kept
 row-from : (k : ℕ) (left : List ℕ) (rights : List (List ℕ)) (r n : ℕ) → r + n ≡ length rights
@@ -100,15 +83,16 @@ unfolding pairsFrom
 pairs-none q k past = rw (drop-of-length-le (q .lefts) {i = k} past)
 
 module _ {lay : Layout} {q : Query} {w : List ℕ} {k : ℕ} (there : LeftThere lay q w k) where
-  -- a left set without ranks is contained in every right set
-  pub row-empty : leftAt q k ≡ [] → rowAt q k ≡ pairsWith k (upto (length (q .rights)))
+  -- a left set without ranks is contained in no right set
+  pub row-empty : leftAt q k ≡ [] → rowAt q k ≡ []
+  unfolding pairsWith
   row-empty none =
       row-whole q k
       ∙ ap (pairsWith k)
-      (keep-all (containedAt q k) (upto (length (q .rights)))
-      (all-weaken (λ (s : ℕ). ltb s (length (q .rights))) (containedAt q k) (upto (length (q .rights)))
+      (keep-same-where (λ (s : ℕ). ltb s (length (q .rights))) (containedAt q k) (λ s. false) (upto (length (q .rights)))
+      (all-upto (length (q .rights)))
       (λ s low.
       there .index .ground .faithful k s (there .below) (ltb-true s (length (q .rights)) low)
-      ∙ ap (λ (l : List ℕ). subset l (rightAt q s)) none
-      ∙ subset-nil (rightAt q s))
-      (all-upto (length (q .rights)))))
+      ∙ ap (λ (l : List ℕ). contained l (rightAt q s)) none
+      ∙ contained-none (rightAt q s))
+      ∙ keep-none (λ s. false) (upto (length (q .rights))) (λ s. refl))

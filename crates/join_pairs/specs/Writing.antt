@@ -26,12 +26,6 @@ pub record PushRoom (at k s : ℕ) (paired : Bool) (pairs : List ℕ) : Type 0 w
   pub right : s < maxSets
   pub room : at + length (ontoPair paired k s []) ≤ length pairs
 
--- room for the pairs of one left place with all right places
-pub record AllRoom (at k rights : ℕ) (pairs : List ℕ) : Type 0 where
-  pub left : k < maxSets
-  pub right : rights ≤ maxSets
-  pub room : at + 2 * rights ≤ length pairs
-
 -- room for the pairs of one left place with the right places that stand from one place up to another
 pub record KeptRoom (w : List ℕ) (from to k at : ℕ) (pairs : List ℕ) : Type 0 where
   pub left : k < maxSets
@@ -50,23 +44,21 @@ pub record RowRoom (lay : Layout) (q : Query) (w : List ℕ) (p : Probe) (k from
   pub room : at + length (rowOf q k (slice from to w)) ≤ length pairs
 
 -- rows are kept, and there is room for the pairs of the left set k
-pub record LeftRoom (lay : Layout) (q : Query) (w : List ℕ) (k rights at : ℕ) (pairs : List ℕ) : Type 0 where
+pub record LeftRoom (lay : Layout) (q : Query) (w : List ℕ) (k at : ℕ) (pairs : List ℕ) : Type 0 where
   pub left : LeftThere lay q w k
   pub top : ℕ
   pub rows : RowsKept lay q w top
-  pub rightCount : length (q .rights) ≡ rights
   pub room : at + length (rowAt q k) ≤ length pairs
 
 -- the pairs of the left set k were written, and of the work list only the slots changed
-pub record LeftWritten (lay : Layout) (w : List ℕ) (k rights at : ℕ) (pairs w′ pairs′ : List ℕ) (r : ℕ) : Type 0 where
+pub record LeftWritten (lay : Layout) (w : List ℕ) (k at : ℕ) (pairs w′ pairs′ : List ℕ) (r : ℕ) : Type 0 where
   pub changed : Changed (lay .slots) (lay .«row_starts») w w′
-  pub wrote : (q : Query) → LeftRoom lay q w k rights at pairs → Put pairs at (rowAt q k) r pairs′
+  pub wrote : (q : Query) → LeftRoom lay q w k at pairs → Put pairs at (rowAt q k) r pairs′
 
--- rows are kept of a query with so many left sets and right sets, and there is room for its pair list
-pub record PairsRoom (lay : Layout) (q : Query) (w : List ℕ) (lefts rights : ℕ) (pairs : List ℕ) : Type 0 where
+-- rows are kept of a query with so many left sets, and there is room for its pair list
+pub record PairsRoom (lay : Layout) (q : Query) (w : List ℕ) (lefts : ℕ) (pairs : List ℕ) : Type 0 where
   pub index : Index lay q w
   pub top : ℕ
   pub rows : RowsKept lay q w top
   pub leftCount : length (q .lefts) ≡ lefts
-  pub rightCount : length (q .rights) ≡ rights
   pub room : 2 * pairCount (q .lefts) (q .rights) ≤ length pairs

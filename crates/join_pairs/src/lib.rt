@@ -16,24 +16,17 @@ mod left;
 mod rows;
 
 // Writes the pair list of the query whose index the work list holds. Candidates go into the slots of the work list.
-pub fn write_pairs(
-    work: &mut [u32],
-    flags: &mut [u8],
-    lay: Layout,
-    lefts: usize,
-    rights: usize,
-    pairs: &mut [u16],
-)
-    requires { ⌜ Some (λ q. PairsRoom lay q (now work) lefts rights (now pairs)) ⌝ }
+pub fn write_pairs(work: &mut [u32], flags: &mut [u8], lay: Layout, lefts: usize, pairs: &mut [u16])
+    requires { ⌜ Some (λ q. PairsRoom lay q (now work) lefts (now pairs)) ⌝ }
     requires { ⌜ Clear (now flags) ⌝ }
-    ensures { λ _. ⌜ ((q : Query) → PairsRoom lay q (now (work .entry)) lefts rights (now (pairs .entry))
+    ensures { λ _. ⌜ ((q : Query) → PairsRoom lay q (now (work .entry)) lefts (now (pairs .entry))
         → now (pairs .exit)
         ≡ pairList (q .lefts) (q .rights) ++ drop (length (pairList (q .lefts) (q .rights))) (now (pairs .entry))) ⌝ }
 {
     let mut n: usize = 0;
     let mut k: usize = 0;
     while k < lefts {
-        n = write_left(work, flags, lay, k, rights, pairs, n);
+        n = write_left(work, flags, lay, k, pairs, n);
         k += 1;
     }
 }

@@ -8,14 +8,14 @@ use join_check::checks::probe_left;
 use join_index::Layout;
 use word_lists::words::word_at;
 ghost use mathlib.Core.List.{[]};
-ghost use Rattle.lists.specs.Lists.{upto, slice};
+ghost use Rattle.lists.specs.Lists.{slice};
 ghost use Rattle.lists.specs.Writing.{Put};
 ghost use Rattle.join_spec.specs.Query.{Query};
 ghost use Rattle.join_spec.specs.PairList.{ontoPair};
 ghost use Rattle.word_lists.specs.Flags.{Clear};
 ghost use Rattle.join_check.specs.Asking.{Some};
 ghost use Rattle.join_pairs.specs.Containing.{rowOf, pairsWith};
-ghost use Rattle.join_pairs.specs.Writing.{PushRoom, AllRoom, KeptRoom, RowRoom};
+ghost use Rattle.join_pairs.specs.Writing.{PushRoom, KeptRoom, RowRoom};
 ghost use Rattle.join_pairs.specs.Writing.{LeftRoom, LeftWritten};
 
 // Writes the pair of left place k and right place s where it is one.
@@ -29,20 +29,6 @@ fn push(pairs: &mut [u16], at: usize, k: usize, s: usize, paired: bool) -> usize
         return at + 2;
     }
     at
-}
-
-// Writes the pairs of an empty left set: with every right set.
-fn write_all(pairs: &mut [u16], at: usize, k: usize, rights: usize) -> usize
-    requires { ⌜ AllRoom at k rights (now pairs) ⌝ }
-    ensures { λ r. ⌜ Put (now (pairs .entry)) at (pairsWith k (upto rights)) r (now (pairs .exit)) ⌝ }
-{
-    let mut n = at;
-    let mut s: usize = 0;
-    while s < rights {
-        n = push(pairs, n, k, s, true);
-        s += 1;
-    }
-    n
 }
 
 // Writes the pairs of the left set k with the right sets of a kept row: those whose places stand from one place of the work list
@@ -88,25 +74,24 @@ fn write_row(
     n
 }
 
-// Writes the pairs of the left set k with all right sets that contain it, which are looked for.
+// Writes the pairs of the left set k with all right sets that contain it, which are looked for. An empty left set has none.
 fn search_left(
     work: &mut [u32],
     flags: &mut [u8],
     lay: Layout,
     k: usize,
-    rights: usize,
     pairs: &mut [u16],
     at: usize,
 ) -> usize
-    requires { ⌜ Some (λ q. LeftRoom lay q (now work) k rights at (now pairs)) ⌝ }
+    requires { ⌜ Some (λ q. LeftRoom lay q (now work) k at (now pairs)) ⌝ }
     requires { ⌜ Clear (now flags) ⌝ }
-    ensures wrote { λ r. ⌜ LeftWritten lay (now (work .entry)) k rights at (now (pairs .entry)) (now (work .exit))
+    ensures wrote { λ r. ⌜ LeftWritten lay (now (work .entry)) k at (now (pairs .entry)) (now (work .exit))
         (now (pairs .exit)) r ⌝ }
     ensures clear { λ _. ⌜ Clear (now (flags .exit)) ⌝ }
 {
     let p = probe_left(work, lay, k, 0);
     if p.to <= p.from {
-        return write_all(pairs, at, k, rights);
+        return at;
     }
     let r = pivot(work, lay, p.from, p.to);
     let c = find_candidates(work, flags, lay, p.from, p.to, r);
@@ -125,13 +110,12 @@ pub fn write_left(
     flags: &mut [u8],
     lay: Layout,
     k: usize,
-    rights: usize,
     pairs: &mut [u16],
     at: usize,
 ) -> usize
-    requires { ⌜ Some (λ q. LeftRoom lay q (now work) k rights at (now pairs)) ⌝ }
+    requires { ⌜ Some (λ q. LeftRoom lay q (now work) k at (now pairs)) ⌝ }
     requires { ⌜ Clear (now flags) ⌝ }
-    ensures wrote { λ r. ⌜ LeftWritten lay (now (work .entry)) k rights at (now (pairs .entry)) (now (work .exit))
+    ensures wrote { λ r. ⌜ LeftWritten lay (now (work .entry)) k at (now (pairs .entry)) (now (work .exit))
         (now (pairs .exit)) r ⌝ }
     ensures clear { λ _. ⌜ Clear (now (flags .exit)) ⌝ }
 {
@@ -139,7 +123,7 @@ pub fn write_left(
     let ends = lay.row_ends;
     let from = word_at(work, starts + k);
     if from == 0 {
-        return search_left(work, flags, lay, k, rights, pairs, at);
+        return search_left(work, flags, lay, k, pairs, at);
     }
     let to = word_at(work, ends + k);
     write_kept(work, from, to, k, pairs, at)

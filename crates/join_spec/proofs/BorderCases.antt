@@ -125,6 +125,23 @@ refuses items lefts rights limit ranks refusal =
       counts = noCounts;
     }
 
+-- one empty left set and nothing else, with neither budget nor places
+empties : ℕ → List ℕ → Case
+empties words refusal =
+    record {
+      items = 0;
+      lefts = [] ∷ [];
+      rights = [];
+      limit = 1;
+      ranks = [];
+      rule = Merge;
+      budget = 0;
+      words = words;
+      room = 0;
+      refusal = refusal;
+      counts = noCounts;
+    }
+
 borderCases : List Case
 borderCases =
     -- (2^53 + 1) + 1 rounds down twice and is below 2^53 + 2; 2^53 + (1 + 1) would not be
@@ -148,10 +165,15 @@ borderCases =
     -- m counts equal left sets and those that end at the path: at {0} all three, so 2 is below 0.75 x 3
     ∷ meets 2 (one 0 ∷ one 0 ∷ two 0 1 ∷ []) (one 0 ∷ []) (weighed (whole 1) (whole 1) (whole 0) (fin false 3 (negsuc 1)))
     (2 ∷ 2 ∷ 0 ∷ 1 ∷ 1 ∷ 0 ∷ [])
-    -- an empty left set pairs with an empty right set too; an empty right set is never seen
-    ∷ meets 1 ([] ∷ one 0 ∷ []) ([] ∷ one 0 ∷ []) Check (3 ∷ 2 ∷ 1 ∷ 1 ∷ 0 ∷ 0 ∷ [])
+    -- an empty left set pairs with no right set, an empty one or not; an empty right set is never seen
+    ∷ meets 1 ([] ∷ one 0 ∷ []) ([] ∷ one 0 ∷ []) Check (1 ∷ 0 ∷ 1 ∷ 1 ∷ 0 ∷ 0 ∷ [])
+    ∷ meets 1 (one 0 ∷ [] ∷ []) ([] ∷ one 0 ∷ []) Merge (1 ∷ 1 ∷ 0 ∷ 0 ∷ 0 ∷ 0 ∷ [])
+    ∷ meets 1 ([] ∷ [] ∷ []) (one 0 ∷ one 0 ∷ []) (weighed (whole 1) (whole 1) (whole 0) (inf false)) noCounts
     -- no items at all
-    ∷ meets 0 ([] ∷ []) ([] ∷ []) Check (1 ∷ 1 ∷ 0 ∷ 0 ∷ 0 ∷ 0 ∷ [])
+    ∷ meets 0 ([] ∷ []) ([] ∷ []) Check noCounts
+    -- an empty left set is a set of n: with T of 0 it alone asks for 16 + 64 words
+    ∷ empties 80 accepted
+    ∷ empties 79 (7 ∷ 0 ∷ 0 ∷ [])
     -- items 161 and 0 share a position: 65 and 1 modulo 64
     ∷ meets 162 (one 161 ∷ []) (one 0 ∷ []) Check (0 ∷ 0 ∷ 0 ∷ 1 ∷ 0 ∷ 1 ∷ [])
     -- falling ranks: other right sets are seen than in P3; ranks 1, 2, 3, 0: other prefixes than in P2
@@ -181,5 +203,5 @@ border-cases-right : T (all right borderCases)
 unfolding all any count sum keep memb range rising risingAfter distinct prefix setsFrom contained firstBadFrom badSet lastEnd ordered
     isPermutation position signatureFrom seen goesOn goesOnAt ending endingFrom isCandidate endingIn outcome total
     joinAnswer joinTests setsTest wordsNeeded workTest walkAnswer badSettings lt add mul ofInt right borderCases endsFrom itemsOf one two whole weighed meets shelf
-    shelfWeighed refuses same greatest accepted noCounts
+    shelfWeighed refuses empties same greatest accepted noCounts
 border-cases-right = tt

@@ -150,8 +150,8 @@ examples =
     ∷ other 257 (1 ∷ []) (256 ∷ []) (1 ∷ []) (0 ∷ []) (0 ∷ 0 ∷ 0 ∷ 1 ∷ 0 ∷ 1 ∷ []) (replicate 6 7)
     -- P6 no left sets
     ∷ other 4 [] [] (3 ∷ 5 ∷ 8 ∷ []) (0 ∷ 1 ∷ 2 ∷ 1 ∷ 3 ∷ 0 ∷ 2 ∷ 3 ∷ []) noCounts (replicate 6 7)
-    -- P7 an empty left set, two right sets
-    ∷ other 4 (0 ∷ []) [] (1 ∷ 2 ∷ []) (0 ∷ 1 ∷ []) (2 ∷ 2 ∷ 0 ∷ 0 ∷ 0 ∷ 0 ∷ []) (0 ∷ 0 ∷ 0 ∷ 1 ∷ 7 ∷ 7 ∷ [])
+    -- P7 an empty left set, two right sets: no pair, and nothing is counted (document 02, C-14)
+    ∷ other 4 (0 ∷ []) [] (1 ∷ 2 ∷ []) (0 ∷ 1 ∷ []) noCounts (replicate 6 7)
     -- P8 P3 with budget 6: refusal 8; with 7: accepted
     ∷ shelf 1 Check 6 ten (8 ∷ 0 ∷ 0 ∷ []) noCounts (replicate 10 0)
     ∷ shelf 1 Check 7 ten accepted (4 ∷ 0 ∷ 4 ∷ 7 ∷ 3 ∷ 0 ∷ []) (shelfPairs ++ 7 ∷ 7 ∷ [])

@@ -10,3 +10,4 @@ pub mod GoodSettings
 pub mod Accepted
 pub mod AcceptedRuns
 pub mod Calls
+pub mod EmptyLefts

@@ -1,10 +1,11 @@
 -- A pair is contained exactly when it comes by path or in a check that confirms it: for any limit, rule and weights.
 -- A right set that holds the first rank of a left set is seen, since its least rank is at most that one; so the walk never
 -- leaves a contained pair behind, wherever it ends. A set's ranks are its items' under a permutation, in rising order.
-use Prim.Native.Nat.{ℕ, suc}
+use Prim.Native.Nat.{ℕ, suc, _<_}
 use mathlib.Core.Path.{_≡_, refl, sym, ap, _∙_}
 use mathlib.Core.List.{List, [], _∷_}
 use mathlib.Core.Bool.{Bool, true, false, cond, _&&_, _||_, false≢true}
+use native.Mathlib.Omega.{arith}
 use lib.ListN.{length, take}
 use lib.Seq.{take-length}
 use borrow.Author.Tests.{le-leb}
@@ -17,7 +18,7 @@ use Rattle.sets.specs.Collections.{contained}
 use Rattle.sets.specs.Ordered.{isPermutation}
 use Rattle.sets.specs.Signatures.{signature, drops}
 use Rattle.sets.proofs.Ordered.{below, ordered-rising}
-use Rattle.sets.proofs.Containment.{contained-ranks}
+use Rattle.sets.proofs.Containment.{contained-none, contained-subset, contained-ranks}
 use Rattle.sets.proofs.Signatures.{contained-not-dropped}
 use Rattle.join_spec.specs.Query.{Query, inOrder}
 use Rattle.join_spec.specs.Node.{seen}
@@ -42,22 +43,36 @@ candidate-held d r ranks right rises =
     and-both
     (holder-seen r right rises (subset-elim (r ∷ take d ranks) right held r (memb-head r (take d ranks)))) held)
 
--- a right set that holds a whole left set is a candidate after any number of its ranks
-pub candidate-contained : (d : ℕ) (left right : List ℕ) → rising right ≡ true → subset left right ≡ true
+-- a right set that contains a left set is a candidate after any number of its ranks
+pub candidate-contained : (d : ℕ) (left right : List ℕ) → rising right ≡ true → contained left right ≡ true
     → isCandidate d left right ≡ true
 unfolding isCandidate
-candidate-contained d [] right rises held = refl
+candidate-contained d [] right rises held = absurd (false≢true (sym (contained-none right) ∙ held))
 candidate-contained d (r ∷ ranks) right rises held =
+    let holds = sym (contained-subset (r ∷ ranks) right (omega arith)) ∙ held in
     and-both
-    (holder-seen r right rises (subset-elim (r ∷ ranks) right held r (memb-head r ranks)))
-    (all-take (λ (x : ℕ). memb x right) d (r ∷ ranks) held)
+    (holder-seen r right rises (subset-elim (r ∷ ranks) right holds r (memb-head r ranks)))
+    (all-take (λ (x : ℕ). memb x right) d (r ∷ ranks) holds)
 
--- the candidates after all ranks are the right sets that hold them
-pub candidate-whole : (left right : List ℕ) → rising right ≡ true → isCandidate (length left) left right ≡ subset left right
-unfolding isCandidate all
-candidate-whole [] right rises = refl
+-- a candidate of a left set holds the ranks that it is a candidate after; and there are some
+pub candidate-holds : (d : ℕ) (left right : List ℕ) → isCandidate d left right ≡ true → subset (take d left) right ≡ true
+unfolding isCandidate
+candidate-holds d [] right is = absurd (false≢true is)
+candidate-holds d (r ∷ ranks) right is = and-right (seen r right) (subset (take d (r ∷ ranks)) right) is
+
+pub candidate-some : (d : ℕ) (left right : List ℕ) → isCandidate d left right ≡ true → 0 < length left
+unfolding isCandidate
+candidate-some d [] right is = absurd (false≢true is)
+candidate-some d (r ∷ ranks) right is = omega arith
+
+-- the candidates after all ranks are the right sets that contain it
+pub candidate-whole : (left right : List ℕ) → rising right ≡ true → isCandidate (length left) left right ≡ contained left right
+unfolding isCandidate
+candidate-whole [] right rises = sym (contained-none right)
 candidate-whole (r ∷ ranks) right rises =
-    candidate-held (length ranks) r ranks right rises ∙ ap (λ (l : List ℕ). subset (r ∷ l) right) (take-length ranks)
+    candidate-held (length ranks) r ranks right rises
+    ∙ ap (λ (l : List ℕ). subset (r ∷ l) right) (take-length ranks)
+    ∙ sym (contained-subset (r ∷ ranks) right (omega arith))
 
 -- what a check finds, from its three tests
 checked : (candidate drop holds : Bool) → (holds ≡ true → candidate ≡ true) → (holds ≡ true → drop ≡ false)
@@ -76,7 +91,7 @@ merging false = refl
 
 -- whatever the ending, a pair is contained exactly when it comes by path or is confirmed
 pub met-after : (e : Ending) (leftRanks rightRanks left right : List ℕ)
-    → rising rightRanks ≡ true → subset leftRanks rightRanks ≡ contained left right
+    → rising rightRanks ≡ true → contained leftRanks rightRanks ≡ contained left right
     → let o = outcomeAfter e leftRanks rightRanks byPath (check left right) in
     contained left right ≡ (isByPath o || isConfirmed o)
 met-after merged leftRanks rightRanks left right rises alike =

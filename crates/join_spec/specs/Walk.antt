@@ -2,7 +2,7 @@
 -- walk ends depends on its prefixes and on the rule's three numbers alone. Sets are in rank order where they are called ranks.
 use Prim.Native.Nat.{ℕ, zero, suc, _-_}
 use mathlib.Core.List.{List, [], _∷_, map}
-use mathlib.Core.Bool.{Bool, true, cond, _&&_}
+use mathlib.Core.Bool.{Bool, false, cond, _&&_}
 use lib.Dec.{eqb}
 use lib.ListN.{length, take}
 use Rattle.lists.specs.Lists.{subset}
@@ -29,9 +29,9 @@ unfoldable pub ending : (List ℕ → Bool) → ℕ → List ℕ → Ending
 ending goes limit [] = merged
 ending goes limit (r ∷ ranks) = endingFrom goes (limit - 1) 1 (r ∷ ranks)
 
--- whether a right set is a candidate after the first d ranks of a left set: seen, and holding them; all are for an empty one
+-- whether a right set is a candidate after the first d ranks of a left set: seen, and holding them; none is for an empty one
 unfoldable pub isCandidate : ℕ → List ℕ → List ℕ → Bool
-isCandidate d [] right = true
+isCandidate d [] right = false
 isCandidate d (r ∷ ranks) right = seen r right && subset (take d (r ∷ ranks)) right
 
 -- what becomes of a left and a right set

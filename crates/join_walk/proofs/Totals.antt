@@ -1,5 +1,5 @@
--- The counts of a query as sums over the order of its left sets: each left set counts once, an empty one pairs by path with
--- every right set, and any other adds its row from depth 1 on.
+-- The counts of a query as sums over the order of its left sets: each left set counts once, an empty one adds nothing, and any other
+-- its row from depth 1 on.
 use Prim.Native.Nat.{ℕ, zero, suc, _+_, _-_, _<_}
 use mathlib.Core.Path.{_≡_, refl, sym, ap, ap₂, _∙_}
 use mathlib.Core.List.{List, [], _∷_}
@@ -8,31 +8,22 @@ use native.Mathlib.Omega.{arith}
 use lib.Dec.{eqb}
 use lib.ListN.{length, getD}
 use borrow.Author.Tests.{le-leb, lt-ltb}
-use Rattle.lists.specs.Lists.{onto, count, keep, sum, upto}
+use Rattle.lists.specs.Lists.{count, keep, sum, upto}
 use Rattle.lists.proofs.Bools.{and-both}
-use Rattle.lists.proofs.Counting.{count-same}
+use Rattle.lists.proofs.Counting.{count-same, count-none}
+use Rattle.lists.proofs.Filtering.{sum-keep}
 use Rattle.lists.proofs.Summing.{sum-append, sum-same, sum-add}
-use Rattle.lists.proofs.Ranges.{sum-places, count-places, length-range}
+use Rattle.lists.proofs.Ranges.{sum-places, count-places}
 use Rattle.join_spec.specs.Query.{Query}
 use Rattle.join_spec.specs.Walk.{Outcome, byPath, Ending, ending, endingIn, outcome, check, outcomeAfter, isCandidate, endingFrom}
 use Rattle.join_spec.specs.Counting.{total}
 use Rattle.counting_sort.specs.Groups.{groupsFrom}
 use Rattle.join_index.specs.Grouping.{leftAt, rightAt, keyAt, orderFrom}
 use Rattle.join_index.proofs.Ordering.{keyAt-below}
-use Rattle.join_nodes.specs.Rows.{goes, row, outcomeFrom, pathPairs}
+use Rattle.join_nodes.specs.Rows.{goes, row, outcomeFrom}
 use Rattle.join_nodes.proofs.Groups.{within, within-zero, within-suc, apart}
 use Rattle.join_nodes.proofs.BlockLaws.{key-ended, key-longer}
-use Rattle.join_nodes.proofs.PathLaws.{paths-one}
-
-sum-keep : (f : ℕ → ℕ) (p : ℕ → Bool) (l : List ℕ) → sum f (keep p l) ≡ sum (λ a. cond (p a) (f a) 0) l
-unfolding sum keep
-sum-keep f p [] = refl
-sum-keep f p (x ∷ xs) = kept (p x) (sum-keep f p xs)
-  where
-    kept : (b : Bool) → sum f (keep p xs) ≡ sum (λ a. cond (p a) (f a) 0) xs
-        → sum f (onto b x (keep p xs)) ≡ cond b (f x) 0 + sum (λ a. cond (p a) (f a) 0) xs
-    kept true e = ap (λ (n : ℕ). f x + n) e
-    kept false e = omega (arith, e)
+use Rattle.join_nodes.proofs.RowLaws.{MetOnly}
 
 cond-or : (a b : Bool) (n : ℕ) → (a ≡ true → b ≡ false) → cond (a || b) n 0 ≡ cond a n 0 + cond b n 0
 cond-or true b n other = rw (other refl) (omega arith)
@@ -87,15 +78,12 @@ empty : (l : List ℕ) → length l ≡ 0 → l ≡ []
 empty [] e = refl
 empty (x ∷ xs) e = absurd (omega arith)
 
--- an empty left set pairs by path with every right set
-pub start-empty : (is : Outcome → Bool) (q : Query) (k : ℕ) → eqb (keyAt q 0 k) 0 ≡ true
-    → start is q k ≡ pathPairs 1 (length (q .rights)) is
+-- an empty left set meets no right set
+pub start-empty : (is : Outcome → Bool) → MetOnly is → (q : Query) (k : ℕ) → eqb (keyAt q 0 k) 0 ≡ true → start is q k ≡ 0
 unfolding start outcome endingIn ending isCandidate leftAt
-start-empty is q k none =
+start-empty is met q k none =
     let gone : leftAt q k ≡ [] = empty (leftAt q k) (key-ended q 0 k none (omega arith)) in
-    count-same (λ s. is (outcome q (getD (q .lefts) k []) (getD (q .rights) s []))) (λ s. is byPath) (upto (length (q .rights)))
-    (λ s. rw gone refl)
-    ∙ paths-one is (upto (length (q .rights))) ∙ ap (λ (n : ℕ). pathPairs 1 n is) (length-range 0 (length (q .rights)))
+    count-none (λ s. is (outcome q (getD (q .lefts) k []) (getD (q .rights) s []))) (upto (length (q .rights))) (λ s. rw gone met)
 
 -- any other has its row from depth 1 on
 pub start-row : (is : Outcome → Bool) (q : Query) (k : ℕ) → eqb (keyAt q 0 k) 0 ≡ false → start is q k ≡ row is q 1 k

@@ -1,11 +1,11 @@
--- The whole walk: the order's first left sets are the empty ones, which pair by path with every right set; the others are the
--- partitions; and what was added for both is every count of the query.
-use Prim.Native.Nat.{ℕ, _+_, _-_, _*_, _≤_, _<_}
+-- The whole walk: the order's first left sets are the empty ones, which meet no right set; the others are the partitions, and what was
+-- added for them is every count of the query.
+use Prim.Native.Nat.{ℕ, _+_, _-_, _≤_, _<_}
 use mathlib.Core.Path.{_≡_, refl, sym, ap, ap₂, _∙_}
 use mathlib.Core.List.{List, [], _∷_, _++_}
 use mathlib.Core.Bool.{Bool, false, not}
 use native.Mathlib.Omega.{arith}
-use native.Mathlib.Nat.{mul-le-mul, add-mul}
+use native.Mathlib.Nat.{mul-le-mul, zero-add}
 use borrow.Author.Tests.{not-true}
 use lib.Dec.{eqb}
 use lib.ListN.{length}
@@ -13,29 +13,29 @@ use Rattle.lists.specs.Lists.{keep, prefix, range, slice, sum, upto}
 use Rattle.lists.proofs.Bools.{true-false}
 use Rattle.lists.proofs.Slices.{frame-less}
 use Rattle.lists.proofs.Summing.{sum-same, sum-append, sum-same-where}
-use Rattle.sets.specs.Limits.{maxSets, maxPairs}
+use Rattle.sets.specs.Limits.{maxSets}
 use Rattle.join_spec.specs.Query.{Query}
 use Rattle.join_spec.specs.Walk.{Outcome}
-use Rattle.join_spec.specs.Counting.{total, isByPath, isCheck}
+use Rattle.join_spec.specs.Counting.{total, isCheck}
 use Rattle.join_spec.specs.Kinds.{Kind, isOf, kinds, checkKinds}
-use Rattle.join_spec.proofs.KindLaws.{sum-zero}
+use Rattle.join_spec.proofs.KindLaws.{sum-zero, kind-met}
 use Rattle.join_index.specs.Grouping.{leftAt, keyAt, orderFrom, orderOf}
 use Rattle.join_index.specs.declared.Layout.{Layout}
 use Rattle.join_check.specs.Asking.{Index, RunThere}
 use Rattle.join_check.specs.Runs.{run}
-use Rattle.join_check.specs.Counters.{counter, checksIn}
+use Rattle.join_check.specs.Counters.{counter}
 use Rattle.join_check.specs.declared.Tally.{Tally}
 use Rattle.kept_rows.specs.Kept.{RowsKept}
 use Rattle.kept_rows.specs.Keeping.{Cleared}
 use Rattle.kept_rows.proofs.RowLaws.{index-kept}
-use Rattle.join_nodes.specs.Rows.{row, pathPairs}
-use Rattle.join_nodes.specs.Visiting.{Merged, beginners}
+use Rattle.join_nodes.specs.Rows.{row}
+use Rattle.join_nodes.specs.Visiting.{beginners}
 use Rattle.join_nodes.specs.Blocks.{MergedEnd}
 use Rattle.join_nodes.specs.declared.Settings.{Settings}
 use Rattle.join_nodes.specs.declared.Walked.{Walked}
 use Rattle.join_nodes.proofs.RunLaws.{Cut}
 use Rattle.join_nodes.proofs.GroupSteps.{endedAt, goingOn, ended-keys, going-keys, beginners-grouped, ended-cut}
-use Rattle.join_nodes.proofs.PathLaws.{paths-all, paths-many, paths-unchecked, merged-checks, merged-pairs}
+use Rattle.join_nodes.proofs.RowLaws.{MetOnly}
 use Rattle.join_nodes.proofs.VisitLaws.{checks-added}
 use Rattle.join_nodes.proofs.FrameLaws.{framed-none}
 use Rattle.join_walk.specs.Partitions.{Partitions, PartVisited, WalkReady, WalkDone}
@@ -48,7 +48,7 @@ keep-every q [] = refl
 keep-every q (x ∷ xs) = ap (λ (l : List ℕ). x ∷ l) (keep-every q xs)
 
 -- a walk over no left sets
-pub walk-none : {lay : Layout} {st : Settings} {q : Query} {w : List ℕ} {lefts rights : ℕ} → WalkReady lay st q w lefts rights
+pub walk-none : {lay : Layout} {st : Settings} {q : Query} {w : List ℕ} {lefts : ℕ} → WalkReady lay st q w lefts
     → lefts ≡ 0
     → {none : Tally} {top : ℕ} → ((kind : Kind) → counter kind none ≡ 0) → RowsKept lay q w top
     → WalkDone lay q (st .budget) w w (record { at = record { tally = none; top = top }; spent = false })
@@ -71,8 +71,8 @@ walk-none {lay} {st} {q} {w} ready gone zero kept =
         let empty : sum (start is q) (upto 0) ≡ 0 = unfold range sum in refl in
         total-order is q 0 0 ∙ none ∙ empty
 
-module _ {lay : Layout} {st : Settings} {q : Query} {w : List ℕ} {lefts rights : ℕ}
-    (ready : WalkReady lay st q w lefts rights) (some : 0 < lefts) where
+module _ {lay : Layout} {st : Settings} {q : Query} {w : List ℕ} {lefts : ℕ}
+    (ready : WalkReady lay st q w lefts) (some : 0 < lefts) where
   index : Index lay q w
   index = ready .index
 
@@ -101,26 +101,25 @@ module _ {lay : Layout} {st : Settings} {q : Query} {w : List ℕ} {lefts rights
     parted : Cut lay w 0 mid lefts (endedAt q 0 rest) (goingOn q 0 rest)
     parted = ended-cut rest walk-run whole end
 
-    mid-length : mid ≡ length (endedAt q 0 rest)
-    mid-length = omega (arith, parted .size)
+    -- the query's counts: nothing for the empty left sets, and the rows of the others
+    rows-total : (is : Outcome → Bool) → MetOnly is → total is q ≡ sum (row is q 1) (run lay w mid lefts)
+    rows-total is met =
+        total-order is q (q .limit) 0 ∙ ap (sum (start is q)) order-is
+        ∙ sum-append (start is q) (endedAt q 0 rest) (goingOn q 0 rest)
+        ∙ ap₂ (λ (a b : ℕ). a + b)
+        (sum-same-where (λ k. eqb (keyAt q 0 k) 0) (start is q) (λ k. 0) (endedAt q 0 rest) (ended-keys q 0 rest)
+        (λ k e. start-empty is met q k e)
+        ∙ sum-zero (endedAt q 0 rest))
+        (sum-same-where (λ k. not (eqb (keyAt q 0 k) 0)) (start is q) (row is q 1) (goingOn q 0 rest) (going-keys q 0 rest)
+        (λ k e. start-row is q k (not-true (eqb (keyAt q 0 k) 0) e))
+        ∙ sym (ap (sum (row is q 1)) (parted .back)))
+        ∙ zero-add (sum (row is q 1) (run lay w mid lefts))
 
-    pub paths-room : 0 + pathPairs mid rights isByPath ≤ maxPairs
-    paths-room =
-        omega (
-          arith,
-          paths-all mid rights,
-          mul-le-mul {n₁ = mid} {m₁ = rights} {n₂ = maxSets} {m₂ = maxSets}
-              (omega (arith, end .high, few, index .ground .leftFew)) (omega (arith, ready .rightCount, index .ground .rightFew)),
-        )
+    module _ {none : Tally} (zero : (kind : Kind) → counter kind none ≡ 0) where
+      nothing : (ks : List Kind) → sum (λ kind. counter kind none) ks ≡ 0
+      nothing ks = sum-same (λ kind. counter kind none) (λ kind. 0) ks zero ∙ sum-zero ks
 
-    module _ {none m : Tally} (zero : (kind : Kind) → counter kind none ≡ 0) (merged : Merged mid rights none m) where
-      no-pairs : (ks : List Kind) → sum (λ kind. counter kind none) ks ≡ 0
-      no-pairs ks = sum-same (λ kind. counter kind none) (λ kind. 0) ks zero ∙ sum-zero ks
-
-      no-checks : checksIn m ≡ 0
-      no-checks = merged-checks merged ∙ no-pairs checkKinds
-
-      pub walk-partitions : {top : ℕ} → RowsKept lay q w top → Partitions lay st q w mid lefts (record { tally = m; top = top })
+      pub walk-partitions : {top : ℕ} → RowsKept lay q w top → Partitions lay st q w mid lefts (record { tally = none; top = top })
       walk-partitions kept =
           record {
             index = index;
@@ -128,19 +127,13 @@ module _ {lay : Layout} {st : Settings} {q : Query} {w : List ℕ} {lefts rights
               limit = ready .limit;
               shallow = ready .shallow;
               rule = ready .rule;
-              budget = omega (arith, no-checks);
+              budget = omega (arith, nothing checkKinds);
               bounded =
-                  let together : mid * length (q .rights) + (lefts - mid) * length (q .rights) ≡ lefts * length (q .rights) =
-                  sym (add-mul mid (lefts - mid) (length (q .rights)))
-                  ∙ ap (λ (n : ℕ). n * length (q .rights)) (omega (arith, end .high)) in
                   omega (
                     arith,
-                    merged-pairs merged,
-                    no-pairs kinds,
-                    ap (λ (n : ℕ). mid * n) (sym (ready .rightCount)),
-                    together,
-                    mul-le-mul {n₁ = lefts} {m₁ = length (q .rights)} {n₂ = maxSets} {m₂ = maxSets}
-                        (omega (arith, few, index .ground .leftFew, ready .leftCount)) (index .ground .rightFew),
+                    nothing kinds,
+                    mul-le-mul {n₁ = lefts - mid} {m₁ = length (q .rights)} {n₂ = maxSets} {m₂ = maxSets}
+                        (omega (arith, few, index .ground .leftFew)) (index .ground .rightFew),
                   );
             };
             rows = kept;
@@ -155,24 +148,9 @@ module _ {lay : Layout} {st : Settings} {q : Query} {w : List ℕ} {lefts rights
             lefts = parted .back;
           }
 
-      -- the query's counts: the empty left sets by path, and the rows of the others
-      split-total : (is : Outcome → Bool) → total is q ≡ pathPairs mid rights is + sum (row is q 1) (run lay w mid lefts)
-      split-total is =
-          total-order is q (q .limit) 0 ∙ ap (sum (start is q)) order-is
-          ∙ sum-append (start is q) (endedAt q 0 rest) (goingOn q 0 rest)
-          ∙ ap₂ (λ (a b : ℕ). a + b)
-          (sum-same-where (λ k. eqb (keyAt q 0 k) 0) (start is q) (λ k. pathPairs 1 (length (q .rights)) is) (endedAt q 0 rest)
-          (ended-keys q 0 rest) (λ k e. start-empty is q k e)
-          ∙ paths-many is (length (q .rights)) (endedAt q 0 rest)
-          ∙ ap₂ (λ (a b : ℕ). pathPairs a b is) (sym mid-length) (ready .rightCount))
-          (sum-same-where (λ k. not (eqb (keyAt q 0 k) 0)) (start is q) (row is q 1) (goingOn q 0 rest) (going-keys q 0 rest)
-          (λ k e. start-row is q k (not-true (eqb (keyAt q 0 k) 0) e))
-          ∙ sym (ap (sum (row is q 1)) (parted .back)))
-
-      pub walk-done : {w′ : List ℕ} {r : Walked} → PartVisited lay st q w w′ mid lefts m r → WalkDone lay q (st .budget) w w′ r
+      pub walk-done : {w′ : List ℕ} {r : Walked} → PartVisited lay st q w w′ mid lefts none r → WalkDone lay q (st .budget) w w′ r
       walk-done {w′} {r} part =
-          let checks : total isCheck q ≡ sum (row isCheck q 1) (run lay w mid lefts) =
-          omega (arith, split-total isCheck, paths-unchecked mid rights) in
+          let checks = rows-total isCheck refl in
           record {
             framed = part .framed;
             counted = record {
@@ -180,21 +158,20 @@ module _ {lay : Layout} {st : Settings} {q : Query} {w : List ℕ} {lefts rights
                   omega (
                     arith,
                     part .visited .added calm .tallied .grows kind,
-                    merged .tallied .grows kind,
                     zero kind,
-                    split-total (isOf kind),
+                    rows-total (isOf kind) (kind-met kind),
                   );
               within = λ calm.
-                  omega (arith, part .visited .within calm, checks-added (part .visited .added calm), no-checks, checks);
-              beyond = λ spent. omega (arith, part .visited .beyond spent, no-checks, checks);
+                  omega (arith, part .visited .within calm, checks-added (part .visited .added calm), nothing checkKinds, checks);
+              beyond = λ spent. omega (arith, part .visited .beyond spent, nothing checkKinds, checks);
             };
             rows = part .rows;
           }
 
 -- no row is kept before it
-module _ {lay : Layout} {st : Settings} {q : Query} {w w′ : List ℕ} {lefts rights : ℕ} (ready : WalkReady lay st q w lefts rights)
+module _ {lay : Layout} {st : Settings} {q : Query} {w w′ : List ℕ} {lefts : ℕ} (ready : WalkReady lay st q w lefts)
     (cleared : Cleared lay w lefts w′) where
-  pub ready-cleared : WalkReady lay st q w′ lefts rights
+  pub ready-cleared : WalkReady lay st q w′ lefts
   ready-cleared =
       record {
         index = index-kept (cleared .frame) (cleared .size) (ready .index);
@@ -203,7 +180,6 @@ module _ {lay : Layout} {st : Settings} {q : Query} {w w′ : List ℕ} {lefts r
         rule = ready .rule;
         some = ready .some;
         leftCount = ready .leftCount;
-        rightCount = ready .rightCount;
       }
 
   pub rows-cleared : RowsKept lay q w′ (lay .rows)

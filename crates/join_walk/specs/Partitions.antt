@@ -52,14 +52,13 @@ abbrev pub PartVisited : Layout → Settings → Query → List ℕ → List ℕ
 PartVisited lay st q w w′ lo hi tally r = RunVisited lay q (st .budget) (lay .slots) 1 w w′ lo hi tally r
 
 -- the walk can begin
-pub record WalkReady (lay : Layout) (st : Settings) (q : Query) (w : List ℕ) (lefts rights : ℕ) : Type 0 where
+pub record WalkReady (lay : Layout) (st : Settings) (q : Query) (w : List ℕ) (lefts : ℕ) : Type 0 where
   pub index : Index lay q w
   pub limit : st .limit ≡ q .limit
   pub shallow : q .limit ≤ maxLimit
   pub rule : st .rule ≡ q .rule
   pub some : 0 < q .limit
   pub leftCount : length (q .lefts) ≡ lefts
-  pub rightCount : length (q .rights) ≡ rights
 
 -- the counter of each kind is the query's count, within the budget; or the checks of the whole walk pass it
 pub record QueryCounted (q : Query) (budget : ℕ) (r : Walked) : Type 0 where

@@ -8,7 +8,6 @@ use join_index::build::asks_seen;
 use join_nodes::Progress;
 use join_nodes::Settings;
 use join_nodes::Walked;
-use join_nodes::blocks::add_paths;
 use join_nodes::blocks::merged_end;
 use kept_rows::rows::clear_rows;
 use kept_rows::rows::keep_list;
@@ -108,18 +107,12 @@ fn visit_partitions(
     }
 }
 
-// The whole walk over the index of a query. Empty left sets pair with every right set.
-pub fn walk(
-    work: &mut [u32],
-    flags: &mut [u8],
-    lay: Layout,
-    st: Settings,
-    lefts: usize,
-    rights: usize,
-) -> Walked
-    requires { ⌜ Some (λ q. WalkReady lay st q (now work) lefts rights) ⌝ }
+// The whole walk over the index of a query. Empty left sets stand first in the order, are in no partition and pair with nothing: they
+// are passed over.
+pub fn walk(work: &mut [u32], flags: &mut [u8], lay: Layout, st: Settings, lefts: usize) -> Walked
+    requires { ⌜ Some (λ q. WalkReady lay st q (now work) lefts) ⌝ }
     requires { ⌜ Clear (now flags) ⌝ }
-    ensures walked { λ r. ⌜ ((q : Query) → WalkReady lay st q (now (work .entry)) lefts rights
+    ensures walked { λ r. ⌜ ((q : Query) → WalkReady lay st q (now (work .entry)) lefts
         → WalkDone lay q (st .budget) (now (work .entry)) (now (work .exit)) r) ⌝ }
     ensures clear { λ _. ⌜ Clear (now (flags .exit)) ⌝ }
 {
@@ -130,21 +123,16 @@ pub fn walk(
         false_drops: 0,
     };
     clear_rows(work, lay, lefts);
-    let top = lay.rows;
+    let begun = Progress {
+        tally: none,
+        top: lay.rows,
+    };
     if lefts == 0 {
         return Walked {
-            at: Progress {
-                tally: none,
-                top: top,
-            },
+            at: begun,
             spent: false,
         };
     }
     let mid = merged_end(work, lay, 0, 0, lefts);
-    let merged = add_paths(none, mid, rights);
-    let begun = Progress {
-        tally: merged,
-        top: top,
-    };
     visit_partitions(work, flags, lay, st, mid, lefts, begun)
 }

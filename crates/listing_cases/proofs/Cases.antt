@@ -176,7 +176,7 @@ listing-cases file low = ap (unless refusalLine (lengthTest file)) (by-fault (fi
     by-fault Passed clear = records-text file low clear
     by-fault (Failed why) fault = refl
 
--- each pair of records is listed once where every tag of the left one is a tag of the right one, else not at all
+-- each pair of records is listed once where the left one has a tag and each of its tags is a tag of the right one, else not at all
 pub listed-pairs : (rs : List TagRecord) (l r : ℕ)
     → pairOccurs l r (pairList (sideSets Left rs) (sideSets Right rs)) ≡ one (tagsContained rs l r)
 listed-pairs rs l r =

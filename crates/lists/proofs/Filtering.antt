@@ -1,14 +1,14 @@
 -- Filtering: `keep` by tests that agree, by one that passes all or none, twice, and by parts of a list; what holds throughout it,
--- how many it has and which numbers are in it.
+-- how many it has, what it sums to and which numbers are in it.
 use Prim.Native.Nat.{ℕ, _+_}
 use mathlib.Core.Path.{_≡_, refl, sym, ap, ap₂, _∙_}
 use mathlib.Core.List.{List, [], _∷_, _++_}
-use mathlib.Core.Bool.{Bool, true, false, _&&_, _||_, and-false}
+use mathlib.Core.Bool.{Bool, true, false, cond, _&&_, _||_, and-false}
 use native.Mathlib.Omega.{arith}
 use lib.Dec.{eqb}
 use lib.ListN.{length}
 use borrow.Author.Tests.{eqb-true, eq-eqb}
-use Rattle.lists.specs.Lists.{one, onto, count, keep, all, memb}
+use Rattle.lists.specs.Lists.{one, onto, count, sum, keep, all, memb}
 use Rattle.lists.proofs.Bools.{and-left, and-right, and-both, by-test, true-false, refuted}
 use Rattle.lists.proofs.Membership.{memb-head, memb-tail}
 
@@ -110,7 +110,17 @@ module _ {A : Type 0} where
       kept true e = ap (λ (n : ℕ). one (p x) + n) e
       kept false e = omega arith
 
--- tests that agree on the members
+  -- tests that agree on the members
+  pub sum-keep : (f : A → ℕ) (p : A → Bool) (xs : List A) → sum f (keep p xs) ≡ sum (λ x. cond (p x) (f x) 0) xs
+  unfolding sum keep
+  sum-keep f p [] = refl
+  sum-keep f p (x ∷ xs) = kept (p x) (sum-keep f p xs)
+    where
+      kept : (b : Bool) → sum f (keep p xs) ≡ sum (λ x. cond (p x) (f x) 0) xs
+          → sum f (onto b x (keep p xs)) ≡ cond b (f x) 0 + sum (λ x. cond (p x) (f x) 0) xs
+      kept true e = ap (λ (n : ℕ). f x + n) e
+      kept false e = omega (arith, e)
+
 pub keep-agree : (p q : ℕ → Bool) (xs : List ℕ) → ((x : ℕ) → memb x xs ≡ true → p x ≡ q x) → keep p xs ≡ keep q xs
 unfolding keep
 keep-agree p q [] h = refl

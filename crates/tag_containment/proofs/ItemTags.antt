@@ -1,6 +1,6 @@
 -- Containment of items is containment of tags: over the tag table of records, the items of one of them are contained in those of
--- another exactly where every tag of the one is a tag of the other. Document 01, "Tag file": "Item numbers follow the rising
--- order of distinct tags"; "repeats allowed and collapsed".
+-- another exactly where the one has a tag and every tag of it is a tag of the other. Document 01, "Tag file": "Item numbers follow
+-- the rising order of distinct tags"; "repeats allowed and collapsed".
 use mathlib.Core.Path.{_≡_, refl, sym, ap, _∙_}
 use Prim.Native.Nat.{ℕ, _<_}
 use mathlib.Core.List.{List, [], _∷_}
@@ -10,14 +10,14 @@ use lib.Dec.{ltb}
 use lib.ListN.{length, getD}
 use Rattle.lists.specs.Lists.{all, memb, subset, upto}
 use Rattle.lists.proofs.Bools.{and-left, and-right, and-both, or-left, or-right, same-test}
-use Rattle.lists.proofs.Membership.{memb-append, memb-place}
+use Rattle.lists.proofs.Membership.{Place, memb-append, memb-at, memb-place, memb-some}
 use Rattle.lists.proofs.Filtering.{memb-keep, all-keep}
 use Rattle.lists.proofs.Ranges.{memb-upto}
 use Rattle.lists.proofs.Throughout.{subset-intro, subset-elim, all-at, all-weaken}
 use Rattle.sets.specs.Collections.{contained}
 use Rattle.sets.specs.declared.Side.{Side}
 use Rattle.sets.specs.declared.Side.the-variants.{Left}
-use Rattle.sets.proofs.Containment.{contained-subset}
+use Rattle.sets.proofs.Containment.{contained-alike}
 use Rattle.tag_file.specs.Records.{TagRecord, sameSide, ofSide, allTags, tagTable, itemsOf}
 use Rattle.tag_file.proofs.Tables.{memb-collapse}
 
@@ -39,14 +39,22 @@ module _ (table : List ℕ) where
       ∙ and-both (memb-upto (length table) i ∙ lt-ltb _ _ within) there
 
   module _ (left right : List ℕ) (held : subset left table ≡ true) where
+    -- where a tag of the left ones stands in the table is one of their items
+    place : (tag : ℕ) → memb tag left ≡ true → Place tag table
+    place tag there = memb-place tag table (subset-elim left table held tag there)
+
+    item-there : (tag : ℕ) (there : memb tag left ≡ true) → memb (place tag there .at) (itemsOf table left) ≡ true
+    item-there tag there =
+        let p = place tag there in
+        tag-item left (p .at) (p .below) (ap (λ (t : ℕ). memb t left) (p .here) ∙ there)
+
     tags-if-items : subset (itemsOf table left) (itemsOf table right) ≡ true → subset left right ≡ true
     tags-if-items sub =
         subset-intro left right
         (λ tag there.
-        let p = memb-place tag table (subset-elim left table held tag there) in
-        let item = tag-item left (p .at) (p .below) (ap (λ (t : ℕ). memb t left) (p .here) ∙ there) in
+        let p = place tag there in
         ap (λ (t : ℕ). memb t right) (sym (p .here))
-        ∙ item-tag right (p .at) (subset-elim (itemsOf table left) (itemsOf table right) sub (p .at) item) .1)
+        ∙ item-tag right (p .at) (subset-elim (itemsOf table left) (itemsOf table right) sub (p .at) (item-there tag there)) .1)
 
     items-if-tags : subset left right ≡ true → subset (itemsOf table left) (itemsOf table right) ≡ true
     items-if-tags sub =
@@ -55,10 +63,12 @@ module _ (table : List ℕ) where
         let both = item-tag left i there in
         tag-item right i (ltb-true i (length table) (both .0)) (subset-elim left right sub (getD table i 0) (both .1)))
 
-    pub contained-tags : contained (itemsOf table left) (itemsOf table right) ≡ subset left right
+    pub contained-tags : contained (itemsOf table left) (itemsOf table right) ≡ contained left right
     contained-tags =
-        contained-subset (itemsOf table left) (itemsOf table right)
-        ∙ same-test (subset (itemsOf table left) (itemsOf table right)) (subset left right) tags-if-items items-if-tags
+        contained-alike (itemsOf table left) (itemsOf table right) left right
+        (λ some. memb-some _ left (item-tag left _ (memb-at (itemsOf table left) 0 0 some) .1))
+        (λ some. memb-some _ (itemsOf table left) (item-there _ (memb-at left 0 0 some)))
+        (same-test (subset (itemsOf table left) (itemsOf table right)) (subset left right) tags-if-items items-if-tags)
 
 -- ---- over the table of records
 
@@ -98,7 +108,7 @@ tags-in-table rs =
 -- for the record at a place of a side, and any tags
 pub contained-records : (rs : List TagRecord) (side : Side) (k : ℕ) → k < length (ofSide side rs) → (right : List ℕ)
     → contained (itemsOf (tagTable rs) (recordOf side rs k .tags)) (itemsOf (tagTable rs) right)
-    ≡ subset (recordOf side rs k .tags) right
+    ≡ contained (recordOf side rs k .tags) right
 contained-records rs side k within right =
     contained-tags (tagTable rs) (recordOf side rs k .tags) right
     (all-at (λ r. subset (r .tags) (tagTable rs)) noRecord (ofSide side rs)

@@ -1,5 +1,5 @@
 -- A load and a run over what it filled, each by what its contract says of a call: a pair of places stands in the pair list once
--- where both are places of records and every tag of the left record is a tag of the right one, else not at all.
+-- where both are places of records and the left record has at least one tag, each of them a tag of the right one; else not at all.
 use mathlib.Core.Path.{_≡_, refl, ap, _∙_}
 use Prim.Native.Nat.{ℕ, _*_, _<_}
 use mathlib.Core.List.{List, []}
@@ -7,7 +7,7 @@ use mathlib.Core.Bool.{Bool, true, false, _&&_}
 use borrow.Author.Tests.{ltb-true}
 use lib.Dec.{ltb}
 use lib.ListN.{length, getD, take, length-map}
-use Rattle.lists.specs.Lists.{one, subset}
+use Rattle.lists.specs.Lists.{one}
 use Rattle.lists.proofs.Mapping.{map-at}
 use Rattle.sets.specs.Collections.{contained}
 use Rattle.sets.specs.declared.Side.{Side}
@@ -27,11 +27,12 @@ use Rattle.tag_round_trip.specs.Trips.{Fills}
 use Rattle.tag_containment.proofs.LoadedLists.{OverLoaded, fills-left-sets, fills-right-sets, load-fills}
 use Rattle.tag_containment.proofs.ItemTags.{noRecord, recordOf, contained-records}
 
--- what is asked of a pair of places: that they are places of records, and that the left record's tags are the right one's too
+-- what is asked of a pair of places: that they are places of records, and that the left record has a tag and all its tags are the
+-- right one's too
 abbrev pub tagsContained : List TagRecord → ℕ → ℕ → Bool
 tagsContained rs l r =
     ltb l (length (ofSide Left rs))
-    && (ltb r (length (ofSide Right rs)) && subset (recordOf Left rs l .tags) (recordOf Right rs r .tags))
+    && (ltb r (length (ofSide Right rs)) && contained (recordOf Left rs l .tags) (recordOf Right rs r .tags))
 
 pub and-where : (a b c : Bool) → (a ≡ true → b ≡ c) → (a && b) ≡ (a && c)
 and-where true b c same = same refl
@@ -72,6 +73,6 @@ module _ {loaded : Loaded} {got : Lists} (i : Input) (over : OverLoaded loaded g
 module _ (file : List ℕ) {lent got : Lists} {loaded : Loaded} (loads : LoadCall file lent got (load.Loaded loaded))
     (i : Input) (over : OverLoaded loaded got i) (s : Settings) {counts : Counts} {work before work′ after : List ℕ}
     (runs : RunCall i s work before work′ after (Joined counts)) where
-  -- a pair of places stands in the list once where the left record's tags are the right one's too, else not at all
+  -- a pair of places stands in the list once where the left record has a tag and all its tags are the right one's too, else not at all
   pub loaded-pairs : (l r : ℕ) → pairOccurs l r (take (2 * counts .pairs) after) ≡ one (tagsContained (records file) l r)
   loaded-pairs l r = fills-pairs i over s runs (load-fills file loads) l r

@@ -1,6 +1,6 @@
 -- A pooled load and a run over what it filled, each by what its contract says of a call: a pair of places stands in the pair
--- list once where the left place is one of the first file's left sets, the right place that of a borrower, and every tag of the
--- left record is a tag of that borrower's right set in the first file or in the second; else not at all.
+-- list once where the left place is one of the first file's left sets, the right place that of a borrower, and the left record has
+-- at least one tag, each of them a tag of that borrower's right set in the first file or in the second; else not at all.
 use mathlib.Core.Path.{_≡_, sym, ap, _∙_}
 use Prim.Native.Nat.{ℕ, _*_, _<_}
 use mathlib.Core.List.{List}
@@ -9,7 +9,8 @@ use borrow.Author.Tests.{ltb-true}
 use native.Mathlib.Omega.{arith}
 use lib.Dec.{ltb}
 use lib.ListN.{length, getD, take, length-map}
-use Rattle.lists.specs.Lists.{one, subset, distinct}
+use Rattle.lists.specs.Lists.{one, distinct}
+use Rattle.sets.specs.Collections.{contained}
 use Rattle.sets.specs.declared.Side.the-variants.{Left, Right}
 use Rattle.inputs.specs.Input.{Input}
 use Rattle.join_spec.specs.declared.Counts.{Counts}
@@ -32,12 +33,12 @@ use Rattle.tag_pooled_laws.proofs.BorrowerTags.{tags-pooled}
 use Rattle.tag_pooled_laws.proofs.AcceptedPair.{pair-accepted, pair-fills, first-free, pair-second-free}
 
 -- what is asked of a pair of places: that they are those of a left set of the first file and of a borrower, and that the left
--- record's tags are the borrower's in either file
+-- record has a tag and all its tags are the borrower's in either file
 abbrev pub tagsPooled : List TagRecord → List TagRecord → ℕ → ℕ → Bool
 tagsPooled first second l r =
     ltb l (length (ofSide Left first))
     && (ltb r (length (borrowers first second))
-    && subset (recordOf Left first l .tags) (borrowerTags first second (getD (borrowers first second) r 0)))
+    && contained (recordOf Left first l .tags) (borrowerTags first second (getD (borrowers first second) r 0)))
 
 -- there are as many borrowers as pooled right sets
 pub places-borrowers : (first second : List TagRecord)
@@ -53,7 +54,7 @@ contained-pooled first second once once-more l r =
     (ap (λ (b : Bool). ltb l (length (ofSide Left first)) && b)
     (and-where (ltb r (length (ofSide Right (pooled first second)))) _ _
     (λ within.
-    ap (subset (recordOf Left first l .tags))
+    ap (contained (recordOf Left first l .tags))
     (tags-pooled first second once once-more r (ltb-true r (length (ofSide Right (pooled first second))) within)))))
 
 module _ (first second : List ℕ) {lent got : Lists} {loaded : Loaded}
@@ -72,7 +73,7 @@ module _ (first second : List ℕ) {lent got : Lists} {loaded : Loaded}
       fills-right-number (pair-fills first second pools) r within
       ∙ number-pooled (records first) (records second) r (omega arith)
 
-  -- a pair of places stands in the list once where the left record's tags are the borrower's, else not at all
+  -- a pair of places stands in the list once where the left record has a tag and all its tags are the borrower's, else not at all
   module _ (i : Input) (over : OverLoaded loaded got i) (s : Settings) {counts : Counts} {work before work′ after : List ℕ}
       (runs : RunCall i s work before work′ after (Joined counts)) where
     pub pooled-pairs : (l r : ℕ)

@@ -54,13 +54,18 @@ fn numbers(random: &mut Random) -> Vec<u16> {
     numbers
 }
 
-/// So many whole records with tags of one pool, in any order and with repeats. Their numbers are the first of the list; they seldom repeat.
+/// So many whole records with tags of one pool, in any order and with repeats. Some have none, and now and then no kit has one. Their
+/// numbers are the first of the list; they seldom repeat.
 fn records(random: &mut Random, pool: &[Tag], numbers: &[u16], many: usize) -> Vec<u8> {
+    let empty_kits = random.one_in(8);
     let mut file = Vec::new();
     for k in 0..many {
+        let right = random.one_in(2);
         let count = match random.below(40) {
+            _ if empty_kits && !right => 0,
             0 => 255,
             1 => random.within(100, 254),
+            2..=4 => 0,
             _ => random.within(0, 9),
         };
         let mut tags: Vec<Tag> = (0..count).map(|_| random.pick(pool)).collect();
@@ -68,7 +73,7 @@ fn records(random: &mut Random, pool: &[Tag], numbers: &[u16], many: usize) -> V
             tags[0] = tags[count - 1];
         }
         let number = if random.one_in(60) { numbers[0] } else { numbers[k] };
-        file.extend(record(random.one_in(2), number, &tags));
+        file.extend(record(right, number, &tags));
     }
     file
 }

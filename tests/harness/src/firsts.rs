@@ -86,32 +86,46 @@ fn long(random: &mut Random) -> FirstQuery {
     q
 }
 
-/// Empty kits: all, or some among kits that the stack does not contain.
+/// Empty kits: all, first, last, all but the last, or some among the others. The stack contains some of these or none.
 fn empties(random: &mut Random) -> FirstQuery {
-    let t = random.pick(&[0, 1, 9]);
-    let length = random.pick(&[0, 0, 1, 4]).min((t as usize).saturating_sub(1));
+    let t = random.pick(&[0, 1, 9, 9, 300]);
+    let length = random.pick(&[0, 1, 4, 4, 255]).min((t as usize).saturating_sub(1));
     let stack = some_items(random, t, length);
-    let n = random.within(1, 5);
-    let way = random.below(5);
+    let n = random.within(1, 6);
+    let (way, others) = (random.below(6), random.below(3));
     let is_empty = |random: &mut Random, k: usize| match way {
         _ if t == 0 => true,
         0 => true,
         1 => k == 0,
         2 => k == n - 1,
-        3 => false,
+        3 => k < n - 1,
         _ => random.one_in(2),
     };
-    let kits: Vec<Vec<u16>> = (0..n).map(|k| if is_empty(random, k) { Vec::new() } else { near(random, t, &stack) }).collect();
+    let equal = part(random, &stack);
+    let mut kit = |k: usize| match others {
+        _ if is_empty(random, k) => Vec::new(),
+        0 => near(random, t, &stack),
+        1 => equal.clone(),
+        _ if random.one_in(2) => near(random, t, &stack),
+        _ => part(random, &stack),
+    };
+    let kits: Vec<Vec<u16>> = (0..n).map(&mut kit).collect();
     FirstQuery { t, left: Collection::of(&kits), right: stack }
 }
 
-/// As many kits as there can be, one fewer, or one too many.
+/// As many kits as there can be, one fewer, or one too many. Now and then some are empty.
 fn many(random: &mut Random) -> FirstQuery {
     let t = random.pick(&[3, 40, 4096]);
     let length = random.within(0, 2);
     let stack = some_items(random, t, length);
     let n = random.pick(&[4095, 4096, 4096, 4096, 4097]);
-    placed(random, t, stack, n)
+    let q = placed(random, t, stack, n);
+    if !random.one_in(4) {
+        return q;
+    }
+    let empty_of = random.pick(&[2, 100]);
+    let kits: Vec<Vec<u16>> = q.left.sets().into_iter().map(|kit| if random.one_in(empty_of) { Vec::new() } else { kit }).collect();
+    FirstQuery { left: Collection::of(&kits), ..q }
 }
 
 /// 65,535 entries, and now and then one more or an empty kit.

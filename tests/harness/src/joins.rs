@@ -65,11 +65,36 @@ impl Pool {
     }
 }
 
-/// Both collections of a case, good and with items past the last end now and then.
+/// Puts empty sets among others: in place of all of them, first, last, in a row at one place, behind each, or between two that are equal.
+fn put_empty(random: &mut Random, sets: &mut Vec<Vec<u16>>) {
+    let row = vec![Vec::new(); random.within(1, 3)];
+    let at = random.below(sets.len() + 1);
+    match random.below(7) {
+        0 => *sets = row,
+        1 => sets.iter_mut().for_each(Vec::clear),
+        2 => sets.insert(0, Vec::new()),
+        3 => sets.push(Vec::new()),
+        4 => drop(sets.splice(at..at, row)),
+        5 => *sets = sets.iter().flat_map(|set| [set.clone(), Vec::new()]).collect(),
+        _ => {
+            if let Some(set) = sets.get(at).cloned() {
+                sets.splice(at..at, [set, Vec::new()]);
+            }
+        }
+    }
+}
+
+/// Both collections of a case, good, often with empty sets, and with items past the last end now and then.
 pub fn collections(random: &mut Random) -> (u32, Collection, Collection) {
     let pool = Pool::new(random);
-    let right = pool.sets(random, &[]);
-    let left = pool.sets(random, &right);
+    let mut right = pool.sets(random, &[]);
+    let mut left = pool.sets(random, &right);
+    if random.one_in(5) {
+        put_empty(random, &mut left);
+    }
+    if random.one_in(12) {
+        put_empty(random, &mut right);
+    }
     let mut sides = [Collection::of(&left), Collection::of(&right)];
     for side in &mut sides {
         if random.one_in(4) {
@@ -285,6 +310,20 @@ pub fn query(random: &mut Random) -> (Query, Option<Walked>) {
         _ => places,
     };
     (q, Some(walked))
+}
+
+/// What is asked and what was walked, without the empty left sets: all is as it was, but that the places of the others close up.
+pub fn without_empty(q: &Query, walked: &Walked) -> (Query, Walked) {
+    let kept: Vec<usize> = q.left.sets().iter().enumerate().filter(|(_, set)| !set.is_empty()).map(|(k, _)| k).collect();
+    let left = Collection { ends: kept.iter().map(|&k| q.left.ends[k]).collect(), items: q.left.items.clone() };
+    let mut walked = walked.clone();
+    for pair in walked.pairs.chunks_mut(2) {
+        let place = kept.iter().position(|&k| k == pair[0] as usize).expect("an empty left set is in no pair");
+        pair[0] = place as u16;
+    }
+    let mut q = Query { left, ..q.clone() };
+    q.work = work_words(&q);
+    (q, walked)
 }
 
 /// One or two faults of settings or sets.

@@ -10,3 +10,4 @@ pub mod oracle;
 pub mod pads;
 pub mod random;
 pub mod run;
+pub mod whole;

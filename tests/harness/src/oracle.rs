@@ -56,6 +56,11 @@ pub fn has_bad_items(t: u32, set: &[u16]) -> bool {
     set.len() > 255 || set.iter().any(|&i| u32::from(i) >= t) || set.windows(2).any(|w| w[0] >= w[1])
 }
 
+/// When a kit is contained in a stack: it has at least one item, and the stack has every item of it. Items may be tags themselves.
+pub fn is_contained<T>(kit: &[T], stack_has: impl Fn(&T) -> bool) -> bool {
+    !kit.is_empty() && kit.iter().all(stack_has)
+}
+
 #[derive(Clone, Copy, Debug, PartialEq)]
 pub enum Rule {
     Merge,
@@ -164,7 +169,7 @@ struct Walk<'a> {
 
 impl Walk<'_> {
     fn contained(&self, k: usize, s: usize) -> bool {
-        self.left[k].iter().all(|&i| self.right[s].has(i))
+        is_contained(&self.left[k], |&i| self.right[s].has(i))
     }
 
     fn check(&mut self, k: usize, s: usize) {
@@ -243,9 +248,9 @@ pub fn walk(q: &Query) -> Walked {
             }
         }
     }
-    let (empty, others): (Vec<usize>, Vec<usize>) = (0..walk.left.len()).partition(|&k| walk.left[k].is_empty());
-    walk.walked.counts.by_path += (empty.len() * right.len()) as u64;
-    for partition in walk.split(0, others) {
+    // a left set without a first item is in no partition, so that nothing of the walk meets it
+    let split: Vec<usize> = (0..walk.left.len()).filter(|&k| !walk.left[k].is_empty()).collect();
+    for partition in walk.split(0, split) {
         let first = q.ranks[walk.left[partition[0]][0] as usize];
         let is_seen = |s: &usize| right[*s].first().is_some_and(|&i| q.ranks[i as usize] <= first);
         let seen: Vec<usize> = (0..right.len()).filter(is_seen).collect();
@@ -317,11 +322,11 @@ pub fn first_refusal(q: &FirstQuery) -> Option<Refusal> {
 /// The places of all kits that the stack contains, of an accepted query.
 pub fn contained_kits(q: &FirstQuery) -> Vec<usize> {
     let stack: HashSet<u16> = q.right.iter().copied().collect();
-    let is_contained = |kit: &Vec<u16>| kit.iter().all(|item| stack.contains(item));
-    q.left.sets().iter().enumerate().filter(|(_, kit)| is_contained(kit)).map(|(k, _)| k).collect()
+    let contained = |kit: &[u16]| is_contained(kit, |item| stack.contains(item));
+    q.left.sets().iter().enumerate().filter(|(_, kit)| contained(kit)).map(|(k, _)| k).collect()
 }
 
-/// How many kits are compared, where the lowest place is known: up to it, or all.
+/// How many kits are compared, where the lowest place is known: up to it, or all. The empty ones count.
 pub fn compared(q: &FirstQuery, lowest: Option<usize>) -> usize {
     lowest.map_or(q.left.ends.len(), |place| place + 1)
 }
@@ -402,6 +407,14 @@ impl LoadedFile {
         let item = |tag: &Tag| self.tags.binary_search(tag).expect("a tag of a set is in the table") as u16;
         let sets: Vec<Vec<u16>> = self.sides[side].sets.iter().map(|set| set.iter().map(item).collect()).collect();
         Collection::of(&sets)
+    }
+
+    /// Kit number and stack number of every pair of records whose kit is contained in the stack, by their tags, in the order of the list.
+    pub fn whole_kits(&self) -> Vec<(u16, u16)> {
+        let [kits, stacks] = &self.sides;
+        let whole = |k: usize, s: usize| is_contained(&kits.sets[k], |tag| stacks.sets[s].contains(tag));
+        let places = (0..kits.sets.len()).flat_map(|k| (0..stacks.sets.len()).map(move |s| (k, s)));
+        places.filter(|&(k, s)| whole(k, s)).map(|(k, s)| (kits.numbers[k], stacks.numbers[s])).collect()
     }
 }
 

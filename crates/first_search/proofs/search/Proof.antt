@@ -28,8 +28,8 @@ shared-slice-read-end c = search needs
 cast-end : tie.Need-cast-end Inv-loop μ-loop
 cast-end c = omega (arith, c .shared-slice-known4 .given (c .before .before .loop .k) .fits)
 
-contains-part-requires : tie.Need-contains-part-requires Inv-loop μ-loop
-contains-part-requires c κs =
+is-marked-requires : tie.Need-is-marked-requires Inv-loop μ-loop
+is-marked-requires c κs =
     let p = c .before in
     searching-part (p .before .loop .inv) (p .loop-test .taken) (p .before .before .before .before .before .pre)
 
@@ -39,7 +39,7 @@ add-t12 c = search needs
 returns : tie.Need-returns Inv-loop μ-loop
 returns c =
     let p = c .before .before .before in
-    searching-stop (p .before .loop .inv) (p .loop-test .taken) (sym (c .if1 .taken) ∙ c .before .contains-part .ensures)
+    searching-stop (p .before .loop .inv) (p .loop-test .taken) (sym (c .if1 .taken) ∙ c .before .is-marked .ensures)
 
 add-k : tie.Need-add-k Inv-loop μ-loop
 add-k c = search needs
@@ -50,7 +50,7 @@ loop-less c = omega arith
 loop-again : tie.Need-loop-again Inv-loop μ-loop
 loop-again c =
     let p = c .before .before .before in
-    searching-next (p .before .loop .inv) (p .loop-test .taken) (sym (c .if1 .left) ∙ c .before .contains-part .ensures)
+    searching-next (p .before .loop .inv) (p .loop-test .taken) (sym (c .if1 .left) ∙ c .before .is-marked .ensures)
 
 returns-2 : tie.Need-returns-2 Inv-loop μ-loop
 returns-2 c = searching-end (c .before .loop .inv) (omega (arith, c .loop-test .left))
@@ -65,7 +65,7 @@ search-spec =
     mul-end
     shared-slice-read-end
     cast-end
-    contains-part-requires
+    is-marked-requires
     add-t12
     returns
     add-k

@@ -1,10 +1,10 @@
--- `is_contained` meets its contract. The invariant: containment of what is left of both sets decides that of the whole, and
--- both rise. The measure is what is left of the right set.
+-- `is_contained` meets its contract. An empty left set is turned away first. The invariant: containment of what is left of both sets
+-- decides that of the whole, and both rise. The measure is what is left of the right set.
 use mathlib.Core.Logic.{⊎-elim}
 use Prim.Native.Nat.{_-_}
 use native.Mathlib.Omega.{arith}
 use lib.ListN.{length}
-use Rattle.inputs.proofs.Containing.{Containing, containing-start, containing-stop, containing-end}
+use Rattle.inputs.proofs.Containing.{Containing, containing-none, containing-start, containing-stop, containing-end}
 use Rattle.inputs.proofs.Containing.{containing-low, containing-same, containing-high}
 use Rattle.inputs.proofs.is_contained.Statement.{statement}
 use Rattle.inputs.proofs.is_contained.Tie as tie
@@ -15,11 +15,14 @@ Inv-loop left right i₀ j₀ i j = Containing left right i j
 abbrev μ-loop : tie.MeasureT-loop
 μ-loop left right i₀ j₀ i j = length right - j
 
-loop-holds : tie.Need-loop-holds Inv-loop μ-loop
-loop-holds c = containing-start _ _ (c .pre .0) (c .pre .1)
-
 returns : tie.Need-returns Inv-loop μ-loop
-returns c = containing-stop (c .before .before .loop .inv) (omega arith) (c .if1 .taken)
+returns c = containing-none _ _ (omega arith)
+
+loop-holds : tie.Need-loop-holds Inv-loop μ-loop
+loop-holds c = containing-start _ _ (omega arith) (c .before .pre .0) (c .before .pre .1)
+
+returns-2 : tie.Need-returns-2 Inv-loop μ-loop
+returns-2 c = containing-stop (c .before .before .loop .inv) (omega arith) (c .if2 .taken)
 
 mul-x : tie.Need-mul-x Inv-loop μ-loop
 mul-x c = omega arith
@@ -33,9 +36,9 @@ mul-y c = omega arith
 shared-slice-read-y : tie.Need-shared-slice-read-y Inv-loop μ-loop
 shared-slice-read-y c = omega arith
 
-returns-2 : tie.Need-returns-2 Inv-loop μ-loop
-returns-2 c =
-    containing-low (c .before .before .before .before .before .loop .inv) (omega arith) (omega arith) (c .if2 .taken)
+returns-3 : tie.Need-returns-3 Inv-loop μ-loop
+returns-3 c =
+    containing-low (c .before .before .before .before .before .loop .inv) (omega arith) (omega arith) (c .if3 .taken)
 
 add-i : tie.Need-add-i Inv-loop μ-loop
 add-i c = omega arith
@@ -52,10 +55,10 @@ loop-again c =
     ⊎-elim
     (λ t. rw (t .1) (containing-same m (omega arith) (omega arith) (t .0 .taken)))
     (λ f. rw (f .1) (containing-high m (omega arith) (omega arith) (omega (arith, f .0 .left))))
-    (c .if3 .came)
+    (c .if4 .came)
 
-returns-3 : tie.Need-returns-3 Inv-loop μ-loop
-returns-3 c = containing-end (c .before .loop .inv) (c .loop-test .left)
+returns-4 : tie.Need-returns-4 Inv-loop μ-loop
+returns-4 c = containing-end (c .before .loop .inv) (c .loop-test .left)
 
 pub is-contained-spec : {M : Type 1} → statement M
 is-contained-spec =
@@ -63,15 +66,16 @@ is-contained-spec =
     (tie.spec
     Inv-loop
     μ-loop
-    loop-holds
     returns
+    loop-holds
+    returns-2
     mul-x
     shared-slice-read-x
     mul-y
     shared-slice-read-y
-    returns-2
+    returns-3
     add-i
     add-j
     loop-less
     loop-again
-    returns-3)
+    returns-4)

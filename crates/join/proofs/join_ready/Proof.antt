@@ -118,14 +118,14 @@ write-pairs-requires c κs =
       walked .walk .ensures .1,
     )
 
-add-t46 : tie.Need-add-t46
-add-t46 c =
+add-t45 : tie.Need-add-t45
+add-t45 c =
     let calm = c .before .before .before .before .before .before .before .before .before .before .before .before .before in
     let walked = calm .before .before .before .before in
     omega (arith, checks-small (start walked .pre) (done walked) (calm .if1 .left))
 
-add-t47 : tie.Need-add-t47
-add-t47 c =
+add-t46 : tie.Need-add-t46
+add-t46 c =
     let calm = c .before .before .before .before .before .before .before .before .before .before .before .before .before .before in
     let walked = calm .before .before .before .before in
     record { fits = checks-small (start walked .pre) (done walked) (calm .if1 .left) }
@@ -168,8 +168,8 @@ join-ready-spec =
     returns-2
     slice-aggregate-write-pairs
     write-pairs-requires
+    add-t45
     add-t46
-    add-t47
     same-length-5
     same-length-6
     returns-3)

@@ -23,20 +23,20 @@ use Rattle.join_pairs.proofs.RowPairs.{pairs-next, pairs-none}
 use Rattle.join_pairs.proofs.write_pairs.Statement.{statement}
 use Rattle.join_pairs.proofs.write_pairs.Tie as tie
 
-record PairsWriting (lay : Layout) (w : List ℕ) (lefts rights : ℕ) (was v pairs : List ℕ) (n k : ℕ) : Type 0 where
+record PairsWriting (lay : Layout) (w : List ℕ) (lefts : ℕ) (was v pairs : List ℕ) (n k : ℕ) : Type 0 where
   changed : Changed (lay .slots) (lay .«row_starts») w v
   written :
-      (q : Query) → PairsRoom lay q w lefts rights was
+      (q : Query) → PairsRoom lay q w lefts was
       → Writing was 0 (pairList (q .lefts) (q .rights)) pairs n (pairsFrom contained k (drop k (q .lefts)) (q .rights))
 
-list-room : {lay : Layout} {q : Query} {w : List ℕ} {lefts rights : ℕ} {was : List ℕ} → PairsRoom lay q w lefts rights was
+list-room : {lay : Layout} {q : Query} {w : List ℕ} {lefts : ℕ} {was : List ℕ} → PairsRoom lay q w lefts was
     → length (pairList (q .lefts) (q .rights)) ≤ length was
 list-room {lay} {q} there = omega (arith, there .room, length-pairList (q .lefts) (q .rights))
 
-module _ {lay : Layout} {w : List ℕ} {lefts rights : ℕ} {was v pairs : List ℕ} {n k : ℕ}
-    (writing : PairsWriting lay w lefts rights was v pairs n k)
+module _ {lay : Layout} {w : List ℕ} {lefts : ℕ} {was v pairs : List ℕ} {n k : ℕ}
+    (writing : PairsWriting lay w lefts was v pairs n k)
   where
-    left-room : k < lefts → {q : Query} → PairsRoom lay q w lefts rights was → LeftRoom lay q v k rights n pairs
+    left-room : k < lefts → {q : Query} → PairsRoom lay q w lefts was → LeftRoom lay q v k n pairs
     left-room more {q} there =
         record {
           left =
@@ -46,14 +46,13 @@ module _ {lay : Layout} {w : List ℕ} {lefts rights : ℕ} {was v pairs : List 
               };
           top = there .top;
           rows = rows-framed (there .index .ground) (writing .changed .high) (there .rows);
-          rightCount = there .rightCount;
           room =
               writing-room (writing .written q there) (rowAt q k) (pairsFrom contained (k + 1) (drop (k + 1) (q .lefts)) (q .rights))
               (pairs-next q k (omega (arith, there .leftCount)));
         }
 
-    pairs-step : k < lefts → {u out : List ℕ} {r : ℕ} → LeftWritten lay v k rights n pairs u out r
-        → PairsWriting lay w lefts rights was u out r (k + 1)
+    pairs-step : k < lefts → {u out : List ℕ} {r : ℕ} → LeftWritten lay v k n pairs u out r
+        → PairsWriting lay w lefts was u out r (k + 1)
     pairs-step more wrote =
         record {
           changed = changed-then (writing .changed) (wrote .changed);
@@ -62,16 +61,16 @@ module _ {lay : Layout} {w : List ℕ} {lefts rights : ℕ} {was v pairs : List 
               (wrote .wrote q (left-room more there));
         }
 
-    pairs-end : lefts ≤ k → (q : Query) → PairsRoom lay q w lefts rights was
+    pairs-end : lefts ≤ k → (q : Query) → PairsRoom lay q w lefts was
         → pairs ≡ pairList (q .lefts) (q .rights) ++ drop (length (pairList (q .lefts) (q .rights))) was
     pairs-end past q there =
         written-whole (writing-end (writing .written q there) (pairs-none q k (omega (arith, there .leftCount)))) (list-room there)
 
 abbrev Inv-loop : tie.InvT-loop
-Inv-loop work₀ flags₀ lay lefts rights pairs₀ n₀ k₀ work flags pairs n k = PairsWriting lay work₀ lefts rights pairs₀ work pairs n k × Clear flags
+Inv-loop work₀ flags₀ lay lefts pairs₀ n₀ k₀ work flags pairs n k = PairsWriting lay work₀ lefts pairs₀ work pairs n k × Clear flags
 
 abbrev μ-loop : tie.MeasureT-loop
-μ-loop work₀ flags₀ lay lefts rights pairs₀ n₀ k₀ work flags pairs n k = lefts - k
+μ-loop work₀ flags₀ lay lefts pairs₀ n₀ k₀ work flags pairs n k = lefts - k
 
 loop-holds : tie.Need-loop-holds Inv-loop μ-loop
 loop-holds c =

@@ -1,11 +1,13 @@
 //! The loader and the writer at the limits exactly, and one beyond: 4,096 sets a side, 65,535 collapsed entries a side, 4,096
-//! distinct tags; and the order of the causes within one record.
+//! distinct tags; the order of the causes within one record; and records of kits without a tag, which are loaded and written as others.
 
 use harness::calls;
 use harness::files::record;
 use harness::oracle::*;
 use harness::random::Random;
 use harness::run::run_named;
+use harness::whole;
+use kitfinder::TagFile;
 
 fn tag(k: usize) -> Tag {
     let mut tag = [0; 12];
@@ -49,6 +51,25 @@ fn loads(file: &[u8], should: Option<Refusal>) -> Result<(), String> {
         calls::write(random, &WriteQuery { room: again.len() - 1, ..q })?;
     }
     calls::load_into(random, &again, needed, &loaded)
+}
+
+/// A file with its kits first and their tags rising is loaded, written as it is and loaded again, and these kits are whole, kit number and
+/// stack number.
+fn keeps(file: &[u8], should: &[(u16, u16)]) -> Result<(), String> {
+    loads(file, None)?;
+    let loaded = load(file).map_err(|refusal| format!("the oracle has {refusal:?}"))?;
+    if loaded.whole_kits() != should {
+        return Err(format!("the oracle's whole kits are {:?}", loaded.whole_kits()));
+    }
+    let first = TagFile::load(file).map_err(|refusal| refusal.to_string())?;
+    let written = first.write().map_err(|refusal| refusal.to_string())?;
+    if written != file {
+        return Err(format!("it is written as {written:02X?}"));
+    }
+    if TagFile::load(&written).as_ref() != Ok(&first) {
+        return Err("the written file holds something else".into());
+    }
+    whole::compare(&first, &loaded)
 }
 
 /// A file and a record more.
@@ -98,6 +119,24 @@ fn main() {
     add("a kit and a stack of one number", loads(b"KT\x00\x07\x00SK\x00\x07\x00", None));
     add("two kits of one number", loads(b"KT\x00\x07\x00SK\x00\x07\x00KT\x00\x07\x00", Some(Refusal(2, 10, 0))));
     add("the first fault decides", loads(b"KT\x00\x07\x00KT\x00\x07\x00XX", Some(Refusal(2, 5, 0))));
+
+    // Kits without a tag.
+    let kit = |number: u16, n: usize| record(false, number, &tags(1, n));
+    let stack = |number: u16, n: usize| record(true, number, &tags(1, n));
+    add("an empty kit", keeps(&kit(7, 0), &[]));
+    add("an empty kit and a stack", keeps(&and(&kit(7, 0), stack(9, 2)), &[]));
+    add("an empty kit and an empty stack", keeps(&and(&kit(7, 0), stack(9, 0)), &[]));
+    add("a kit with a last tag", keeps(&[kit(7, 1), kit(5, 2), stack(9, 2)].concat(), &[(7, 9), (5, 9)]));
+    add("the same kit when it is withdrawn", keeps(&[kit(7, 0), kit(5, 2), stack(9, 2)].concat(), &[(5, 9)]));
+    let around = [kit(0, 0), kit(7, 2), kit(65535, 0), stack(9, 2), stack(7, 3)].concat();
+    add("empty kits around a whole one", keeps(&around, &[(7, 9), (7, 7)]));
+    let between = [kit(1, 2), kit(4, 0), kit(2, 0), kit(3, 2), stack(9, 2)].concat();
+    add("empty kits between equal ones", keeps(&between, &[(1, 9), (3, 9)]));
+    let empty = |from: u16, to: u16| (from..to).flat_map(|k| kit(k, 0)).collect::<Vec<u8>>();
+    add("4,096 empty kits and a stack", keeps(&and(&empty(0, 4096), stack(9, 2)), &[]));
+    add("4,095 empty kits, one that is whole, and a stack", keeps(&[empty(0, 4095), kit(5000, 1), stack(9, 2)].concat(), &[(5000, 9)]));
+    add("4,097 empty kits", loads(&empty(0, 4097), Some(Refusal(3, 5 * 4096, 0))));
+
     let most = WriteQuery {
         t: 4096,
         tags: tags(0, 4096).concat(),

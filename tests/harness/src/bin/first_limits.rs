@@ -67,7 +67,7 @@ fn main() {
     let mut checks: Vec<(&str, Result<(), String>)> = Vec::new();
     let mut add = |name, result| checks.push((name, result));
 
-    // The shelf of document 01, and kits without parts.
+    // The shelf of document 01.
     let shelf = [vec![0, 1], vec![1], vec![0, 2, 3]];
     add("the shelf's first stack", finds(4, &shelf, &[0, 1, 2], 0));
     add("the shelf's second stack", finds(4, &shelf, &[1, 3], 1));
@@ -77,12 +77,24 @@ fn main() {
     add("an empty stack", finds_none(4, &shelf, &[]));
     add("no kits", finds_none(4, &[], &[1, 3]));
     add("nothing at all", finds_none(0, &[], &[]));
-    add("an empty kit, an empty stack and no items", finds(0, &[vec![]], &[], 0));
-    add("an empty kit first", finds(4, &[vec![], vec![1]], &[1, 3], 0));
-    add("an empty kit last", finds(4, &[vec![0], vec![2], vec![]], &[1, 3], 2));
-    add("an empty kit behind the one found", finds(4, &[vec![0], vec![3], vec![]], &[1, 3], 1));
     add("three equal kits", finds(4, &[vec![1, 3], vec![1, 3], vec![1, 3]], &[1, 3], 0));
     add("the stack lies within the kits' items", overlaps());
+
+    // Kits without a tag are passed over, and their places count.
+    add("an empty kit, an empty stack and no items", finds_none(0, &[vec![]], &[]));
+    add("an empty kit and an empty stack", finds_none(4, &[vec![]], &[]));
+    add("an empty kit alone", finds_none(4, &[vec![]], &[1, 3]));
+    add("three empty kits", finds_none(4, &vec![vec![]; 3], &[1, 3]));
+    add("an empty kit first", finds(4, &[vec![], vec![1]], &[1, 3], 1));
+    add("an empty kit first, and none", finds_none(4, &[vec![], vec![0]], &[1, 3]));
+    add("two empty kits first", finds(4, &[vec![], vec![], vec![1]], &[1, 3], 2));
+    add("an empty kit between one that is not contained and one that is", finds(4, &[vec![0], vec![], vec![1]], &[1, 3], 2));
+    add("an empty kit last", finds_none(4, &[vec![0], vec![2], vec![]], &[1, 3]));
+    add("an empty kit behind the one found", finds(4, &[vec![0], vec![3], vec![]], &[1, 3], 1));
+    add("an empty kit between equal ones", finds(4, &[vec![1, 3], vec![], vec![1, 3]], &[1, 3], 0));
+    add("an empty kit before equal ones", finds(4, &[vec![], vec![1, 3], vec![1, 3]], &[1, 3], 1));
+    add("empty kits around the shelf's", finds(4, &[vec![], vec![0, 1], vec![], vec![1], vec![], vec![0, 2, 3]], &[0, 2, 3], 5));
+    add("an empty kit first, and an empty stack", finds_none(4, &[vec![], vec![1]], &[]));
 
     // The limits.
     let full: Vec<u16> = run(0, 255);
@@ -106,13 +118,18 @@ fn main() {
     add("4,096 kits, the first", finds(4096, &single[..4096], &[0, 4095], 0));
     add("4,096 kits, the last", finds(4096, &single[..4096], &[4095], 4095));
     add("4,096 kits, none", finds_none(4096, &single[..4096], &[]));
-    add("4,096 empty kits", finds(0, &vec![vec![]; 4096], &[], 0));
+    add("4,096 empty kits", finds_none(0, &vec![vec![]; 4096], &[]));
+    add("4,096 empty kits and 255 items", finds_none(4096, &vec![vec![]; 4096], &full));
+    add("4,095 empty kits and a last one", finds(4096, &[vec![vec![]; 4095], vec![vec![7]]].concat(), &full, 4095));
+    add("a first kit and 4,095 empty ones", finds(4096, &[vec![vec![7]], vec![vec![]; 4095]].concat(), &full, 0));
     add("4,097 kits", bad_kit(4096, &single, &[0], 4096));
     add("4,097 empty kits", bad_kit(0, &vec![vec![]; 4097], &[], 4096));
     let mut entries: Vec<Vec<u16>> = (0..257).map(|k| run(15 * k % 3841, 255)).collect();
     add("65,535 entries, the last kit", finds(4096, &entries, &entries[256], 256));
+    let after_empty: Vec<Vec<u16>> = [vec![vec![]], entries.clone()].concat();
+    add("an empty kit and 65,535 entries, the last kit", finds(4096, &after_empty, &entries[256], 257));
     entries.push(Vec::new());
-    add("65,535 entries and an empty kit", finds(4096, &entries, &[], 257));
+    add("65,535 entries and an empty kit", finds_none(4096, &entries, &[]));
     entries[257] = vec![7];
     add("65,536 entries", bad_kit(4096, &entries, &[7], 257));
 
@@ -121,6 +138,7 @@ fn main() {
     let kits = [vec![0], vec![3], vec![5]];
     add("the items of a kit beyond the last end", searches(6, left(&[1, 2], &[0, 3, 5]), &[5], Ok((None, 2))));
     add("items of T beyond the last end", searches(6, left(&[1, 2], &[0, 3, 6, 6, 65535]), &[3], Ok((Some(1), 2))));
+    add("the items of the stack beyond the end of an empty kit", searches(6, left(&[0], &[0, 3, 5]), &[0, 3, 5], Ok((None, 1))));
     add("items and no ends", searches(6, left(&[], &[0, 3, 5]), &[0, 3, 5], Ok((None, 0))));
     add("an end that falls", searches(6, left(&[2, 1], &[0, 3]), &[0, 3], Err(Refusal(5, 0, 1))));
     add("an end beyond the items", searches(6, left(&[1, 3], &[0, 3]), &[0, 3], Err(Refusal(5, 0, 1))));
@@ -144,7 +162,9 @@ fn main() {
 
     // All is tested before any kit is compared, in this order.
     add("a bad kit behind one that is contained", bad_kit(6, &[vec![], vec![0], vec![6]], &[0], 2));
+    add("a bad kit behind empty ones", bad_kit(6, &[vec![], vec![], vec![6]], &[0], 2));
     add("a bad stack, and an empty kit first", bad_stack(6, &[vec![], vec![0]], &[3, 3]));
+    add("a bad stack, and empty kits alone", bad_stack(6, &[vec![], vec![]], &[3, 3]));
     add("two bad kits", bad_kit(6, &[vec![0], vec![6], vec![3, 3]], &[0], 1));
     add("a bad kit and a bad stack", bad_kit(6, &[vec![0], vec![3, 3]], &[3, 3], 1));
     add("T of 4,097", bad_t(4097, &kits, &[5]));

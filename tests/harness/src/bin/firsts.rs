@@ -5,7 +5,7 @@
 
 use harness::firsts::query;
 use harness::joins::{limit, permutation, rule};
-use harness::oracle::{self, contained_kits, first_refusal, has_bad_items, Collection, FirstQuery, Refusal};
+use harness::oracle::{self, contained_kits, first_refusal, has_bad_items, is_contained, Collection, FirstQuery, Refusal};
 use harness::random::Random;
 use harness::{calls, run::Plan};
 use kitfinder::Side;
@@ -102,7 +102,22 @@ impl Case<'_> {
     /// A kit is passed whose items all equal items of the stack modulo a number.
     fn is_alike(&self, modulo: u16) -> bool {
         let alike = |item: &u16| self.q.right.iter().any(|other| other % modulo == item % modulo);
-        self.passed().iter().any(|kit| kit.iter().all(alike))
+        self.passed().iter().any(|kit| is_contained(kit, alike))
+    }
+
+    /// There are kits, and all are empty.
+    fn has_only_empty(&self) -> bool {
+        !self.kits.is_empty() && self.kits.iter().all(Vec::is_empty)
+    }
+
+    /// Found after so many kits that are all empty.
+    fn is_behind_empty(&self, holds: fn(usize) -> bool) -> bool {
+        self.found().is_some() && holds(self.passed().len()) && self.passed().iter().all(Vec::is_empty)
+    }
+
+    /// An empty kit stands between two kits, of which something holds.
+    fn has_empty_between(&self, holds: fn(&Case, usize, usize) -> bool) -> bool {
+        (1..self.kits.len().saturating_sub(1)).any(|k| self.kits[k].is_empty() && holds(self, k - 1, k + 1))
     }
 
     /// The items beyond the last end.
@@ -130,7 +145,12 @@ impl Case<'_> {
     fn is_bad_behind(&self) -> bool {
         let Some(Refusal(5, 0, k)) = self.refusal else { return false };
         let before = Collection { ends: self.q.left.ends[..k as usize].to_vec(), items: self.q.left.items.clone() };
-        !self.bad_stack && before.sets().iter().any(|kit| kit.iter().all(|&item| self.has_item(item)))
+        !self.bad_stack && before.sets().iter().any(|kit| is_contained(kit, |&item| self.has_item(item)))
+    }
+
+    /// Refused for a bad kit behind others that are all empty.
+    fn is_bad_behind_empty(&self) -> bool {
+        matches!(self.refusal, Some(Refusal(5, 0, k)) if k > 0 && self.q.left.ends[..k as usize].iter().all(|&end| end == 0))
     }
 
     /// Refused for the stack, of which these are all the faults.
@@ -140,35 +160,52 @@ impl Case<'_> {
 }
 
 type Kind = (&'static str, fn(&Case) -> bool);
-const KINDS: [Kind; 77] = [
+const KINDS: [Kind; 87] = [
     ("found at place 0 of several", |c| c.is_found(|place, last| place == 0 && last > 0)),
     ("found in the middle", |c| c.is_found(|place, last| place > 0 && place < last)),
     ("found at the last place of several", |c| c.is_found(|place, last| place > 0 && place == last)),
-    ("none of several", |c| c.is_none() && c.kits.len() > 1),
+    ("none of several", |c| c.is_none() && c.kits.len() > 1 && !c.kits.iter().any(Vec::is_empty)),
     ("a lone kit, found", |c| c.is_found(|_, last| last == 0)),
-    ("a lone kit, not found", |c| c.is_none() && c.kits.len() == 1),
+    ("a lone kit, not found", |c| c.is_none() && c.kits.len() == 1 && !c.has_only_empty()),
     ("no kits", |c| c.is(0) && c.kits.is_empty()),
     ("no kits and no items", |c| c.is(0) && c.kits.is_empty() && c.q.right.is_empty()),
     ("several kits are contained", |c| c.contained.len() > 1),
     ("all kits are contained", |c| c.contained.len() > 1 && c.contained.len() == c.kits.len()),
-    ("the kit found is there again", |c| c.found().is_some_and(|kit| !kit.is_empty() && c.behind().contains(kit))),
-    ("equal kits are passed", |c| c.passed().windows(2).any(|pair| pair[0] == pair[1])),
+    ("the kit found is there again", |c| c.found().is_some_and(|kit| c.behind().contains(kit))),
+    ("equal kits are passed", |c| c.passed().windows(2).any(|pair| pair[0] == pair[1] && !pair[0].is_empty())),
     ("a kit passed has all items of the kit found", |c| {
         c.found().is_some_and(|found| found.len() > 1 && c.passed().iter().any(|kit| found.iter().all(|item| kit.contains(item))))
     }),
-    ("an empty kit at place 0 of several", |c| c.is_found(|place, last| place == 0 && last > 0) && c.kits[0].is_empty()),
-    ("an empty kit found in the middle", |c| c.is_found(|place, last| place > 0 && place < last) && c.found().is_some_and(Vec::is_empty)),
-    ("an empty kit found at the last place", |c| {
-        c.is_found(|place, last| place > 0 && place == last) && c.found().is_some_and(Vec::is_empty)
+    ("an empty kit first, and the next is found", |c| c.is_behind_empty(|empty| empty == 1)),
+    ("several empty kits first, and the next is found", |c| c.is_behind_empty(|empty| empty > 1)),
+    ("an empty kit after another, and the next is found", |c| {
+        c.is_found(|place, _| place > 1) && c.passed().last().is_some_and(Vec::is_empty) && c.passed().iter().any(|kit| !kit.is_empty())
     }),
-    ("an empty kit behind the one found", |c| c.found().is_some_and(|kit| !kit.is_empty()) && c.behind().iter().any(Vec::is_empty)),
-    ("an empty kit alone", |c| c.kits == [[]]),
-    ("several kits, all empty", |c| c.kits.len() > 1 && c.kits.iter().all(Vec::is_empty)),
-    ("an empty kit and an empty stack", |c| c.found().is_some_and(Vec::is_empty) && c.q.right.is_empty()),
-    ("an empty stack that contains none of several", |c| c.is_none() && c.kits.len() > 1 && c.q.right.is_empty()),
-    ("a stack of 255 items, found", |c| c.found().is_some_and(|kit| !kit.is_empty()) && c.q.right.len() == 255),
+    ("an empty kit behind the one found", |c| c.behind().iter().any(Vec::is_empty)),
+    ("an empty kit between two that are contained", |c| {
+        c.has_empty_between(|c, before, behind| c.contained.contains(&before) && c.contained.contains(&behind))
+    }),
+    ("an empty kit between two that are equal, and none", |c| {
+        c.is_none() && c.has_empty_between(|c, before, behind| c.kits[before] == c.kits[behind] && !c.kits[before].is_empty())
+    }),
+    ("an empty kit first of several, and none", |c| c.is_none() && c.kits.len() > 1 && c.kits[0].is_empty() && !c.has_only_empty()),
+    ("an empty kit last of several, and none", |c| {
+        c.is_none() && c.kits.len() > 1 && c.kits.last().is_some_and(Vec::is_empty) && !c.has_only_empty()
+    }),
+    ("an empty kit alone, and items", |c| c.kits == [[]] && !c.q.right.is_empty()),
+    ("an empty kit alone, and an empty stack", |c| c.kits == [[]] && c.q.right.is_empty()),
+    ("several kits, all empty", |c| c.kits.len() > 1 && c.has_only_empty() && !c.q.right.is_empty()),
+    ("several kits, all empty, and an empty stack", |c| c.kits.len() > 1 && c.has_only_empty() && c.q.right.is_empty()),
+    ("only empty kits, and items of the stack beyond the last end", |c| {
+        c.is(0) && c.has_only_empty() && is_contained(c.past(), |&item| c.has_item(item))
+    }),
+    ("only empty kits and a stack of 255 items", |c| c.has_only_empty() && c.q.right.len() == 255),
+    ("an empty stack that contains none of several", |c| {
+        c.is_none() && c.kits.len() > 1 && !c.kits.iter().any(Vec::is_empty) && c.q.right.is_empty()
+    }),
+    ("a stack of 255 items, found", |c| c.found().is_some() && c.q.right.len() == 255),
     ("a stack of 255 items, none", |c| c.is_none() && c.kits.len() > 1 && c.q.right.len() == 255),
-    ("the kit found is the stack", |c| c.found().is_some_and(|kit| !kit.is_empty() && *kit == c.q.right)),
+    ("the kit found is the stack", |c| c.found().is_some_and(|kit| *kit == c.q.right)),
     ("the kit found has 255 items", |c| c.found().is_some_and(|kit| kit.len() == 255)),
     ("the kit found has a lone item", |c| c.found().is_some_and(|kit| kit.len() == 1) && c.q.right.len() > 1),
     ("the kit found has item 0", |c| c.found().is_some_and(|kit| kit.first() == Some(&0))),
@@ -191,6 +228,8 @@ const KINDS: [Kind; 77] = [
     ("T of 4,096", |c| c.is(0) && c.q.t == 4096 && !c.kits.is_empty()),
     ("4,096 kits, found at the last place", |c| c.is_found(|place, _| place == 4095)),
     ("4,096 kits, none", |c| c.is_none() && c.kits.len() == 4096),
+    ("4,096 kits, found behind an empty one", |c| c.is_found(|_, last| last == 4095) && c.passed().iter().any(Vec::is_empty)),
+    ("4,096 kits, none, and some are empty", |c| c.is_none() && c.kits.len() == 4096 && c.kits.iter().any(Vec::is_empty)),
     ("65,535 entries", |c| c.is(0) && c.q.left.entries() == 65535),
     ("T of 4,097", |c| c.is(6) && c.q.t == 4097 && c.bad_kit.is_none() && !c.bad_stack),
     ("T that is good by its low 16 bits", |c| c.is(6) && c.q.t & 0xFFFF <= 4096 && c.bad_kit.is_none() && !c.bad_stack),
@@ -200,6 +239,7 @@ const KINDS: [Kind; 77] = [
     ("6 against both", |c| c.is(6) && c.bad_kit.is_some() && c.bad_stack),
     ("a bad kit against a bad stack", |c| c.is(5) && c.bad_kit.is_some() && c.bad_stack),
     ("a bad kit behind one that is contained", |c| c.is_bad_behind()),
+    ("a bad kit behind empty ones", |c| c.is_bad_behind_empty()),
     ("a bad kit, and a later one", |c| {
         c.is(5) && c.bad_kit.is_some_and(|k| (k + 1..c.q.left.ends.len()).any(|k| !kit_faults(c.q, k).is_empty()))
     }),

@@ -80,7 +80,13 @@ fn main() {
     add("4,096 sets a side over few items, limit 1", around(query(100, &few_left, &few_right, 1, MERGE)));
     add("4,096 sets a side over few items, limit 255", around(query(100, &few_left, &few_right, 255, MERGE)));
     add("4,096 sets a side over few items, Weighed", around(query(100, &few_left, &few_right, 3, weighed)));
+    let one = vec![vec![7]; 4096];
+    add("4,096 sets a side of one item, which all hold, limit 1", around(query(9, &one, &one, 1, MERGE)));
+    add("4,096 sets a side of one item, which all hold, Check", around(query(9, &one, &one, 1, Rule::Check)));
+    add("4,096 left sets of one item and one empty right set", around(query(9, &one, &[vec![]], 1, MERGE)));
     add("4,096 empty left sets and 4,096 right sets", around(query(4096, &vec![vec![]; 4096], &single(4096), 2, MERGE)));
+    add("4,096 empty left sets and 4,096 right sets, Check", around(query(4096, &vec![vec![]; 4096], &single(4096), 2, Rule::Check)));
+    add("4,096 empty sets a side", around(query(0, &vec![vec![]; 4096], &vec![vec![]; 4096], 1, MERGE)));
     add("4,096 equal left sets", around(query(9, &vec![vec![2, 5]; 4096], &vec![vec![2, 5, 7]; 256], 2, MERGE)));
     add("65,535 entries a side, limit 2", around(query(4096, &full, &closed, 2, MERGE)));
     add("65,535 entries a side, limit 255", around(query(4096, &closed, &full, 255, MERGE)));

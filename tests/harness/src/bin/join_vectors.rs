@@ -79,8 +79,8 @@ const VECTORS: &[Vector] = &[
         name: "P7",
         left: &[&[]],
         right: &[&[0], &[1, 2]],
-        places: 4,
-        result: Joined([2, 2, 0, 0, 0, 0], &[0, 0, 0, 1]),
+        places: 0,
+        result: Joined([0; 6], &[]),
         ..SHELF
     },
     Vector { name: "P8 allowance 6", rule: Rule::Check, budget: 6, result: Refused(8), ..SHELF },
@@ -114,14 +114,6 @@ const VECTORS: &[Vector] = &[
         right: &[&[2], &[3]],
         places: 4,
         result: Joined([2, 2, 0, 0, 0, 0], &[0, 0, 1, 1]),
-        ..SHELF
-    },
-    Vector {
-        name: "slip: empty left sets pair with empty right sets too",
-        left: &[&[0], &[]],
-        right: &[&[], &[0]],
-        places: 6,
-        result: Joined([3, 3, 0, 0, 0, 0], &[0, 1, 1, 0, 1, 1]),
         ..SHELF
     },
     Vector {
@@ -195,8 +187,35 @@ const VECTORS: &[Vector] = &[
         t: 0,
         left: &[&[], &[]],
         right: &[&[]],
-        places: 4,
-        result: Joined([2, 2, 0, 0, 0, 0], &[0, 0, 1, 0]),
+        places: 0,
+        result: Joined([0; 6], &[]),
+        ..SHELF
+    },
+    Vector {
+        name: "an empty left set has no pair with an empty right set",
+        left: &[&[0], &[]],
+        right: &[&[], &[0]],
+        places: 2,
+        result: Joined([1, 1, 0, 0, 0, 0], &[0, 1]),
+        ..SHELF
+    },
+    Vector {
+        name: "an empty left set is not checked and takes nothing of the allowance",
+        left: &[&[], &[1], &[]],
+        right: &[&[1, 3], &[0, 2], &[]],
+        rule: Rule::Check,
+        budget: 2,
+        places: 2,
+        result: Joined([1, 0, 1, 2, 1, 0], &[1, 0]),
+        ..SHELF
+    },
+    Vector {
+        name: "an empty left set begins with no path",
+        left: &[&[], &[0], &[0], &[]],
+        right: &[&[0], &[0, 1], &[0, 2]],
+        rule: weighed(0.0, 0.0, 6.0, 1.0),
+        places: 12,
+        result: Joined([6, 0, 6, 6, 0, 0], &[1, 0, 1, 1, 1, 2, 2, 0, 2, 1, 2, 2]),
         ..SHELF
     },
     Vector { name: "an item of T", left: &[&[1], &[0, 4]], result: Refused(5), ..SHELF },

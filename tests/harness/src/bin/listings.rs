@@ -1,14 +1,16 @@
-//! The program kitlist on generated, damaged and full tag files, against the oracle. KITLIST names the program.
+//! The program kitlist on generated, damaged and full tag files, against the oracle. KITLIST names the program. The last lines have how
+//! many generated files there were of each kind, and a kind without a file fails the run.
 
 use harness::files::{damage, file, record};
 use harness::oracle::*;
 use harness::random::Random;
 use harness::run::Plan;
+use harness::whole::Tally;
 use std::fmt::Write as _;
 use std::io::Write as _;
 use std::process::{Command, Stdio};
 
-/// What the program prints for a file.
+/// What the program prints for a file: the counts of the walk, and the pairs of records by their tags.
 fn listing(bytes: &[u8]) -> String {
     let refused = |Refusal(number, detail, _)| format!("refused {number} {detail}\n");
     if bytes.len() > 65536 {
@@ -29,14 +31,14 @@ fn listing(bytes: &[u8]) -> String {
     if let Some(refusal) = walk_refusal(&q, &walked.counts) {
         return refused(refusal);
     }
-    let c = walked.counts;
+    let (c, whole) = (walked.counts, loaded.whole_kits());
+    assert_eq!(c.pairs, whole.len() as u64, "the oracle's pairs are the same by items and by tags");
     let mut text = format!(
         "pairs {} path {} confirmed {} checks {} dropped {} false {}\n",
         c.pairs, c.by_path, c.confirmed, c.checks, c.dropped, c.false_drops
     );
-    for pair in walked.pairs.chunks(2) {
-        let numbers = [0, 1].map(|side| loaded.sides[side].numbers[pair[side] as usize]);
-        writeln!(text, "{} {}", numbers[0], numbers[1]).expect("a string takes every line");
+    for (kit, stack) in whole {
+        writeln!(text, "{kit} {stack}").expect("a string takes every line");
     }
     text
 }
@@ -78,19 +80,29 @@ fn of_length(length: usize) -> Vec<u8> {
 /// The files at the program's own limits.
 fn named() -> Vec<(&'static str, Vec<u8>)> {
     let empty = |n: u16| (0..n).flat_map(|k| record(false, k, &[])).collect::<Vec<u8>>();
-    let stacks = |n: u16| (0..n).flat_map(|k| record(true, 1000 + k, &[])).collect::<Vec<u8>>();
-    // n = sets + entries + tags: a record of its own tags has 1 + 2 x count
+    // kits and stacks of one tag, the same in all
+    let kits = |n: u16| (0..n).flat_map(|k| record(false, 1000 + k, &tags(0, 1))).collect::<Vec<u8>>();
+    let stacks = |n: u16| (0..n).flat_map(|k| record(true, 1000 + k, &tags(0, 1))).collect::<Vec<u8>>();
+    // n = sets + entries + tags: a record of its own tags has 1 + 2 x count, a kit of one tag of another's 2, and an empty kit 1
     let sized = |n: usize| -> Vec<u8> {
         let whole: Vec<u8> = (0..4).flat_map(|k| record(true, k, &tags(120 * k as usize, 120))).collect();
-        let rest = (0..n - 4 * 241).flat_map(|k| record(false, k as u16, &[])).collect::<Vec<u8>>();
-        [whole, rest].concat()
+        let rest = (0..n - 4 * 241 - 2).flat_map(|k| record(false, k as u16, &[])).collect::<Vec<u8>>();
+        [whole, record(false, 999, &tags(130, 1)), rest].concat()
     };
+    let document = [record(false, 7, &tags(1, 2)), record(true, 9, &[tag(2), tag(1), tag(1)])];
     vec![
-        ("document 01", [record(false, 7, &tags(1, 2)), record(true, 9, &[tag(2), tag(1), tag(1)])].concat()),
+        ("document 01", document.concat()),
+        ("document 01 and empty kits", [record(false, 8, &[]), document.concat(), record(false, 9, &[])].concat()),
+        ("an empty kit", record(false, 7, &[])),
+        ("an empty kit and a stack", [record(false, 7, &[]), document[1].clone()].concat()),
+        ("an empty kit and an empty stack", [record(false, 7, &[]), record(true, 7, &[])].concat()),
+        ("empty kits between equal ones", [kits(1), empty(3), record(false, 5, &tags(0, 1)), stacks(2)].concat()),
+        ("empty kits and stacks", [empty(128), stacks(64)].concat()),
         ("nothing", Vec::new()),
-        ("8,192 pairs", [empty(128), stacks(64)].concat()),
-        ("8,193 pairs", [empty(128), stacks(63), record(true, 1, &tags(0, 1)), record(false, 999, &tags(0, 1))].concat()),
-        ("8,256 pairs", [empty(129), stacks(64)].concat()),
+        ("8,192 pairs", [kits(128), stacks(64)].concat()),
+        ("8,192 pairs and empty kits", [empty(9), kits(128), stacks(64)].concat()),
+        ("8,193 pairs", [kits(128), stacks(63), record(true, 1, &tags(0, 2)), record(false, 999, &tags(1, 1))].concat()),
+        ("8,256 pairs", [kits(129), stacks(64)].concat()),
         ("n of 1,020", sized(1020)),
         ("n of 1,021", sized(1021)),
         ("65,535 bytes", of_length(65535)),
@@ -129,14 +141,22 @@ fn main() {
         }
         println!("listings: {} named files", named().len());
     }
+    let mut tally = Tally::default();
     plan.run("listings", |random, print| {
         let mut bytes = file(random);
         if random.one_in(4) {
             damage(random, &mut bytes);
+        }
+        if let Ok(loaded) = load(&bytes) {
+            tally.add(&loaded);
         }
         if print {
             println!("{bytes:02X?}\n{}", listing(&bytes));
         }
         compare(&bytes, random)
     });
+    if !tally.is_covered() && plan.only.is_none() && plan.cases >= 3_000 {
+        println!("FAILED listings: the generator missed a kind of file");
+        std::process::exit(1);
+    }
 }

@@ -6,6 +6,8 @@ use harness::files::record;
 use harness::oracle::*;
 use harness::random::Random;
 use harness::run::run_named;
+use harness::whole::compare;
+use kitfinder::TagFile;
 
 fn tag(k: usize) -> Tag {
     let mut tag = [0; 12];
@@ -63,6 +65,16 @@ fn gives(first: &[u8], second: &[u8], table: &[Tag], kits: [&[u16]; 2], stacks: 
     pools(first, second, None)
 }
 
+/// The kits that are whole on two pads, kit number and stack number.
+fn whole(first: &[u8], second: &[u8], should: &[(u16, u16)]) -> Result<(), String> {
+    let loaded = pool(first, second).map_err(|refusal| format!("the oracle has {refusal:?}"))?.loaded;
+    if loaded.whole_kits() != should {
+        return Err(format!("the oracle has {:?}", loaded.whole_kits()));
+    }
+    pools(first, second, None)?;
+    compare(&TagFile::load_pooled(first, second).map_err(|refusal| refusal.to_string())?, &loaded)
+}
+
 /// The refusal of a record of the second file: where it begins there, after the first.
 fn at(number: u64, first: &[u8], before: &[u8]) -> Option<Refusal> {
     Some(Refusal(number, (first.len() + before.len()) as u64, 0))
@@ -98,6 +110,18 @@ fn main() {
     add("an empty second file", gives(&first, &[], &[1, 2, 3, 8].map(tag), [&[7], &[0, 2]], itself, &[2, 3]));
     add("an empty first file", gives(&[], &first, &[1, 2, 8].map(tag), [&[], &[]], [&[9, 4], &[0, 1, 2]], &[2, 3]));
     add("both files empty", gives(&[], &[], &[], [&[], &[]], [&[], &[]], &[]));
+
+    // Which kits are whole: each tag on one of the pads. A kit without a tag is not, whatever lies there and whatever the second file has.
+    add("a kit that is whole on both pads together", whole(&format[0], &format[1], &[(7, 9)]));
+    add("the same on the first pad alone", whole(&format[0], &[], &[]));
+    let empty = kit(8, &[]);
+    add("an empty kit first", whole(&and(&empty, &format[0]), &format[1], &[(7, 9)]));
+    add("an empty kit last", whole(&and(&format[0], &empty), &format[1], &[(7, 9)]));
+    add("an empty kit alone", whole(&empty, &format[1], &[]));
+    add("an empty kit alone, on both pads", whole(&empty, &and(&empty, &format[1]), &[]));
+    add("an empty kit that has tags in the second file", whole(&and(&format[0], &empty), &and(&kit(8, &[tag(2)]), &format[1]), &[(7, 9)]));
+    add("an empty kit and a stack that is empty on both pads", whole(&and(&empty, &stack(9, &[])), &stack(9, &[]), &[]));
+    add("an empty kit in the second file alone", whole(&format[0], &and(&empty, &format[1]), &[(7, 9)]));
 
     let ends = [stack(0, &[tag(0)]), stack(65535, &[tag(65535)])].concat();
     let more = [stack(65535, &[tag(0)]), stack(0, &[tag(65535)])].concat();

@@ -1,12 +1,14 @@
 //! The pooled load on pairs of tag files, whole and damaged, small and about the limits, with lists around the need that hold a pattern
-//! beforehand. Every pair is counted under each kind that it is of, by its bytes, its lists and the oracle's account, whatever it was
-//! made for. The last lines have the counts, and a kind without a case fails the run.
+//! beforehand. Over what is accepted the join lists the kits of which every tag lies on one of the two pads. Every pair is counted under
+//! each kind that it is of, by its bytes, its lists and the oracle's account, whatever it was made for. The last lines have the counts,
+//! and a kind without a case fails the run.
 
 use harness::files::{damage, file, lengths, pair};
-use harness::oracle::{load, pool, read_record, Cause, LoadedFile, Pooled, Read, Refusal, Tag};
+use harness::oracle::{is_contained, load, pool, read_record, Cause, LoadedFile, Pooled, Read, Refusal, Tag};
 use harness::random::Random;
-use harness::{calls, pads, run::Plan};
-use std::collections::BTreeSet;
+use harness::{calls, pads, run::Plan, whole};
+use kitfinder::TagFile;
+use std::collections::{BTreeSet, HashMap};
 
 /// A whole record of the second file: its tags as a set, and how many were read.
 struct SecondRecord {
@@ -126,6 +128,41 @@ impl Case<'_> {
         self.is(0) && !places.is_sorted()
     }
 
+    /// Accepted with an empty kit in the first file, where something holds of its number and of what was loaded.
+    fn has_empty_kit(&self, holds: impl Fn(&Case, u16, &LoadedFile) -> bool) -> bool {
+        let Some(loaded) = self.loaded() else { return false };
+        let kits = &loaded.sides[0];
+        kits.numbers.iter().zip(&kits.sets).any(|(&number, kit)| kit.is_empty() && holds(self, number, loaded))
+    }
+
+    /// The pairs of a kit and a borrower where every tag of the kit lies on one of the two pads, by the files' records.
+    fn whole_on_pads(&self, loaded: &LoadedFile) -> Vec<(u16, u16)> {
+        let Ok(first) = &self.first else { return Vec::new() };
+        let (kits, stacks) = (&first.sides[0], &first.sides[1]);
+        let on_first: HashMap<u16, &Vec<Tag>> = stacks.numbers.iter().copied().zip(&stacks.sets).collect();
+        let on_second: HashMap<u16, &BTreeSet<Tag>> =
+            self.records.iter().filter(|read| read.right).map(|read| (read.number, &read.tags)).collect();
+        let lies = |number: &u16, tag: &Tag| {
+            on_first.get(number).is_some_and(|tags| tags.contains(tag)) || on_second.get(number).is_some_and(|tags| tags.contains(tag))
+        };
+        let mut whole = Vec::new();
+        for (kit, tags) in kits.numbers.iter().zip(&kits.sets) {
+            let borrowers = loaded.sides[1].numbers.iter().filter(|&number| is_contained(tags, |tag| lies(number, tag)));
+            whole.extend(borrowers.map(|&number| (*kit, number)));
+        }
+        whole
+    }
+
+    /// The join of what is accepted lists these pairs, as the oracle has them by the pooled sets.
+    fn lists_whole_kits(&self) -> Result<(), String> {
+        let Some(loaded) = self.loaded() else { return Ok(()) };
+        let on_pads = self.whole_on_pads(loaded);
+        if loaded.whole_kits() != on_pads {
+            return Err(format!("whole on the two pads are {on_pads:?}, and by the oracle's pooled sets {:?}", loaded.whole_kits()));
+        }
+        whole::compare(&TagFile::load_pooled(self.files[0], self.files[1]).map_err(|refusal| refusal.to_string())?, loaded)
+    }
+
     /// Accepted with just so many of something, and fewer in the first file.
     fn reaches(&self, limit: usize, count: fn(&LoadedFile) -> usize) -> bool {
         self.first.as_ref().is_ok_and(|first| count(first) < limit) && self.loaded().is_some_and(|loaded| count(loaded) == limit)
@@ -133,7 +170,7 @@ impl Case<'_> {
 }
 
 type Kind = (&'static str, fn(&Case) -> bool);
-const KINDS: [Kind; 51] = [
+const KINDS: [Kind; 57] = [
     ("accepted", |c| c.is(0)),
     ("1 in the first file", |c| c.is_in_first(1)),
     ("2 in the first file", |c| c.is_in_first(2)),
@@ -181,6 +218,20 @@ const KINDS: [Kind; 51] = [
     ("a kit of the second with tags that nothing else has", |c| {
         c.has_kit(|c, kit, _| c.loaded().is_some_and(|loaded| kit.tags.iter().any(|tag| loaded.tags.binary_search(tag).is_err())))
     }),
+    ("an empty kit of the first, and whole kits", |c| c.has_empty_kit(|_, _, loaded| !loaded.whole_kits().is_empty())),
+    ("an empty kit of the first, and a stack of both", |c| {
+        c.has_empty_kit(|c, _, _| c.has_stack(|read, first| !read.tags.is_empty() && first.is_some()))
+    }),
+    ("an empty kit of the first that has tags in the second", |c| {
+        c.has_empty_kit(|c, number, _| c.has_kit(|_, kit, _| kit.number == number && !kit.tags.is_empty()))
+    }),
+    ("an empty kit of the first, and an empty stack of both", |c| {
+        c.has_empty_kit(|c, _, _| c.has_stack(|read, first| read.tags.is_empty() && first.is_some_and(Vec::is_empty)))
+    }),
+    ("only empty kits in the first, and stacks", |c| {
+        c.has_empty_kit(|_, _, loaded| loaded.sides[0].sets.iter().all(Vec::is_empty) && !loaded.sides[1].sets.is_empty())
+    }),
+    ("an empty kit of the second", |c| c.has_kit(|_, kit, _| kit.tags.is_empty())),
     ("a stack of the second that the first has not", |c| c.has_stack(|_, first| first.is_none())),
     ("stacks of both files in two orders", |c| c.has_two_orders()),
     ("a tag of one stack on both pads", |c| {
@@ -276,7 +327,8 @@ fn main() {
         for (count, (_, is_of)) in compared.iter_mut().zip(KINDS) {
             *count += u64::from(is_of(&case));
         }
-        calls::load_pooled_into(random, files, lengths, &pooled)
+        calls::load_pooled_into(random, files, lengths, &pooled)?;
+        case.lists_whole_kits()
     });
     for ((name, _), count) in KINDS.iter().zip(compared) {
         println!("{count:7}  {name}");

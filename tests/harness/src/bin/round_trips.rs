@@ -1,17 +1,23 @@
 //! Loading a file, writing what was loaded and loading it again: the second file is the first with kits before stacks, its tags
-//! rising and no repeats, and both loads give the same.
+//! rising and no repeats, and both loads give the same. Over each the join lists the kits that are whole by their tags. The last lines have
+//! how many files there were of each kind, and a kind without a file fails the run.
 
 use harness::files::file;
 use harness::oracle::{load, WriteQuery};
+use harness::whole::{compare, Tally};
 use harness::{calls, run::Plan};
+use kitfinder::TagFile;
 
 fn main() {
-    Plan::from_args(20_000).run("round trips", |random, print| {
+    let plan = Plan::from_args(20_000);
+    let mut tally = Tally::default();
+    plan.run("round trips", |random, print| {
         let bytes = file(random);
         let Ok(loaded) = load(&bytes) else { return Ok(()) };
         if print {
             println!("{bytes:02X?}\n{loaded:?}");
         }
+        tally.add(&loaded);
         calls::load_into(random, &bytes, calls::lengths_needed(&loaded), &Ok(loaded.clone()))?;
         let q = WriteQuery {
             t: loaded.tags.len() as u32,
@@ -26,6 +32,13 @@ fn main() {
         if load(&again).as_ref() != Ok(&loaded) {
             return Err("the written file holds something else".into());
         }
+        for file in [&bytes, &again] {
+            compare(&TagFile::load(file).map_err(|refusal| refusal.to_string())?, &loaded)?;
+        }
         calls::load_into(random, &again, calls::lengths_needed(&loaded), &Ok(loaded))
     });
+    if !tally.is_covered() && plan.only.is_none() && plan.cases >= 10_000 {
+        println!("FAILED round trips: the generator missed a kind of file");
+        std::process::exit(1);
+    }
 }

@@ -1,7 +1,9 @@
--- `join_pairs::rows::search_left` meets its contract: an empty left set pairs with every right set, any other with those of its
--- candidates that contain it.
+-- `join_pairs::rows::search_left` meets its contract: an empty left set has no pair, any other those with the candidates that contain
+-- it.
+use mathlib.Core.Path.{refl}
+use native.Mathlib.Omega.{arith}
 use Rattle.lists.proofs.Slices.{changed-none}
-use Rattle.join_pairs.proofs.Finding.{ranks-there, find-there, empty-room, empty-put, shortlist-room, shortlist-put}
+use Rattle.join_pairs.proofs.Finding.{ranks-there, find-there, empty-put, shortlist-room, shortlist-put}
 use borrow.Author.Needs.{needs}
 use Rattle.join_pairs.proofs.rows.search_left.Statement.{statement}
 use Rattle.join_pairs.proofs.rows.search_left.Tie as tie
@@ -15,26 +17,16 @@ probe-left-requires c κs =
     let asked = c .before .before .before .before .pre .0 in
     record { query = asked .query; holds = asked .holds .left }
 
-write-all-requires : tie.Need-write-all-requires
-write-all-requires c κs =
-    let found = c .before .before .before in
-    empty-room (found .probe-left .ensures) (start found .pre .0 .holds) (c .before .if1 .taken)
-
 same-length : tie.Need-same-length
-same-length c = search needs
-
-same-length-2 : tie.Need-same-length-2
-same-length-2 c = search needs
+same-length c = refl
 
 returns : tie.Need-returns
 returns c =
-    let test = c .before .before .before .before in
-    let found = test .before .before in
+    let found = c .before .before in
     let a = start found .args in (
       record {
         changed = changed-none (a .lay .slots) (a .lay .«row_starts») (a .work .now);
-        wrote = λ q there.
-            empty-put (found .probe-left .ensures) there (test .if1 .taken) (c .before .before .write-all .ensures);
+        wrote = λ q there. empty-put (found .probe-left .ensures) there (omega (arith, c .if1 .taken));
       },
       start found .pre .1,
     )
@@ -45,7 +37,7 @@ pivot-requires c κs =
     let asked = start found .pre .0 in
     record {
       query = asked .query;
-      holds = ranks-there (found .probe-left .ensures) (asked .holds .left) (c .before .if1 .left);
+      holds = ranks-there (found .probe-left .ensures) (asked .holds .left) (omega (arith, c .before .if1 .left));
     }
 
 find-candidates-requires : tie.Need-find-candidates-requires
@@ -73,14 +65,14 @@ write-row-requires c κs =
           (asked .holds);
     }
 
+same-length-2 : tie.Need-same-length-2
+same-length-2 c = search needs
+
 same-length-3 : tie.Need-same-length-3
 same-length-3 c = search needs
 
 same-length-4 : tie.Need-same-length-4
 same-length-4 c = search needs
-
-same-length-5 : tie.Need-same-length-5
-same-length-5 c = search needs
 
 returns-2 : tie.Need-returns-2
 returns-2 c =
@@ -103,14 +95,12 @@ search-left-spec =
     tie.close
     (tie.spec
     probe-left-requires
-    write-all-requires
     same-length
-    same-length-2
     returns
     pivot-requires
     find-candidates-requires
     write-row-requires
+    same-length-2
     same-length-3
     same-length-4
-    same-length-5
     returns-2)

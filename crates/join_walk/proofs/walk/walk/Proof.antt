@@ -5,7 +5,7 @@ use native.Mathlib.Omega.{arith}
 use borrow.Author.Needs.{needs}
 use Rattle.join_spec.specs.Kinds.{Kind, pathPair, confirmedCheck, droppedCheck, falseCheck}
 use Rattle.join_check.specs.Counters.{counter}
-use Rattle.join_walk.proofs.WalkSteps.{walk-none, walk-run, paths-room, walk-partitions, walk-done}
+use Rattle.join_walk.proofs.WalkSteps.{walk-none, walk-run, walk-partitions, walk-done}
 use Rattle.join_walk.proofs.WalkSteps.{ready-cleared, rows-cleared, done-cleared}
 use Rattle.join_walk.proofs.walk.walk.Statement.{statement}
 use Rattle.join_walk.proofs.walk.walk.Tie as tie
@@ -25,19 +25,18 @@ clear-rows-requires c κs =
 same-length : tie.Need-same-length
 same-length c = c .before .before .before .clear-rows .kept .0
 
-returns : tie.Need-returns
-returns c =
-    let cleared = c .before .before .before in (
-      λ q ready.
-          let so = ready-cleared ready (cleared .clear-rows .ensures) in
-          done-cleared ready (cleared .clear-rows .ensures)
-          (walk-none so (c .if1 .taken) none-zero (rows-cleared ready (cleared .clear-rows .ensures))),
-      cleared .before .before .before .before .pre .1,
-    )
-
--- the start as it is seen after the rows were cleared, and the walk then
+-- the start as it is seen after the rows were cleared
 abbrev begun : tie.After-clear-rows → tie.Start
 begun c = c .before .before .before .before
+
+returns : tie.Need-returns
+returns c =
+    let cleared = c .before .before .before in
+    let rows = cleared .clear-rows .ensures in (
+      λ q ready.
+          done-cleared ready rows (walk-none (ready-cleared ready rows) (c .if1 .taken) none-zero (rows-cleared ready rows)),
+      begun cleared .pre .1,
+    )
 
 merged-end-requires : tie.Need-merged-end-requires
 merged-end-requires c κs =
@@ -49,18 +48,9 @@ merged-end-requires c κs =
       holds = walk-run (ready-cleared (asked .holds) (cleared .clear-rows .ensures)) (omega (arith, some .if1 .left));
     }
 
-add-paths-requires : tie.Need-add-paths-requires
-add-paths-requires c κs =
-    let some = c .before .before in
-    let cleared = some .before .before .before in
-    let asked = begun cleared .pre .0 in
-    paths-room (ready-cleared (asked .holds) (cleared .clear-rows .ensures)) (omega (arith, some .if1 .left))
-    (c .merged-end .ensures)
-
 visit-partitions-requires : tie.Need-visit-partitions-requires
 visit-partitions-requires c κs =
-    let merged = c .before .before in
-    let end = merged .before in
+    let end = c .before .before in
     let some = end .before .before in
     let cleared = some .before .before .before in
     let rows = cleared .clear-rows .ensures in
@@ -69,7 +59,7 @@ visit-partitions-requires c κs =
         query = asked .0 .query;
         holds =
             walk-partitions (ready-cleared (asked .0 .holds) rows) (omega (arith, some .if1 .left)) (end .merged-end .ensures)
-            none-zero (merged .add-paths .ensures) (rows-cleared (asked .0 .holds) rows);
+            none-zero (rows-cleared (asked .0 .holds) rows);
       },
       asked .1,
     )
@@ -77,7 +67,7 @@ visit-partitions-requires c κs =
 same-length-2 : tie.Need-same-length-2
 same-length-2 c =
     let visited = c .before .before .before .before in
-    visited .visit-partitions .kept .0 ∙ visited .before .before .before .before .before .before .before .before .before .clear-rows .kept .0
+    visited .visit-partitions .kept .0 ∙ visited .before .before .before .before .before .before .before .before .clear-rows .kept .0
 
 same-length-3 : tie.Need-same-length-3
 same-length-3 c = search needs
@@ -85,17 +75,15 @@ same-length-3 c = search needs
 returns-2 : tie.Need-returns-2
 returns-2 c =
     let visited = c .before .before .before .before in
-    let merged = visited .before .before .before in
-    let end = merged .before in
+    let end = visited .before .before .before in
     let some = end .before .before in
     let rows = some .before .before .before .clear-rows .ensures in (
       λ q ready.
           let so = ready-cleared ready rows in
           let parts =
-          walk-partitions so (omega (arith, some .if1 .left)) (end .merged-end .ensures) none-zero (merged .add-paths .ensures)
-          (rows-cleared ready rows) in
+          walk-partitions so (omega (arith, some .if1 .left)) (end .merged-end .ensures) none-zero (rows-cleared ready rows) in
           done-cleared ready rows
-          (walk-done so (omega (arith, some .if1 .left)) (end .merged-end .ensures) none-zero (merged .add-paths .ensures)
+          (walk-done so (omega (arith, some .if1 .left)) (end .merged-end .ensures) none-zero
           (visited .visit-partitions .ensures .0 q parts)),
       visited .visit-partitions .ensures .1,
     )
@@ -108,7 +96,6 @@ walk-spec =
     same-length
     returns
     merged-end-requires
-    add-paths-requires
     visit-partitions-requires
     same-length-2
     same-length-3
