@@ -1,4 +1,5 @@
-/* A kiosk in C: reads a tag file of any size, orders its tags, joins kits and stacks, and prints each kit that a stack holds whole.
+/* A kiosk in C: reads a tag file of any size, orders its tags, joins kits and stacks, and prints each kit that a stack holds whole; a
+ * kit without tags never is.
  * A wide kiosk has two pads: with the file of the second, stacks of one number are pooled.
  * Ends with 0 for a list, 1 for a refusal, 2 where reading, writing or memory failed.
  * Usage: kiosk FILE [SECOND] */

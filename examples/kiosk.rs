@@ -1,5 +1,5 @@
-//! A kiosk in Rust: reads a tag file, and prints each kit that a stack holds whole. A wide kiosk has two pads: with the file of the
-//! second, stacks of one number are pooled. Ends with 0 for a list, 1 for a refusal, 2 where reading or writing failed.
+//! A kiosk in Rust: reads a tag file, and prints each kit that a stack holds whole; a kit without tags never is. A wide kiosk has two
+//! pads: with the file of the second, stacks of one number are pooled. Ends with 0 for a list, 1 for a refusal, 2 where reading or writing failed.
 //! Usage: kiosk FILE [SECOND]
 
 use kitfinder::TagFile;

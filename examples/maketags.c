@@ -1,6 +1,6 @@
 /* Makes a tag file from text. A line is a record: the letter K for a kit or S for a stack, a space, its number, and for each tag a
- * space and 24 hexadecimal digits. What it writes is what the loader accepts: a line that it does not is named, and nothing is
- * written.
+ * space and 24 hexadecimal digits; a kit without tags is whole in no stack. What it writes is what the loader accepts: a line that it
+ * does not is named, and nothing is written.
  * Usage: maketags <TEXT >FILE */
 #include <inttypes.h>
 #include <stdio.h>

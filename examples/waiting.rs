@@ -1,4 +1,5 @@
-//! The waiting screen in Rust: reads a tag file, and says of each stack which kit it holds whole first, and how many kits were compared.
+//! The waiting screen in Rust: reads a tag file, and says of each stack which kit it holds whole first, and how many kits were compared,
+//! those without tags included, which are whole in no stack.
 //! Ends with 0 for a list, 1 for a refusal, 2 where reading or writing failed.
 //! Usage: waiting FILE
 

@@ -24,16 +24,16 @@ use Rattle.sets.proofs.Good.{good-step, good-next, set-item}
 use Rattle.sets.proofs.Containment.{contained-none, contained-subset}
 use Rattle.first_spec.specs.First.{foundAt, noneOf, firstFrom, firstContained}
 use Rattle.first_spec.proofs.FirstLaws.{first-agree}
-use Rattle.first_search.specs.Searching.{CanSearch, allMarked, firstMarked}
+use Rattle.first_search.specs.Searching.{CanSearch, isMarked, firstMarked}
 
 -- the left set from start to end: where it has items they decide, and where it is empty it is not marked
 module _ (marks items : List ℕ) {start end : ℕ} where
   pub marked-some : end ≤ length items → start < end
-      → all (member marks) (slice start end items) ≡ allMarked marks (slice start end items)
+      → all (member marks) (slice start end items) ≡ isMarked marks (slice start end items)
   marked-some within some =
       rw (lt-ltb 0 (length (slice start end items)) (omega (arith, length-slice start end items within)))
 
-  pub marked-none : end ≤ start → false ≡ allMarked marks (slice start end items)
+  pub marked-none : end ≤ start → false ≡ isMarked marks (slice start end items)
   marked-none none = rw (slice-past start end items none)
 
 -- the walk over the sets of a collection, by the ends that are left
@@ -60,7 +60,7 @@ module _ (test : List ℕ → Bool) (ends items : List ℕ) (k start : ℕ) wher
 
 -- at place k, whose set begins at start: what is left decides, and is good
 pub record Searching (ends items marks : List ℕ) (k start : ℕ) : Type 0 where
-  pub same : firstFrom (allMarked marks) k (setsFrom start (drop k ends) items) ≡ firstMarked ends items marks
+  pub same : firstFrom (isMarked marks) k (setsFrom start (drop k ends) items) ≡ firstMarked ends items marks
   pub good : (T : ℕ) → firstBad T ends items ≡ Good → firstBadFrom T k start (drop k ends) items ≡ Good
 
 pub searching-start : (ends items marks : List ℕ) → Searching ends items marks 0 0
@@ -68,7 +68,7 @@ searching-start ends items marks = record { same = refl; good = λ T e. e }
 
 module _ {ends items marks : List ℕ} {k start : ℕ} (s : Searching ends items marks k start) where
   pub searching-end : length ends ≤ k → noneOf k ≡ firstMarked ends items marks
-  searching-end over = sym (first-set-end (allMarked marks) ends items k start over) ∙ s .same
+  searching-end over = sym (first-set-end (isMarked marks) ends items k start over) ∙ s .same
 
   module _ (more : k < length ends) where
     -- the set at k can be probed
@@ -81,19 +81,19 @@ module _ {ends items marks : List ℕ} {k start : ℕ} (s : Searching ends items
           small = λ e low high. omega (arith, set-item (can .T) start (getD ends k 0) items k set e low high, can .wide);
         }
 
-    probed : allMarked marks (slice start (getD ends k 0) items) ≡ allMarked marks (between start (getD ends k 0) items)
-    probed = ap (allMarked marks) (slice-from start (getD ends k 0) items)
+    probed : isMarked marks (slice start (getD ends k 0) items) ≡ isMarked marks (between start (getD ends k 0) items)
+    probed = ap (isMarked marks) (slice-from start (getD ends k 0) items)
 
-    pub searching-stop : true ≡ allMarked marks (slice start (getD ends k 0) items)
+    pub searching-stop : true ≡ isMarked marks (slice start (getD ends k 0) items)
         → record { found = true; place = k; compared = k + 1 } ≡ firstMarked ends items marks
     searching-stop all-there =
-        rw (add-one k) (sym (first-set-stop (allMarked marks) ends items k start more (sym probed ∙ sym all-there)) ∙ s .same)
+        rw (add-one k) (sym (first-set-stop (isMarked marks) ends items k start more (sym probed ∙ sym all-there)) ∙ s .same)
 
-    pub searching-next : false ≡ allMarked marks (slice start (getD ends k 0) items)
+    pub searching-next : false ≡ isMarked marks (slice start (getD ends k 0) items)
         → Searching ends items marks (k + 1) (getD ends k 0)
     searching-next one-out =
         record {
-          same = sym (first-set-next (allMarked marks) ends items k start more (sym probed ∙ sym one-out)) ∙ s .same;
+          same = sym (first-set-next (isMarked marks) ends items k start more (sym probed ∙ sym one-out)) ∙ s .same;
           good = λ T e. good-next T ends items k start more (s .good T e);
         }
 
@@ -118,7 +118,7 @@ module _ (words : ℕ) (right : List ℕ) {marks : List ℕ}
       (ap (memb x) (slice-from 0 (length right) right ∙ rw (sub-zero (length right)) (take-length right))) (no-member words x)
       ∙ or-false (memb x right)
 
-  marked-set : (left : List ℕ) → allMarked marks left ≡ contained left right
+  marked-set : (left : List ℕ) → isMarked marks left ≡ contained left right
   unfolding all
   marked-set [] = sym (contained-none right)
   marked-set (i ∷ left) =
@@ -128,5 +128,5 @@ module _ (words : ℕ) (right : List ℕ) {marks : List ℕ}
       go [] = refl
       go (x ∷ xs) = ap₂ (λ (a b : Bool). a && b) (marked-item x) (go xs)
 
-  pub marked-first : (lefts : List (List ℕ)) → firstFrom (allMarked marks) 0 lefts ≡ firstContained lefts right
-  marked-first lefts = first-agree (allMarked marks) (λ left. contained left right) 0 lefts marked-set
+  pub marked-first : (lefts : List (List ℕ)) → firstFrom (isMarked marks) 0 lefts ≡ firstContained lefts right
+  marked-first lefts = first-agree (isMarked marks) (λ left. contained left right) 0 lefts marked-set

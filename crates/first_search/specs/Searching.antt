@@ -3,11 +3,10 @@ use Prim.Native.Nat.{ℕ, _*_, _≤_}
 use mathlib.Core.Path.{_≡_}
 use mathlib.Core.List.{List}
 use mathlib.Core.Bool.{Bool, _&&_}
-use lib.Dec.{ltb}
 use lib.ListN.{length}
 use Rattle.lists.specs.Lists.{all}
 use Rattle.bit_sets.specs.BitSets.{member}
-use Rattle.sets.specs.Collections.{setsOf, firstBad}
+use Rattle.sets.specs.Collections.{setsOf, hasItem, firstBad}
 use Rattle.sets.specs.declared.Verdict.the-variants.{Good}
 use Rattle.first_spec.specs.declared.Search.{Search}
 use Rattle.first_spec.specs.First.{firstFrom}
@@ -19,9 +18,9 @@ pub record CanSearch (ends items marks : List ℕ) : Type 0 where
   pub good : firstBad T ends items ≡ Good
 
 -- whether a left set has items and all of them are marked
-abbrev pub allMarked : List ℕ → List ℕ → Bool
-allMarked marks set = ltb 0 (length set) && all (member marks) set
+abbrev pub isMarked : List ℕ → List ℕ → Bool
+isMarked marks set = hasItem set && all (member marks) set
 
--- the first left set of which this holds
+-- the first left set that has items and all of them marked
 abbrev pub firstMarked : List ℕ → List ℕ → List ℕ → Search
-firstMarked ends items marks = firstFrom (allMarked marks) 0 (setsOf ends items)
+firstMarked ends items marks = firstFrom (isMarked marks) 0 (setsOf ends items)

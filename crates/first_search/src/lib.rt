@@ -18,7 +18,7 @@ ghost use mathlib.Core.Path.{_≡_};
 ghost use Rattle.lists.specs.Lists.{slice};
 ghost use Rattle.bit_sets.specs.BitSets.{PartFits};
 ghost use Rattle.first_spec.specs.First.{firstTest, firstAnswer};
-ghost use Rattle.first_search.specs.Searching.{CanSearch, allMarked, firstMarked};
+ghost use Rattle.first_search.specs.Searching.{CanSearch, isMarked, firstMarked};
 
 // What is lent can be searched: T, the left sets, then the right set.
 fn test_first(t: u32, left_ends: &[u32], left_items: &[u16], right: &[u16]) -> Tested
@@ -39,7 +39,7 @@ fn test_first(t: u32, left_ends: &[u32], left_items: &[u16], right: &[u16]) -> T
 // Whether the left set from one end up to the next has items and all of them are marked.
 fn is_marked(marks: &[u64], items: &[u16], start: usize, end: usize) -> bool
     requires { ⌜ PartFits (now marks) (now items) start end ⌝ }
-    ensures { λ r. ⌜ r ≡ allMarked (now (marks .entry)) (slice start end (now (items .entry))) ⌝ }
+    ensures { λ r. ⌜ r ≡ isMarked (now (marks .entry)) (slice start end (now (items .entry))) ⌝ }
 {
     start < end && contains_part(marks, items, start, end)
 }

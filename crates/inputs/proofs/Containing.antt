@@ -20,7 +20,7 @@ pub record Containing (left right : List ℕ) (i j : ℕ) : Type 0 where
   pub right-rises : rising (drop j right) ≡ true
   pub same : subset (drop i left) (drop j right) ≡ contained left right
 
--- an empty left set
+-- an empty left set is contained in none
 pub containing-none : (left right : List ℕ) → length left ≡ 0 → false ≡ contained left right
 containing-none [] right none = sym (contained-none right)
 containing-none (i ∷ left) right none = absurd (omega arith)

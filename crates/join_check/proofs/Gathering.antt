@@ -37,8 +37,8 @@ module _ {lay : Layout} {q : Query} {w : List ℕ} {e lo hi from to : ℕ} (ther
       record {
         left = run-left (runs-run i high) i high word;
         places = there .places;
-        holding = ap (areCandidates q e (slice from to w)) (word .is)
-            ∙ all-slice (areCandidates q e (slice from to w)) (lay .order + lo) (lay .order + hi) w runs-within (there .holding)
+        candidates = ap (areCandidates q e (slice from to w)) (word .is)
+            ∙ all-slice (areCandidates q e (slice from to w)) (lay .order + lo) (lay .order + hi) w runs-within (there .candidates)
             (lay .order + i)
             (omega arith) (omega arith);
       }
@@ -48,11 +48,11 @@ module _ {lay : Layout} {q : Query} {w : List ℕ} {e lo hi from to : ℕ} (ther
   runs-part i j low some high =
       let first = run-split lay w lo i hi low (omega arith) runs-within in
       let then = run-split lay w i j hi some high runs-within in
-      let back = all-back (areCandidates q e (slice from to w)) (run lay w lo i) (run lay w i hi) (rw first at (there .holding)) in
+      let back = all-back (areCandidates q e (slice from to w)) (run lay w lo i) (run lay w i hi) (rw first at (there .candidates)) in
       record {
         places = there .places;
         within = omega (arith, there .within);
-        holding = all-front (areCandidates q e (slice from to w)) (run lay w i j) (run lay w j hi) (rw then at back);
+        candidates = all-front (areCandidates q e (slice from to w)) (run lay w i j) (run lay w j hi) (rw then at back);
       }
 
 sum-one : {A : Type 0} (f : A → ℕ) (x : A) → f x ≡ sum f (x ∷ [])

@@ -87,7 +87,7 @@ probe-check {lay} {q} {w} {k} {e} {from} {to} {p} there probe i s low high word 
     let right = place-right (there .places) i s low high word in
     let candidate : isCandidate e (leftAt q k) (rightAt q s) ≡ true =
     ap (λ (n : ℕ). isCandidate e (leftAt q k) (rightAt q n)) (word .is)
-    ∙ all-slice (λ (n : ℕ). isCandidate e (leftAt q k) (rightAt q n)) from to w (there .places .within) (there .holding) i
+    ∙ all-slice (λ (n : ℕ). isCandidate e (leftAt q k) (rightAt q n)) from to w (there .places .within) (there .candidates) i
     low high
     in
     let items : subset (slice (p .from) (p .to) w) (rightAt q s) ≡ contained (getD (q .lefts) k []) (getD (q .rights) s []) =

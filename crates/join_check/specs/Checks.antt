@@ -35,13 +35,13 @@ areCandidates q e places k = all (λ s. isCandidate e (leftAt q k) (rightAt q s)
 pub record RowThere (lay : Layout) (q : Query) (w : List ℕ) (k e from to : ℕ) : Type 0 where
   pub left : LeftThere lay q w k
   pub places : PlacesThere lay q w from to
-  pub holding : areCandidates q e (slice from to w) k ≡ true
+  pub candidates : areCandidates q e (slice from to w) k ≡ true
 
 -- the left sets at the places lo up to hi of the order can be checked so
 pub record RunsThere (lay : Layout) (q : Query) (w : List ℕ) (e lo hi from to : ℕ) : Type 0 where
   pub places : PlacesThere lay q w from to
   pub within : hi ≤ length (q .lefts)
-  pub holding : all (areCandidates q e (slice from to w)) (run lay w lo hi) ≡ true
+  pub candidates : all (areCandidates q e (slice from to w)) (run lay w lo hi) ≡ true
 
 -- one left set was checked against each of the places
 pub record RowChecked (lay : Layout) (w : List ℕ) (k e from to : ℕ) (tally r : Tally) : Type 0 where

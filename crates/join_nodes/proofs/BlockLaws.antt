@@ -151,5 +151,5 @@ runs-there {lay} {q} {path} {w} {d} {e} {lo} {hi} {from} {to} rooted index insid
         below = listing-below (length (q .rights)) (λ s. isCandidate e path (rightAt q s)) (slice from to w) listing;
       };
       within = few;
-      holding = rooted-candidates rooted e (slice from to w) short listing;
+      candidates = rooted-candidates rooted e (slice from to w) short listing;
     }

@@ -88,7 +88,7 @@ module _ {lay : Layout} {st : Settings} {q : Query} {path w : List ℕ} {d lo hi
           row = record {
             left = row-left;
             places = going-there going .places;
-            holding = throughout (areCandidates q d (slice from to w)) (going-there going .holding);
+            candidates = throughout (areCandidates q d (slice from to w)) (going-there going .candidates);
           };
           rows = going .rows;
           below = going .below;

@@ -126,8 +126,8 @@ refuses items lefts rights limit ranks refusal =
     }
 
 -- one empty left set and nothing else, with neither budget nor places
-empties : ℕ → List ℕ → Case
-empties words refusal =
+emptyAlone : ℕ → List ℕ → Case
+emptyAlone words refusal =
     record {
       items = 0;
       lefts = [] ∷ [];
@@ -172,8 +172,8 @@ borderCases =
     -- no items at all
     ∷ meets 0 ([] ∷ []) ([] ∷ []) Check noCounts
     -- an empty left set is a set of n: with T of 0 it alone asks for 16 + 64 words
-    ∷ empties 80 accepted
-    ∷ empties 79 (7 ∷ 0 ∷ 0 ∷ [])
+    ∷ emptyAlone 80 accepted
+    ∷ emptyAlone 79 (7 ∷ 0 ∷ 0 ∷ [])
     -- items 161 and 0 share a position: 65 and 1 modulo 64
     ∷ meets 162 (one 161 ∷ []) (one 0 ∷ []) Check (0 ∷ 0 ∷ 0 ∷ 1 ∷ 0 ∷ 1 ∷ [])
     -- falling ranks: other right sets are seen than in P3; ranks 1, 2, 3, 0: other prefixes than in P2
@@ -203,5 +203,5 @@ border-cases-right : T (all right borderCases)
 unfolding all any count sum keep memb range rising risingAfter distinct prefix setsFrom contained firstBadFrom badSet lastEnd ordered
     isPermutation position signatureFrom seen goesOn goesOnAt ending endingFrom isCandidate endingIn outcome total
     joinAnswer joinTests setsTest wordsNeeded workTest walkAnswer badSettings lt add mul ofInt right borderCases endsFrom itemsOf one two whole weighed meets shelf
-    shelfWeighed refuses empties same greatest accepted noCounts
+    shelfWeighed refuses emptyAlone same greatest accepted noCounts
 border-cases-right = tt

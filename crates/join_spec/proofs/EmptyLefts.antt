@@ -3,15 +3,18 @@
 use Prim.Native.Nat.{ℕ, zero, suc, _-_, _*_}
 use mathlib.Core.Path.{_≡_, refl, sym, ap, _∙_}
 use mathlib.Core.List.{List, [], _∷_, map}
-use mathlib.Core.Bool.{Bool, true, false, cond, _&&_}
-use lib.Dec.{eqb, ltb}
+use mathlib.Core.Bool.{Bool, true, false, cond, _&&_, and-false}
+use native.Mathlib.Omega.{arith}
+use borrow.Author.Tests.{lt-ltb}
+use lib.Dec.{ltb}
 use lib.ListN.{length, getD, take}
-use Rattle.lists.specs.Lists.{any, count, keep, one, prefix, upto}
+use Rattle.lists.specs.Lists.{any, count, keep, one, prefix}
 use Rattle.lists.proofs.Counting.{count-none, count-same, count-map}
-use Rattle.lists.proofs.Filtering.{keep-none, count-keep, sum-keep}
+use Rattle.lists.proofs.Filtering.{count-keep, sum-keep}
 use Rattle.lists.proofs.Summing.{sum-same}
-use Rattle.sets.specs.Collections.{contained}
+use Rattle.sets.specs.Collections.{hasItem, contained}
 use Rattle.sets.specs.Ordered.{ordered}
+use Rattle.sets.proofs.Ordered.{ordered-nil}
 use Rattle.sets.proofs.Containment.{contained-none}
 use Rattle.inputs.specs.Input.{Input, leftSets, rightSets}
 use Rattle.join_spec.specs.declared.Counts.{Counts}
@@ -26,11 +29,6 @@ use Rattle.join_spec.specs.Counting.{total, isByPath, isConfirmed, isChe
 use Rattle.join_spec.proofs.PairListLaws.{pairOccurs}
 use Rattle.join_spec.proofs.Calls.{call-once, call-counts}
 
--- whether a set has an item
-hasItem : List ℕ → Bool
-hasItem [] = false
-hasItem (i ∷ items) = true
-
 -- a query without its empty left sets
 pub withoutEmpty : Query → Query
 withoutEmpty q =
@@ -43,15 +41,16 @@ withoutEmpty q =
       rights = q .rights;
     }
 
--- an empty set has no ranks
-empty-ordered : (q : Query) → inOrder q [] ≡ []
-unfolding ordered any
-empty-ordered q = keep-none (λ r. any (λ i. eqb (getD (q .ranks) i 0) r) []) (upto (q .T)) (λ r. refl)
-
--- an empty left set meets no right set
-pub outcome-empty : (q : Query) (right : List ℕ) → outcome q [] right ≡ notMet
+-- a left set without ranks meets no right set, and so an empty one
+pub outcome-ended : (q : Query) (left right : List ℕ) → inOrder q left ≡ [] → outcome q left right ≡ notMet
 unfolding outcome endingIn ending isCandidate
-outcome-empty q right = rw (empty-ordered q) refl
+outcome-ended q left right none = rw none refl
+
+pub outcome-empty : (q : Query) (right : List ℕ) → outcome q [] right ≡ notMet
+outcome-empty q right = outcome-ended q [] right (ordered-nil (q .T) (q .ranks))
+
+some : (i : ℕ) (items : List ℕ) → hasItem (i ∷ items) ≡ true
+some i items = lt-ltb 0 (length (i ∷ items)) (omega arith)
 
 -- whether the walk of a query goes on at a node
 abbrev goes : Query → List ℕ → Bool
@@ -69,8 +68,8 @@ module _ (q : Query) where
       ∙ sym (count-map (inOrder q) (prefix (r ∷ path)) (q .lefts))
     where
       begins : (left : List ℕ) → (hasItem left && prefix (r ∷ path) (inOrder q left)) ≡ prefix (r ∷ path) (inOrder q left)
-      begins [] = unfold hasItem prefix in rw (empty-ordered q) refl
-      begins (i ∷ items) = unfold hasItem in refl
+      begins [] = unfold prefix in rw (ordered-nil (q .T) (q .ranks)) refl
+      begins (i ∷ items) = rw (some i items) refl
 
   -- so the rule decides the same at every node
   same-goes : (r : ℕ) (path : List ℕ) → goes (withoutEmpty q) (r ∷ path) ≡ goes q (r ∷ path)
@@ -93,7 +92,7 @@ module _ (goes other : List ℕ → Bool) (same : (r : ℕ) (path : List ℕ) �
   ending-same limit (r ∷ ranks) = ending-from (limit - 1) 0 r ranks
 
 -- so each left set becomes the same
-pub outcome-without : (q : Query) (left right : List ℕ) → outcome (withoutEmpty q) left right ≡ outcome q left right
+outcome-without : (q : Query) (left right : List ℕ) → outcome (withoutEmpty q) left right ≡ outcome q left right
 unfolding outcome endingIn withoutEmpty
 outcome-without q left right =
     ap (λ (e : Ending). outcomeAfter e (inOrder q left) (inOrder q right) byPath (check left right))
@@ -107,8 +106,8 @@ count-without test lefts rights none =
     ∙ sum-same (λ left. cond (hasItem left) (count (test left) rights) 0) (λ left. count (test left) rights) lefts each
   where
     each : (left : List ℕ) → cond (hasItem left) (count (test left) rights) 0 ≡ count (test left) rights
-    each [] = unfold hasItem in sym (count-none (test []) rights none)
-    each (i ∷ items) = unfold hasItem in refl
+    each [] = sym (count-none (test []) rights none)
+    each (i ∷ items) = rw (some i items) refl
 
 total-without : (is : Outcome → Bool) → is notMet ≡ false → (q : Query) → total is (withoutEmpty q) ≡ total is q
 unfolding total withoutEmpty
@@ -140,18 +139,14 @@ module _ (i : Input) (s : Settings) {counts : Counts} {work before work′ after
   -- an empty left set is in no pair
   pub empty-unpaired : (l r : ℕ) → getD (leftSets i) l [] ≡ [] → pairOccurs l r (take (2 * counts .pairs) after) ≡ 0
   empty-unpaired l r empty =
-      call-once i s call l r ∙ ap one nothing
-    where
-      none : (a b : Bool) → (a && (b && false)) ≡ false
-      none true true = refl
-      none true false = refl
-      none false b = refl
-
-      nothing :
-          (ltb l (length (leftSets i)) && (ltb r (length (rightSets i)) && contained (getD (leftSets i) l []) (getD (rightSets i) r [])))
-          ≡ false
-      nothing =
-          rw (empty, contained-none (getD (rightSets i) r [])) (none (ltb l (length (leftSets i))) (ltb r (length (rightSets i))))
+      call-once i s call l r
+      ∙ rw (
+        empty,
+        contained-none (getD (rightSets i) r []),
+        and-false (ltb r (length (rightSets i))),
+        and-false (ltb l (length (leftSets i))),
+      )
+      refl
 
   -- and each count is that of the query without them
   pub empty-uncounted : counts ≡ countsOf (withoutEmpty (queryOf i s))

@@ -9,7 +9,7 @@ use native.Mathlib.Omega.{arith}
 use lib.ListN.{length, take}
 use lib.Seq.{take-length}
 use borrow.Author.Tests.{le-leb}
-use Rattle.lists.specs.Lists.{all, memb, subset, rising}
+use Rattle.lists.specs.Lists.{memb, subset, rising}
 use Rattle.lists.proofs.Bools.{and-both, and-right, same-test}
 use Rattle.lists.proofs.Membership.{memb-head, memb-nil}
 use Rattle.lists.proofs.Throughout.{subset-elim, all-take}
@@ -54,7 +54,7 @@ candidate-contained d (r ∷ ranks) right rises held =
     (holder-seen r right rises (subset-elim (r ∷ ranks) right holds r (memb-head r ranks)))
     (all-take (λ (x : ℕ). memb x right) d (r ∷ ranks) holds)
 
--- a candidate of a left set holds the ranks that it is a candidate after; and there are some
+-- a candidate holds the ranks that it is a candidate after, and only a left set with ranks has one
 pub candidate-holds : (d : ℕ) (left right : List ℕ) → isCandidate d left right ≡ true → subset (take d left) right ≡ true
 unfolding isCandidate
 candidate-holds d [] right is = absurd (false≢true is)
@@ -65,7 +65,7 @@ unfolding isCandidate
 candidate-some d [] right is = absurd (false≢true is)
 candidate-some d (r ∷ ranks) right is = omega arith
 
--- the candidates after all ranks are the right sets that contain it
+-- the candidates of a left set after all its ranks are the right sets that contain it
 pub candidate-whole : (left right : List ℕ) → rising right ≡ true → isCandidate (length left) left right ≡ contained left right
 unfolding isCandidate
 candidate-whole [] right rises = sym (contained-none right)

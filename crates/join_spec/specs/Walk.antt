@@ -29,7 +29,7 @@ unfoldable pub ending : (List ℕ → Bool) → ℕ → List ℕ → Ending
 ending goes limit [] = merged
 ending goes limit (r ∷ ranks) = endingFrom goes (limit - 1) 1 (r ∷ ranks)
 
--- whether a right set is a candidate after the first d ranks of a left set: seen, and holding them; none is for an empty one
+-- whether a right set is a candidate after the first d ranks of a left set: seen, and holding them; an empty left set has none
 unfoldable pub isCandidate : ℕ → List ℕ → List ℕ → Bool
 isCandidate d [] right = false
 isCandidate d (r ∷ ranks) right = seen r right && subset (take d (r ∷ ranks)) right

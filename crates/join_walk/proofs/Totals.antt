@@ -15,8 +15,9 @@ use Rattle.lists.proofs.Filtering.{sum-keep}
 use Rattle.lists.proofs.Summing.{sum-append, sum-same, sum-add}
 use Rattle.lists.proofs.Ranges.{sum-places, count-places}
 use Rattle.join_spec.specs.Query.{Query}
-use Rattle.join_spec.specs.Walk.{Outcome, byPath, Ending, ending, endingIn, outcome, check, outcomeAfter, isCandidate, endingFrom}
+use Rattle.join_spec.specs.Walk.{Outcome, byPath, Ending, ending, endingIn, outcome, check, outcomeAfter, endingFrom}
 use Rattle.join_spec.specs.Counting.{total}
+use Rattle.join_spec.proofs.EmptyLefts.{outcome-ended}
 use Rattle.counting_sort.specs.Groups.{groupsFrom}
 use Rattle.join_index.specs.Grouping.{leftAt, rightAt, keyAt, orderFrom}
 use Rattle.join_index.proofs.Ordering.{keyAt-below}
@@ -80,10 +81,11 @@ empty (x ∷ xs) e = absurd (omega arith)
 
 -- an empty left set meets no right set
 pub start-empty : (is : Outcome → Bool) → MetOnly is → (q : Query) (k : ℕ) → eqb (keyAt q 0 k) 0 ≡ true → start is q k ≡ 0
-unfolding start outcome endingIn ending isCandidate leftAt
+unfolding start leftAt
 start-empty is met q k none =
     let gone : leftAt q k ≡ [] = empty (leftAt q k) (key-ended q 0 k none (omega arith)) in
-    count-none (λ s. is (outcome q (getD (q .lefts) k []) (getD (q .rights) s []))) (upto (length (q .rights))) (λ s. rw gone met)
+    count-none (λ s. is (outcome q (getD (q .lefts) k []) (getD (q .rights) s []))) (upto (length (q .rights)))
+    (λ s. ap is (outcome-ended q (getD (q .lefts) k []) (getD (q .rights) s []) gone) ∙ met)
 
 -- any other has its row from depth 1 on
 pub start-row : (is : Outcome → Bool) (q : Query) (k : ℕ) → eqb (keyAt q 0 k) 0 ≡ false → start is q k ≡ row is q 1 k

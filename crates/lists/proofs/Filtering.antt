@@ -110,7 +110,7 @@ module _ {A : Type 0} where
       kept true e = ap (λ (n : ℕ). one (p x) + n) e
       kept false e = omega arith
 
-  -- tests that agree on the members
+  -- what is kept sums to what the elements that pass give
   pub sum-keep : (f : A → ℕ) (p : A → Bool) (xs : List A) → sum f (keep p xs) ≡ sum (λ x. cond (p x) (f x) 0) xs
   unfolding sum keep
   sum-keep f p [] = refl
@@ -121,6 +121,7 @@ module _ {A : Type 0} where
       kept true e = ap (λ (n : ℕ). f x + n) e
       kept false e = omega (arith, e)
 
+-- tests that agree on the members
 pub keep-agree : (p q : ℕ → Bool) (xs : List ℕ) → ((x : ℕ) → memb x xs ≡ true → p x ≡ q x) → keep p xs ≡ keep q xs
 unfolding keep
 keep-agree p q [] h = refl

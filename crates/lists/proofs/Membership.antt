@@ -61,5 +61,6 @@ memb-place x (y ∷ ys) e =
     next : Place x ys → Place x (y ∷ ys)
     next p = record { at = suc (p .at); below = omega arith; here = p .here }
 
+-- a list with a member has a first element
 pub memb-some : (x : ℕ) (l : List ℕ) → memb x l ≡ true → 0 < length l
 memb-some x l there = omega (arith, memb-place x l there .below)

@@ -1,5 +1,5 @@
--- Sets in rank order. Under a rank table that is a permutation, `ordered` keeps what a set is: its members, its length,
--- whether it is empty, and whether it is contained in another. All sets here have items below T.
+-- Sets in rank order. Under a rank table that is a permutation, `ordered` keeps what a set is: its members, whether it is empty, and
+-- which sets have every item of it. All sets here have items below T.
 use Prim.Native.Nat.{ℕ, _<_}
 use mathlib.Core.Path.{_≡_, refl, sym, ap, subst, _∙_}
 use mathlib.Core.List.{List, []}
@@ -10,7 +10,8 @@ use borrow.Author.Tests.{eqb-true, eq-eqb, ltb-true, lt-ltb}
 use Rattle.lists.specs.Lists.{all, any, memb, subset, upto, rising}
 use Rattle.lists.proofs.Bools.{and-left, and-right, and-both, same-test}
 use Rattle.lists.proofs.Throughout.{all-elim, any-intro, any-elim, subset-elim, subset-intro, all-weaken}
-use Rattle.lists.proofs.Filtering.{memb-keep}
+use Rattle.lists.proofs.Membership.{memb-at, memb-some}
+use Rattle.lists.proofs.Filtering.{keep-none, memb-keep}
 use Rattle.lists.proofs.Ranges.{memb-upto}
 use Rattle.lists.proofs.Rising.{rising-keep, rising-range}
 use Rattle.sets.specs.Limits.{maxSetLength}
@@ -44,6 +45,18 @@ memb-ordered T ranks set r =
     memb-keep (λ r. any (λ i. eqb (getD ranks i 0) r) set) (upto T) r
     ∙ ap (λ (b : Bool). b && any (λ i. eqb (getD ranks i 0) r) set) (memb-upto T r)
 
+-- and a set has an item where it has a rank
+pub ordered-back : (T : ℕ) (ranks set : List ℕ) → 0 < length (ordered T ranks set) → 0 < length set
+ordered-back T ranks set some =
+    let r = getD (ordered T ranks set) 0 0 in
+    any-elim (λ (i : ℕ). eqb (getD ranks i 0) r) set
+    (and-right (ltb r T) _ (sym (memb-ordered T ranks set r) ∙ memb-at (ordered T ranks set) 0 0 some))
+    (λ i there e. memb-some i set there)
+
+pub ordered-nil : (T : ℕ) (ranks : List ℕ) → ordered T ranks [] ≡ []
+unfolding ordered any
+ordered-nil T ranks = keep-none (λ r. any (λ i. eqb (getD ranks i 0) r) []) (upto T) (λ r. refl)
+
 module _ (T : ℕ) (ranks : List ℕ) (permutation : isPermutation T ranks ≡ true) where
   -- an item below T is in a set exactly when its rank is among the set's ranks
   pub rank-there : (set : List ℕ) (i : ℕ) → i < T → memb i set ≡ true → memb (getD ranks i 0) (ordered T ranks set) ≡ true
@@ -63,7 +76,14 @@ module _ (T : ℕ) (ranks : List ℕ) (permutation : isPermutation T ranks ≡ t
       let alike = permutation-injective T ranks permutation j i low h (eqb-true (getD ranks j 0) (getD ranks i 0) e) in
       subst (λ (k : ℕ). memb k set ≡ true) alike there)
 
-  -- containment may be decided on ranks
+  -- so a set has a rank where it has an item
+  pub ordered-some : (set : List ℕ) → below T set ≡ true → 0 < length set → 0 < length (ordered T ranks set)
+  ordered-some set b some =
+      let there = memb-at set 0 0 some in
+      let low = ltb-true (getD set 0 0) T (all-elim (λ (k : ℕ). ltb k T) set b (getD set 0 0) there) in
+      memb-some (getD ranks (getD set 0 0) 0) (ordered T ranks set) (rank-there set (getD set 0 0) low there)
+
+  -- that every item of one set is in another may be decided on ranks
   pub subset-ordered : (a b : List ℕ) → below T a ≡ true → below T b ≡ true
       → subset (ordered T ranks a) (ordered T ranks b) ≡ subset a b
   subset-ordered a b la lb =

@@ -2,7 +2,7 @@
 -- Document 01, "Sets and settings", first paragraph. A left set is a kit there, and a right set a stack.
 use Prim.Native.Nat.{ℕ, suc, _-_}
 use mathlib.Core.List.{List, [], _∷_}
-use mathlib.Core.Bool.{Bool, false, not, cond, _&&_, _||_}
+use mathlib.Core.Bool.{Bool, not, cond, _&&_, _||_}
 use lib.Dec.{ltb, leb}
 use lib.ListN.{length, take, drop}
 use Rattle.lists.specs.Lists.{all, rising, subset}
@@ -63,8 +63,11 @@ lastEnd start (end ∷ ends) = lastEnd end ends
 abbrev pub entries : List ℕ → ℕ
 entries ends = lastEnd 0 ends
 
+-- whether a set has an item
+abbrev pub hasItem : List ℕ → Bool
+hasItem set = ltb 0 (length set)
+
 -- a left set is contained in a right set when it has an item, as document 02, C-14, asks, and every item of it is there; closed, so
 -- that callers use its laws
 unfoldable pub contained : List ℕ → List ℕ → Bool
-contained [] right = false
-contained (i ∷ left) right = subset (i ∷ left) right
+contained left right = hasItem left && subset left right

@@ -63,7 +63,7 @@ impl Tally {
     }
 
     /// Prints the counts, and says whether each kind was there.
-    pub fn is_covered(&self) -> bool {
+    pub fn report(&self) -> bool {
         for ((name, _), count) in KINDS.iter().zip(self.0) {
             println!("{count:7}  {name}");
         }

@@ -155,7 +155,7 @@ fn main() {
         }
         compare(&bytes, random)
     });
-    if !tally.is_covered() && plan.only.is_none() && plan.cases >= 3_000 {
+    if !tally.report() && plan.only.is_none() && plan.cases >= 3_000 {
         println!("FAILED listings: the generator missed a kind of file");
         std::process::exit(1);
     }

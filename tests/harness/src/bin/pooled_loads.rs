@@ -1,7 +1,7 @@
 //! The pooled load on pairs of tag files, whole and damaged, small and about the limits, with lists around the need that hold a pattern
-//! beforehand. Over what is accepted the join lists the kits of which every tag lies on one of the two pads. Every pair is counted under
-//! each kind that it is of, by its bytes, its lists and the oracle's account, whatever it was made for. The last lines have the counts,
-//! and a kind without a case fails the run.
+//! beforehand. Over what is accepted the join lists the kits that have a tag and every tag of which lies on one of the two pads. Every
+//! pair is counted under each kind that it is of, by its bytes, its lists and the oracle's account, whatever it was made for. The last
+//! lines have the counts, and a kind without a case fails the run.
 
 use harness::files::{damage, file, lengths, pair};
 use harness::oracle::{is_contained, load, pool, read_record, Cause, LoadedFile, Pooled, Read, Refusal, Tag};
@@ -135,7 +135,7 @@ impl Case<'_> {
         kits.numbers.iter().zip(&kits.sets).any(|(&number, kit)| kit.is_empty() && holds(self, number, loaded))
     }
 
-    /// The pairs of a kit and a borrower where every tag of the kit lies on one of the two pads, by the files' records.
+    /// The pairs of a kit and a borrower where the kit has a tag and every tag of it lies on one of the two pads, by the files' records.
     fn whole_on_pads(&self, loaded: &LoadedFile) -> Vec<(u16, u16)> {
         let Ok(first) = &self.first else { return Vec::new() };
         let (kits, stacks) = (&first.sides[0], &first.sides[1]);

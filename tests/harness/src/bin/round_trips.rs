@@ -37,7 +37,7 @@ fn main() {
         }
         calls::load_into(random, &again, calls::lengths_needed(&loaded), &Ok(loaded))
     });
-    if !tally.is_covered() && plan.only.is_none() && plan.cases >= 10_000 {
+    if !tally.report() && plan.only.is_none() && plan.cases >= 10_000 {
         println!("FAILED round trips: the generator missed a kind of file");
         std::process::exit(1);
     }
