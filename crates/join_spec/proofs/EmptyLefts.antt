@@ -8,12 +8,11 @@ use native.Mathlib.Omega.{arith}
 use borrow.Author.Tests.{lt-ltb}
 use lib.Dec.{ltb}
 use lib.ListN.{length, getD, take}
-use Rattle.lists.specs.Lists.{any, count, keep, one, prefix}
+use Rattle.lists.specs.Lists.{count, keep, prefix}
 use Rattle.lists.proofs.Counting.{count-none, count-same, count-map}
 use Rattle.lists.proofs.Filtering.{count-keep, sum-keep}
 use Rattle.lists.proofs.Summing.{sum-same}
 use Rattle.sets.specs.Collections.{hasItem, contained}
-use Rattle.sets.specs.Ordered.{ordered}
 use Rattle.sets.proofs.Ordered.{ordered-nil}
 use Rattle.sets.proofs.Containment.{contained-none}
 use Rattle.inputs.specs.Input.{Input, leftSets, rightSets}
@@ -49,6 +48,7 @@ outcome-ended q left right none = rw none refl
 pub outcome-empty : (q : Query) (right : List ℕ) → outcome q [] right ≡ notMet
 outcome-empty q right = outcome-ended q [] right (ordered-nil (q .T) (q .ranks))
 
+-- a set with a first item has one
 some : (i : ℕ) (items : List ℕ) → hasItem (i ∷ items) ≡ true
 some i items = lt-ltb 0 (length (i ∷ items)) (omega arith)
 
