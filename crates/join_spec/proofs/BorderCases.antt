@@ -165,6 +165,9 @@ borderCases =
     -- m counts equal left sets and those that end at the path: at {0} all three, so 2 is below 0.75 x 3
     ∷ meets 2 (one 0 ∷ one 0 ∷ two 0 1 ∷ []) (one 0 ∷ []) (weighed (whole 1) (whole 1) (whole 0) (fin false 3 (negsuc 1)))
     (2 ∷ 2 ∷ 0 ∷ 1 ∷ 1 ∷ 0 ∷ [])
+    -- and no empty left set: at {0} there is one, so 2 isn't below 0.75
+    ∷ meets 1 ([] ∷ [] ∷ one 0 ∷ []) (one 0 ∷ []) (weighed (whole 1) (whole 1) (whole 0) (fin false 3 (negsuc 1)))
+    (1 ∷ 0 ∷ 1 ∷ 1 ∷ 0 ∷ 0 ∷ [])
     -- an empty left set pairs with no right set, an empty one or not; an empty right set is never seen
     ∷ meets 1 ([] ∷ one 0 ∷ []) ([] ∷ one 0 ∷ []) Check (1 ∷ 0 ∷ 1 ∷ 1 ∷ 0 ∷ 0 ∷ [])
     ∷ meets 1 (one 0 ∷ [] ∷ []) ([] ∷ one 0 ∷ []) Merge (1 ∷ 1 ∷ 0 ∷ 0 ∷ 0 ∷ 0 ∷ [])

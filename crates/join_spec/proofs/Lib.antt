@@ -10,4 +10,3 @@ pub mod GoodSettings
 pub mod Accepted
 pub mod AcceptedRuns
 pub mod Calls
-pub mod EmptyLefts

@@ -22,7 +22,7 @@ use Rattle.sets.proofs.Containment.{contained-none, contained-subset, contained
 use Rattle.sets.proofs.Signatures.{contained-not-dropped}
 use Rattle.join_spec.specs.Query.{Query, inOrder}
 use Rattle.join_spec.specs.Node.{seen}
-use Rattle.join_spec.specs.Walk.{Ending, merged, checkedAfter, isCandidate, outcomeAfter, endingIn, outcome}
+use Rattle.join_spec.specs.Walk.{Ending, merged, checkedAfter, ending, isCandidate, outcomeAfter, endingIn, outcome}
 use Rattle.join_spec.specs.Walk.{notMet, byPath, dropped, falseDrop, confirmed, check}
 use Rattle.join_spec.specs.Counting.{isByPath, isConfirmed}
 
@@ -110,3 +110,8 @@ contained-met q left right permutation leftBelow rightBelow =
     met-after (endingIn q left) (inOrder q left) (inOrder q right) left right
     (ordered-rising (q .T) (q .ranks) right)
     (contained-ranks (q .T) (q .ranks) permutation left right leftBelow rightBelow)
+
+-- a left set without ranks meets no right set
+pub outcome-ended : (q : Query) (left right : List ℕ) → inOrder q left ≡ [] → outcome q left right ≡ notMet
+unfolding outcome endingIn ending isCandidate
+outcome-ended q left right none = rw none refl

@@ -17,7 +17,7 @@ use Rattle.lists.proofs.Ranges.{sum-places, count-places}
 use Rattle.join_spec.specs.Query.{Query}
 use Rattle.join_spec.specs.Walk.{Outcome, byPath, Ending, ending, endingIn, outcome, check, outcomeAfter, endingFrom}
 use Rattle.join_spec.specs.Counting.{total}
-use Rattle.join_spec.proofs.EmptyLefts.{outcome-ended}
+use Rattle.join_spec.proofs.Outcomes.{outcome-ended}
 use Rattle.counting_sort.specs.Groups.{groupsFrom}
 use Rattle.join_index.specs.Grouping.{leftAt, rightAt, keyAt, orderFrom}
 use Rattle.join_index.proofs.Ordering.{keyAt-below}

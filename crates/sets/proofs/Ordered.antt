@@ -45,7 +45,7 @@ memb-ordered T ranks set r =
     memb-keep (λ r. any (λ i. eqb (getD ranks i 0) r) set) (upto T) r
     ∙ ap (λ (b : Bool). b && any (λ i. eqb (getD ranks i 0) r) set) (memb-upto T r)
 
--- and a set has an item where it has a rank
+-- a set has an item where it has a rank, and the empty one has none
 pub ordered-back : (T : ℕ) (ranks set : List ℕ) → 0 < length (ordered T ranks set) → 0 < length set
 ordered-back T ranks set some =
     let r = getD (ordered T ranks set) 0 0 in
@@ -76,7 +76,7 @@ module _ (T : ℕ) (ranks : List ℕ) (permutation : isPermutation T ranks ≡ t
       let alike = permutation-injective T ranks permutation j i low h (eqb-true (getD ranks j 0) (getD ranks i 0) e) in
       subst (λ (k : ℕ). memb k set ≡ true) alike there)
 
-  -- so a set has a rank where it has an item
+  -- so a set has a rank where it has an item, as the other way round
   pub ordered-some : (set : List ℕ) → below T set ≡ true → 0 < length set → 0 < length (ordered T ranks set)
   ordered-some set b some =
       let there = memb-at set 0 0 some in

@@ -63,7 +63,7 @@ lastEnd start (end ∷ ends) = lastEnd end ends
 abbrev pub entries : List ℕ → ℕ
 entries ends = lastEnd 0 ends
 
--- whether a set has an item
+-- whether a set has at least one item
 abbrev pub hasItem : List ℕ → Bool
 hasItem set = ltb 0 (length set)
 

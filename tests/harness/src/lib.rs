@@ -5,6 +5,7 @@ pub mod calls;
 pub mod files;
 pub mod firsts;
 pub mod joins;
+pub mod kinds;
 pub mod lent;
 pub mod oracle;
 pub mod pads;

@@ -35,6 +35,11 @@ pub const KINDS: [Kind; 7] = [
     ("only empty kits, and no stack", |file| has_only_empty(file) && file.sides[1].sets.is_empty()),
 ];
 
+/// Of which kinds a file is.
+pub fn kinds_of(file: &LoadedFile) -> [bool; KINDS.len()] {
+    KINDS.map(|(_, is_of)| is_of(file))
+}
+
 fn is_empty(file: &LoadedFile, place: usize) -> bool {
     file.sides[0].sets.get(place).is_some_and(Vec::is_empty)
 }
@@ -49,24 +54,4 @@ fn has_only_empty(file: &LoadedFile) -> bool {
 
 fn has_whole(file: &LoadedFile) -> bool {
     !file.whole_kits().is_empty()
-}
-
-/// How many files there were of each kind.
-#[derive(Default)]
-pub struct Tally([u64; KINDS.len()]);
-
-impl Tally {
-    pub fn add(&mut self, file: &LoadedFile) {
-        for (count, (_, is_of)) in self.0.iter_mut().zip(KINDS) {
-            *count += u64::from(is_of(file));
-        }
-    }
-
-    /// Prints the counts, and says whether each kind was there.
-    pub fn report(&self) -> bool {
-        for ((name, _), count) in KINDS.iter().zip(self.0) {
-            println!("{count:7}  {name}");
-        }
-        !self.0.contains(&0)
-    }
 }

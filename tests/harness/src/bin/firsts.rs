@@ -5,6 +5,7 @@
 
 use harness::firsts::query;
 use harness::joins::{limit, permutation, rule};
+use harness::kinds::{expect_all, Tally};
 use harness::oracle::{self, contained_kits, first_refusal, has_bad_items, is_contained, Collection, FirstQuery, Refusal};
 use harness::random::Random;
 use harness::{calls, run::Plan};
@@ -311,7 +312,7 @@ fn by_join(random: &mut Random, q: &FirstQuery) -> Result<Option<usize>, Refusal
 
 fn main() {
     let plan = Plan::from_args(30_000);
-    let mut counts = [0u64; KINDS.len()];
+    let mut tally = Tally::new(&KINDS);
     plan.run("firsts", |random, print| {
         let q = &query(random);
         let refusal = first_refusal(q);
@@ -330,16 +331,8 @@ fn main() {
         let kits = if refusal.is_none() { q.left.sets() } else { Vec::new() };
         let (bad_kit, bad_stack) = (q.left.first_bad(q.t), has_bad_items(q.t, &q.right));
         let case = Case { q, refusal, kits, contained, bad_kit, bad_stack };
-        for (count, (_, is_of)) in counts.iter_mut().zip(KINDS) {
-            *count += u64::from(is_of(&case));
-        }
+        tally.add(KINDS.map(|(_, is_of)| is_of(&case)));
         Ok(())
     });
-    for ((name, _), count) in KINDS.iter().zip(counts) {
-        println!("{count:7}  {name}");
-    }
-    if plan.only.is_none() && plan.cases >= 30_000 && counts.contains(&0) {
-        println!("FAILED firsts: the generator missed a kind of case");
-        std::process::exit(1);
-    }
+    expect_all("firsts", &plan, 30_000, tally.report());
 }

@@ -3,6 +3,7 @@
 //! its lists and the oracle's account. The last lines have the counts, and a kind without a case fails the run.
 
 use harness::joins::{query, separated, without_empty, SEPARATED};
+use harness::kinds::{expect_all, Tally};
 use harness::oracle::{join_refusal, walk, walk_refusal, work_words, Query, Refusal, Rule, Walked};
 use harness::random::Random;
 use harness::{calls, run::Plan};
@@ -154,16 +155,14 @@ fn again_without(random: &mut Random, q: &Query, walked: &Walked) -> Result<(), 
 fn main() {
     let plan = Plan::from_args(220_000);
     let mut told = [0u64; 6];
-    let mut counts = [0u64; KINDS.len()];
+    let mut tally = Tally::new(&KINDS);
     plan.run("joins", |random, print| {
         let (q, walked) = query(random);
         if print {
             println!("{q:?}\n{walked:?}");
         }
         let case = Case::new(&q, walked.as_ref());
-        for (count, (_, is_of)) in counts.iter_mut().zip(KINDS) {
-            *count += u64::from(is_of(&case));
-        }
+        tally.add(KINDS.map(|(_, is_of)| is_of(&case)));
         if let (Some(walked), Rule::Weighed { .. }) = (&walked, q.rule) {
             let by_node = walked.nodes.iter().map(|&node| separated(q.rule, node));
             by_node.for_each(|by| by.iter().zip(&mut told).for_each(|(&is, sum)| *sum += is as u64));
@@ -178,15 +177,9 @@ fn main() {
         }
         Ok(())
     });
-    for ((name, _), count) in KINDS.iter().zip(counts) {
-        println!("{count:7}  {name}");
-    }
+    let has_kinds = tally.report();
     for (name, sum) in SEPARATED.iter().zip(told) {
         println!("nodes decided otherwise by {name}: {sum}");
     }
-    let is_covered = !told.contains(&0) && !counts.contains(&0);
-    if plan.only.is_none() && plan.cases >= 220_000 && !is_covered {
-        println!("FAILED joins: the generator missed a kind of case");
-        std::process::exit(1);
-    }
+    expect_all("joins", &plan, 220_000, has_kinds && !told.contains(&0));
 }

@@ -2,10 +2,11 @@
 //! many generated files there were of each kind, and a kind without a file fails the run.
 
 use harness::files::{damage, file, record};
+use harness::kinds::{expect_all, Tally};
 use harness::oracle::*;
 use harness::random::Random;
 use harness::run::Plan;
-use harness::whole::Tally;
+use harness::whole::{kinds_of, KINDS};
 use std::fmt::Write as _;
 use std::io::Write as _;
 use std::process::{Command, Stdio};
@@ -141,22 +142,19 @@ fn main() {
         }
         println!("listings: {} named files", named().len());
     }
-    let mut tally = Tally::default();
+    let mut tally = Tally::new(&KINDS);
     plan.run("listings", |random, print| {
         let mut bytes = file(random);
         if random.one_in(4) {
             damage(random, &mut bytes);
         }
         if let Ok(loaded) = load(&bytes) {
-            tally.add(&loaded);
+            tally.add(kinds_of(&loaded));
         }
         if print {
             println!("{bytes:02X?}\n{}", listing(&bytes));
         }
         compare(&bytes, random)
     });
-    if !tally.report() && plan.only.is_none() && plan.cases >= 3_000 {
-        println!("FAILED listings: the generator missed a kind of file");
-        std::process::exit(1);
-    }
+    expect_all("listings", &plan, 3_000, tally.report());
 }

@@ -4,6 +4,7 @@
 //! lines have the counts, and a kind without a case fails the run.
 
 use harness::files::{damage, file, lengths, pair};
+use harness::kinds::{expect_all, Tally};
 use harness::oracle::{is_contained, load, pool, read_record, Cause, LoadedFile, Pooled, Read, Refusal, Tag};
 use harness::random::Random;
 use harness::{calls, pads, run::Plan, whole};
@@ -306,7 +307,7 @@ fn files(random: &mut Random) -> ([Vec<u8>; 2], Option<&'static str>) {
 }
 
 fn main() {
-    let mut compared = [0u64; KINDS.len()];
+    let mut tally = Tally::new(&KINDS);
     let plan = Plan::from_args(30_000);
     plan.run("pooled loads", |random, print| {
         let ([first, second], damaged) = &files(random);
@@ -324,17 +325,9 @@ fn main() {
         let (first, second) = (load(files[0]), pool(&[], files[1]).expect("an empty file has no fault"));
         let records = records_of(files[1]);
         let case = Case { files, damaged: *damaged, lengths, pooled: &pooled, refusal, first, second, records };
-        for (count, (_, is_of)) in compared.iter_mut().zip(KINDS) {
-            *count += u64::from(is_of(&case));
-        }
+        tally.add(KINDS.map(|(_, is_of)| is_of(&case)));
         calls::load_pooled_into(random, files, lengths, &pooled)?;
         case.lists_whole_kits()
     });
-    for ((name, _), count) in KINDS.iter().zip(compared) {
-        println!("{count:7}  {name}");
-    }
-    if plan.only.is_none() && plan.cases >= 30_000 && compared.contains(&0) {
-        println!("FAILED pooled loads: the generator missed a kind of case");
-        std::process::exit(1);
-    }
+    expect_all("pooled loads", &plan, 30_000, tally.report());
 }

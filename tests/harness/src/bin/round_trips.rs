@@ -3,21 +3,22 @@
 //! how many files there were of each kind, and a kind without a file fails the run.
 
 use harness::files::file;
+use harness::kinds::{expect_all, Tally};
 use harness::oracle::{load, WriteQuery};
-use harness::whole::{compare, Tally};
+use harness::whole::{compare, kinds_of, KINDS};
 use harness::{calls, run::Plan};
 use kitfinder::TagFile;
 
 fn main() {
     let plan = Plan::from_args(20_000);
-    let mut tally = Tally::default();
+    let mut tally = Tally::new(&KINDS);
     plan.run("round trips", |random, print| {
         let bytes = file(random);
         let Ok(loaded) = load(&bytes) else { return Ok(()) };
         if print {
             println!("{bytes:02X?}\n{loaded:?}");
         }
-        tally.add(&loaded);
+        tally.add(kinds_of(&loaded));
         calls::load_into(random, &bytes, calls::lengths_needed(&loaded), &Ok(loaded.clone()))?;
         let q = WriteQuery {
             t: loaded.tags.len() as u32,
@@ -37,8 +38,5 @@ fn main() {
         }
         calls::load_into(random, &again, calls::lengths_needed(&loaded), &Ok(loaded))
     });
-    if !tally.report() && plan.only.is_none() && plan.cases >= 10_000 {
-        println!("FAILED round trips: the generator missed a kind of file");
-        std::process::exit(1);
-    }
+    expect_all("round trips", &plan, 10_000, tally.report());
 }

@@ -16,17 +16,18 @@ use Rattle.sets.specs.Collections.{hasItem, contained}
 use Rattle.sets.proofs.Ordered.{ordered-nil}
 use Rattle.sets.proofs.Containment.{contained-none}
 use Rattle.inputs.specs.Input.{Input, leftSets, rightSets}
 use Rattle.join_spec.specs.declared.Counts.{Counts}
 use Rattle.join_spec.specs.declared.JoinAnswer.the-variants.{Joined}
 use Rattle.join_spec.specs.PairList.{countPairs, pairCount}
 use Rattle.join_spec.specs.Query.{Settings, Query, queryOf, inOrder}
 use Rattle.join_spec.specs.Node.{goesOn, goesOnAt, candidates, holders, beginning}
-use Rattle.join_spec.specs.Walk.{Ending, ending, endingFrom, endingIn, isCandidate}
+use Rattle.join_spec.specs.Walk.{Ending, ending, endingFrom, endingIn}
 use Rattle.join_spec.specs.Walk.{Outcome, notMet, byPath, check, outcomeAfter, outcome}
 use Rattle.join_spec.specs.Answer.{RunCall}
 use Rattle.join_spec.specs.Counting.{total, isByPath, isConfirmed, isCheck, isDropped, isFalse, countsOf}
+use Rattle.join_spec.proofs.Outcomes.{outcome-ended}
 use Rattle.join_spec.proofs.PairListLaws.{pairOccurs}
 use Rattle.join_spec.proofs.Calls.{call-once, call-counts}
 
 -- a query without its empty left sets
 pub withoutEmpty : Query → Query
@@ -40,11 +41,7 @@ withoutEmpty q =
       rights = q .rights;
     }
 
--- a left set without ranks meets no right set, and so an empty one
-pub outcome-ended : (q : Query) (left right : List ℕ) → inOrder q left ≡ [] → outcome q left right ≡ notMet
-unfolding outcome endingIn ending isCandidate
-outcome-ended q left right none = rw none refl
-
+-- an empty left set meets no right set
 pub outcome-empty : (q : Query) (right : List ℕ) → outcome q [] right ≡ notMet
 outcome-empty q right = outcome-ended q [] right (ordered-nil (q .T) (q .ranks))
 

@@ -1,0 +1,3 @@
+-- Laws over whole joins.
+-- empty left sets have no bearing
+pub mod EmptyLefts
