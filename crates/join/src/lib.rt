@@ -9,7 +9,7 @@ use join_spec::JoinAnswer;
 use join_spec::Rule;
 use join_spec::Weights;
 use join_tests::test_join;
-use join_walk::walk::walk;
+use join_walk::walk;
 use lists::zero_u16;
 use sets::Refusal;
 use sets::Tested;

@@ -2,5 +2,3 @@
 pub mod Rows
 pub mod Narrowing
 pub mod Visiting
-pub mod Blocks
-pub mod Entering

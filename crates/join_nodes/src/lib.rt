@@ -1,5 +1,4 @@
-// A node of the walk up to its children: whether the walk goes on there, the candidates, and the left sets that end there, are alone,
-// or are at the limit.
+// A node of the walk: its left sets and its candidates, whether the walk goes on there, and the candidates after it.
 use join_check::Tally;
 use join_spec::Rule;
 
@@ -22,8 +21,5 @@ pub struct Walked {
     pub spent: bool,
 }
 
-pub mod blocks;
 pub mod decide;
-pub mod enter;
-pub mod lone;
 pub mod narrow;

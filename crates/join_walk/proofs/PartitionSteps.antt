@@ -29,14 +29,14 @@ use Rattle.join_nodes.specs.declared.Settings.{Settings}
 use Rattle.join_nodes.specs.declared.Walked.{Walked}
 use Rattle.join_nodes.proofs.Narrowing.{listing-same, listing-few, narrow-first}
 use Rattle.join_nodes.proofs.NodeFacts.{on-key, unasked-goes}
-use Rattle.join_nodes.proofs.NodeRows.{empty-list}
-use Rattle.join_nodes.proofs.NodeSteps.{Onward, onward-going, limit-visited}
-use Rattle.join_nodes.proofs.EmptyNodes.{empty-kept}
 use Rattle.join_nodes.proofs.RunLaws.{begins-first}
 use Rattle.join_nodes.proofs.PartLoop.{PartDone}
 use Rattle.join_nodes.proofs.FrameLaws.{framed-none, framed-lower}
+use Rattle.join_blocks.proofs.NodeRows.{empty-list}
+use Rattle.join_enter.proofs.NodeSteps.{Onward, onward-going, limit-visited}
+use Rattle.join_enter.proofs.EmptyNodes.{empty-kept}
+use Rattle.join_visit.proofs.ChildSteps.{childRank, first-child, kids-next}
 use Rattle.join_walk.specs.Partitions.{Partitions, Partition, PartVisited}
-use Rattle.join_walk.proofs.ChildSteps.{childRank, first-child, kids-next}
 
 -- a partition as a node of depth 1
 module _ {lay : Layout} {st : Settings} {q : Query} {w : List ℕ} {lo hi : ℕ} {p : Progress} {r : ℕ}

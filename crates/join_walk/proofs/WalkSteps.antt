@@ -30,14 +30,14 @@ use Rattle.kept_rows.specs.Keeping.{Cleared}
 use Rattle.kept_rows.proofs.RowLaws.{index-kept}
 use Rattle.join_nodes.specs.Rows.{row}
 use Rattle.join_nodes.specs.Visiting.{beginners}
-use Rattle.join_nodes.specs.Blocks.{MergedEnd}
 use Rattle.join_nodes.specs.declared.Settings.{Settings}
 use Rattle.join_nodes.specs.declared.Walked.{Walked}
 use Rattle.join_nodes.proofs.RunLaws.{Cut}
-use Rattle.join_nodes.proofs.GroupSteps.{endedAt, goingOn, ended-keys, going-keys, beginners-grouped, ended-cut}
 use Rattle.join_nodes.proofs.RowLaws.{MetOnly}
 use Rattle.join_nodes.proofs.VisitLaws.{checks-added}
 use Rattle.join_nodes.proofs.FrameLaws.{framed-none}
+use Rattle.join_blocks.specs.Blocks.{MergedEnd}
+use Rattle.join_blocks.proofs.GroupSteps.{endedAt, goingOn, ended-keys, going-keys, beginners-grouped, ended-cut}
 use Rattle.join_walk.specs.Partitions.{Partitions, PartVisited, WalkReady, WalkDone}
 use Rattle.join_walk.proofs.Totals.{start, total-order, start-empty, start-row}
 

@@ -1,3 +1,2 @@
--- Contents: the heaviest of the children, and the partitions with what the whole walk answers.
-pub mod Heaviest
+-- Contents: the partitions, with what the whole walk answers.
 pub mod Partitions

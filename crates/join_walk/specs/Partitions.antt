@@ -1,37 +1,24 @@
--- Inner: the left sets of a child; and the whole walk, left sets by first rank, each partition with the right sets seen at it. What
--- is known before it, and what it answers.
-use Prim.Native.Nat.{ℕ, _-_, _≤_, _<_}
+-- Inner: the whole walk, left sets by first rank, each partition with the right sets seen at it. What is known before it, and what it
+-- answers.
+use Prim.Native.Nat.{ℕ, _≤_, _<_}
 use mathlib.Core.Path.{_≡_}
 use mathlib.Core.List.{List, [], _∷_}
 use mathlib.Core.Bool.{true, false}
 use lib.ListN.{length}
 use Rattle.sets.specs.Limits.{maxLimit}
 use Rattle.join_spec.specs.Query.{Query}
-use Rattle.join_spec.specs.Node.{lastOf}
 use Rattle.join_spec.specs.Counting.{total, isCheck}
 use Rattle.join_spec.specs.Kinds.{Kind, isOf}
 use Rattle.join_index.specs.declared.Layout.{Layout}
 use Rattle.join_check.specs.Asking.{Index}
-use Rattle.join_check.specs.Runs.{run}
 use Rattle.join_check.specs.Counters.{counter}
 use Rattle.join_check.specs.declared.Tally.{Tally}
 use Rattle.kept_rows.specs.Kept.{RowsKept}
-use Rattle.join_nodes.specs.Visiting.{Underway, beginners, Children, Framed, RunVisited}
+use Rattle.join_nodes.specs.Visiting.{Children, Framed, RunVisited}
 use Rattle.join_nodes.specs.declared.Progress.{Progress}
 use Rattle.join_nodes.specs.declared.Settings.{Settings}
 use Rattle.join_nodes.specs.declared.Walked.{Walked}
-
--- the left sets at the places lo up to hi begin with a path of d ranks: those of a child, or of a partition
-pub record Child (lay : Layout) (st : Settings) (q : Query) (path w : List ℕ) (d lo hi : ℕ) (p : Progress) : Type 0 where
-  pub index : Index lay q w
-  pub underway : Underway st q (p .tally) (hi - lo)
-  pub rows : RowsKept lay q w (p .top)
-  pub depth : length path ≡ d
-  pub within : d ≤ q .limit
-  pub last : lastOf path < q .T
-  pub some : lo < hi
-  pub few : hi ≤ length (q .lefts)
-  pub lefts : run lay w lo hi ≡ beginners q path d
+use Rattle.join_visit.specs.Child.{Child}
 
 -- one partition: the left sets at the places lo up to hi of the order are those with a first rank r
 abbrev pub Partition : Layout → Settings → Query → List ℕ → ℕ → ℕ → Progress → ℕ → Type 0

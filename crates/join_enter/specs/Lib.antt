@@ -1,0 +1,2 @@
+-- Contents: a node before and after it is entered.
+pub mod Entering

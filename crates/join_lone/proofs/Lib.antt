@@ -1,0 +1,2 @@
+-- Laws of a lone left set, without code.
+pub mod LoneSets

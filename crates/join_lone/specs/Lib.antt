@@ -1,0 +1,2 @@
+-- Contents: a lone left set.
+pub mod Lone
