@@ -20,7 +20,8 @@ use Rattle.join_check.specs.Asking.{LeftThere, RunThere}
 use Rattle.join_check.specs.Runs.{run, lead, leftIn, RunEnd}
 use Rattle.join_check.proofs.Orders.{run-first, run-key, run-fail}
 use Rattle.join_nodes.specs.Visiting.{beginners}
-use Rattle.join_nodes.proofs.Groups.{FirstGroup, groups-first, groups-above, keep-groups}
+use Rattle.join_nodes.proofs.Groups.{FirstGroup, groups-first, groups-above}
+use Rattle.join_index.proofs.GroupLaws.{keep-groups}
 use Rattle.join_nodes.proofs.RunLaws.{Cut, cut}
 use Rattle.join_blocks.specs.Blocks.{MergedEnd}
 

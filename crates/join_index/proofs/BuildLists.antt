@@ -25,14 +25,14 @@ use Rattle.join_index.specs.Ground.{Listing, seenCount, asksSeen}
 use Rattle.join_index.specs.Stages.{orderedBy, heldKey}
 use Rattle.join_index.specs.declared.Layout.{Layout}
 use Rattle.join_index.proofs.Ordering.{key-is}
-use Rattle.join_index.proofs.GroupLaws.{ordered-agree}
+use Rattle.join_index.proofs.GroupLaws.{upto-place, ordered-agree}
 use Rattle.join_index.proofs.HeldSets.{run-set}
 use Rattle.join_index.proofs.BuildPlan.{Planned, left-long, right-long}
 use Rattle.join_index.proofs.BuildPlan.{least-below, order-above, signed-above, slots-above}
 use Rattle.join_index.proofs.BuildStages.{Built, least-runs, order-runs}
 
 -- the order by the keys of the left sets
-order-from : (q : Query) (n d : ℕ) → orderedBy (keyAt q) (q .T) (length (q .lefts)) n d ≡ orderFrom q n d
+order-from : (q : Query) (n d : ℕ) → orderedBy (keyAt q) (q .T) (upto (length (q .lefts))) n d ≡ orderFrom q n d
 unfolding orderedBy orderFrom
 order-from q zero d = refl
 order-from q (suc n) d = ap (λ (l : List ℕ). grouped (keyAt q d) (suc (q .T)) l) (order-from q n (suc d))
@@ -127,11 +127,11 @@ module _ {leftEnds leftItems rightEnds rightItems ranks w a b c d f : List ℕ} 
       (λ k. ordered T ranks (getD lefts k [])) (order-runs plan (built .rightBuilt) (built .leftBuilt) (built .leastBuilt)) k h)
       ∙ sym (key-is q e k)
 
-  order-is : orderedBy (heldKey c (lay .«left_starts») (lay .«left_ranks»)) T (length leftEnds) limit 0 ≡ orderOf q
+  order-is : orderedBy (heldKey c (lay .«left_starts») (lay .«left_ranks»)) T (upto (length leftEnds)) limit 0 ≡ orderOf q
   order-is =
       ordered-agree (heldKey c (lay .«left_starts») (lay .«left_ranks»)) (keyAt q) T
-      (length leftEnds) limit 0 order-keys
-      ∙ ap (λ (n : ℕ). orderedBy (keyAt q) T n limit 0) (sym (left-long plan))
+      (upto (length leftEnds)) limit 0 (λ e k there. order-keys e k (upto-place (length leftEnds) k there))
+      ∙ ap (λ (n : ℕ). orderedBy (keyAt q) T (upto n) limit 0) (sym (left-long plan))
       ∙ order-from q limit 0
 
   order-end : lay .order + length lefts ≡ lay .«right_signatures»

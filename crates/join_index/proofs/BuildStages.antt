@@ -4,6 +4,7 @@ use mathlib.Core.Path.{_≡_, sym}
 use mathlib.Core.List.{List, []}
 use native.Mathlib.Omega.{arith}
 use lib.ListN.{length, getD, take}
+use Rattle.lists.specs.Lists.{upto}
 use Rattle.sets.specs.Collections.{setsOf}
 use Rattle.sets.specs.Ordered.{ordered}
 use Rattle.sets.proofs.Good.{end-within}
@@ -15,7 +16,7 @@ use Rattle.side_index.specs.Side.{SideRoom, SideBuilt}
 use Rattle.side_index.proofs.SideReads.{side-set}
 use Rattle.join_index.specs.Stages.{StageRoom, LeastBuilt, OrderBuilt, orderedBy, heldKey}
 use Rattle.join_index.specs.declared.Layout.{Layout}
-use Rattle.join_index.proofs.Ordering.{ordered-below}
+use Rattle.join_index.proofs.Ordering.{ordered-below, ordered-short}
 use Rattle.join_index.proofs.HeldSets.{runs-held}
 use Rattle.join_index.proofs.BuildPlan.{Planned}
 use Rattle.join_index.proofs.BuildPlan.{signed-above, slots-above, order-above, least-below, left-above, wide}
@@ -33,7 +34,7 @@ pub record Built (leftEnds leftItems rightEnds rightItems ranks : List ℕ) (nl 
       LeastBuilt rule (lay .«least_offsets») (lay .«right_starts») (lay .«right_ranks») (length rightEnds) (length ranks) b c
   pub orderBuilt :
       OrderBuilt (lay .«by_least» + length rightEnds) (length leftEnds) (length ranks)
-      (orderedBy (heldKey c (lay .«left_starts») (lay .«left_ranks»)) (length ranks) (length leftEnds) limit 0) c d
+      (orderedBy (heldKey c (lay .«left_starts») (lay .«left_ranks»)) (length ranks) (upto (length leftEnds)) limit 0) c d
   pub signed :
       BothSigned (lay .«right_signatures») (lay .«left_signatures») (setsOf rightEnds rightItems) (setsOf leftEnds leftItems) d f
 
@@ -112,6 +113,7 @@ module _ {leftEnds leftItems rightEnds rightItems ranks w : List ℕ} {nl nr : �
                 (λ s. ordered T ranks (getD rights s [])) least-runs
                 (omega (arith, p .out .rightStarts, p .out .rightRanks, least-below p))
                 (λ s. ordered-below T ranks (getD rights s []))
+                (λ s. ordered-short T ranks (getD rights s []))
                 (plan-sizes p .rightSets)
                 (p .room .items);
             below = omega (arith, p .out .byLeast, signed-above p, slots-above p);
@@ -136,6 +138,7 @@ module _ {leftEnds leftItems rightEnds rightItems ranks w : List ℕ} {nl nr : �
                   (λ k. ordered T ranks (getD lefts k [])) order-runs
                   (omega (arith, p .out .leftStarts, p .out .leftRanks, p .out .leastOffsets, order-above p))
                   (λ k. ordered-below T ranks (getD lefts k []))
+                  (λ k. ordered-short T ranks (getD lefts k []))
                   (plan-sizes p .leftSets)
                   (p .room .items);
               below = omega (arith, signed-above p, slots-above p);
@@ -145,7 +148,7 @@ module _ {leftEnds leftItems rightEnds rightItems ranks w : List ℕ} {nl nr : �
         module _ (limit : ℕ) {d : List ℕ}
             (order-built :
             OrderBuilt (lay .«by_least» + length rightEnds) (length leftEnds) T
-            (orderedBy (heldKey c (lay .«left_starts») (lay .«left_ranks»)) T (length leftEnds) limit 0) c d) where
+            (orderedBy (heldKey c (lay .«left_starts») (lay .«left_ranks»)) T (upto (length leftEnds)) limit 0) c d) where
           pub sign-room :
               BothRoom (lay .«right_signatures») (lay .«left_signatures») rightEnds rightItems leftEnds leftItems d
           sign-room =

@@ -1,4 +1,4 @@
--- Stable grouping by a key: filters pass through it, it loses nothing, and its first element begins a whole group.
+-- Stable grouping by a key: it loses nothing, and its first element begins a whole group.
 use Prim.Native.Nat.{ℕ, zero, suc, _+_, _-_, _≤_, _<_}
 use mathlib.Core.Path.{_≡_, refl, sym, ap, ap₂, subst, _∙_}
 use mathlib.Core.List.{List, [], _∷_, _++_, nil≢cons, head-eq-of-cons-eq}
@@ -19,20 +19,6 @@ unfolding all
 first-of p x xs a = and-left (p x) (all p xs) a
 
 module _ (key : ℕ → ℕ) where
-  -- a filter of the groups is the groups of the filtered
-  pub keep-groups : (p : ℕ → Bool) (x n : ℕ) (l : List ℕ) → keep p (groupsFrom key x n l) ≡ groupsFrom key x n (keep p l)
-  unfolding groupsFrom keep
-  keep-groups p x zero l = refl
-  keep-groups p x (suc n) l =
-      keep-append p (keep (λ a. eqb (key a) x) l) (groupsFrom key (suc x) n l)
-      ∙ ap₂ (λ (a b : List ℕ). a ++ b) swapped (keep-groups p (suc x) n l)
-    where
-      swapped : keep p (keep (λ a. eqb (key a) x) l) ≡ keep (λ a. eqb (key a) x) (keep p l)
-      swapped =
-          keep-keep (λ a. eqb (key a) x) p l
-          ∙ keep-same (λ a. eqb (key a) x && p a) (λ a. p a && eqb (key a) x) l (λ a. and-comm (eqb (key a) x) (p a))
-          ∙ sym (keep-keep p (λ a. eqb (key a) x) l)
-
   -- whether a key lies among n keys from x on
   abbrev pub within : ℕ → ℕ → ℕ → Bool
   within x n a = leb x (key a) && ltb (key a) (x + n)

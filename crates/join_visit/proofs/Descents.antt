@@ -1,18 +1,20 @@
 -- The visit of a node that goes on with one of its children, and so on: what is left is always one node, and whatever visits it has
 -- visited the first one. The loop's invariant is `Descending`.
-use Prim.Native.Nat.{ℕ, _+_, _≤_, _<_}
+use Prim.Native.Nat.{ℕ, suc, _+_, _-_, _≤_, _<_}
 use mathlib.Core.Path.{_≡_, refl, _∙_}
 use mathlib.Core.List.{List}
 use mathlib.Core.Bool.{true, false}
 use native.Mathlib.Omega.{arith}
 use lib.ListN.{length}
 use Rattle.join_spec.specs.Query.{Query}
+use Rattle.join_spec.specs.Node.{lastOf}
 use Rattle.join_index.specs.declared.Layout.{Layout}
-use Rattle.join_nodes.specs.Narrowing.{SomePath}
+use Rattle.join_nodes.specs.Narrowing.{slotOf, SomePath}
 use Rattle.join_nodes.specs.Visiting.{Node, ChildrenAt, NodeVisited, ChildrenVisited}
 use Rattle.join_nodes.specs.declared.Progress.{Progress}
 use Rattle.join_nodes.specs.declared.Settings.{Settings}
 use Rattle.join_nodes.specs.declared.Walked.{Walked}
+use Rattle.join_nodes.proofs.PartLoop.{continuing-start, continuing-end}
 use Rattle.join_enter.specs.Entering.{NodeEntered}
 use Rattle.join_enter.specs.declared.Entered.{Entered}
 use Rattle.join_visit.specs.Heaviest.{RunChosen}
@@ -69,6 +71,17 @@ module _ {lay : Layout} {st : Settings} {w₀ : List ℕ} {d₀ lo₀ hi₀ from
       → NodeVisited lay st q path w₀ w′ d₀ lo₀ hi₀ (p₀ .tally) one
   descending-end {w′} {one} each q path node =
       let left = so .further more q path node in left .whole w′ one (each q (left .path) (left .node))
+
+-- no children: they were visited, and nothing has changed
+none-visited : {lay : Layout} {st : Settings} {w : List ℕ} {d lo hi from to : ℕ} {p : Progress} → hi ≤ lo → (q : Query)
+    (path : List ℕ) → ChildrenAt lay st q path w d lo hi from to p
+    → ChildrenVisited lay st q path w w d lo hi (p .tally) (record { at = p; spent = false })
+none-visited {lay} {st} {w} {d} {lo} {hi} {from} {to} {p} none q path at =
+    continuing-end
+    (continuing-start lay (st .budget) (suc d) hi (λ path w. slotOf lay w (suc (lastOf path)))
+    (λ q path w i r. ChildrenAt lay st q path w d i hi from to r)
+    (record { query = q; path = path; holds = at }))
+    none (at .kids .underway .budget) (λ q path at. at .kids .rows) q path at
 
 -- it was entered, and has children: those other than the chosen one were visited
 module _ {lay : Layout} {st : Settings} {w : List ℕ} {d lo hi from to : ℕ} {p : Progress} {v : List ℕ} {on : Entered}
@@ -145,3 +158,11 @@ module _ {lay : Layout} {st : Settings} {w : List ℕ} {d lo hi from to : ℕ} {
                     (none-chosen (kids q (f .path) (f .node)) left chosen (below q (f .path) (f .node)) calm
                     (above q (f .path) (f .node)) quiet none));
               }
+
+    -- the chosen child is left and was the only one: the others, of which there are none, were visited
+    pub descending-only : {w₀ : List ℕ} {d₀ lo₀ hi₀ from₀ to₀ : ℕ} {p₀ : Progress} → hi - on .mid ≤ r .hi - r .lo → lo < hi
+        → Descending lay st w₀ d₀ lo₀ hi₀ from₀ to₀ p₀ w d lo hi from to p → length v ≡ length w
+        → Descending lay st w₀ d₀ lo₀ hi₀ from₀ to₀ p₀ v (d + 1) (r .lo) (r .hi) (on .«from») (on .to) (on .at)
+    descending-only all =
+        descending-step (none-visited (omega (arith, all, left, chosen .within))) refl
+        (none-visited (omega (arith, all, left, chosen .begins .low))) refl

@@ -20,7 +20,7 @@ ghost use Rattle.join_nodes.specs.Visiting.{Node, NodeVisited, ChildrenAt, Chil
 
 // Visits a node: the left sets at the places lo up to hi of the order begin with its path of d ranks, and the words from..to
 // are its candidates. A child's slot lies beyond everything that its node still needs, and when the other children are done the
-// node needs nothing more.
+// node needs nothing more. Where the heaviest child is the only one, no call is made.
 pub fn visit_node(
     work: &mut [u32],
     flags: &mut [u8],
@@ -62,18 +62,21 @@ pub fn visit_node(
         let heavy = heaviest_run(work, lay, e, mid, j);
         first = on.from;
         last = on.to;
-        let below = visit_children(work, flags, lay, st, e, mid, heavy.lo, first, last, at);
-        if below.spent {
-            return below;
-        }
-        let above = visit_children(work, flags, lay, st, e, heavy.hi, j, first, last, below.at);
-        if above.spent {
-            return above;
+        r = at;
+        if heavy.hi - heavy.lo < j - mid {
+            let below = visit_children(work, flags, lay, st, e, mid, heavy.lo, first, last, at);
+            if below.spent {
+                return below;
+            }
+            let above = visit_children(work, flags, lay, st, e, heavy.hi, j, first, last, below.at);
+            if above.spent {
+                return above;
+            }
+            r = above.at;
         }
         e += 1;
         i = heavy.lo;
         j = heavy.hi;
-        r = above.at;
     }
     Walked {
         at: r,

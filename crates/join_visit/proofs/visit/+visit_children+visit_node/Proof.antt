@@ -1,13 +1,16 @@
 -- Node visit and child loop meet their contracts together. The measures: twice the limit less the depth for the child loop, and
 -- one more for the node visit, so that each call of the other falls. The child loop goes part after part; the invariant of the
--- node's own loop is `Descending`, and its measure how far the depth is from the limit. What each step shows stands in NodeStops,
--- ChildSteps, ChildNodes and Descents, and in the contract of `enter_node`.
+-- node's own loop is `Descending`, and its measure how far the depth is from the limit. A turn of it ends in two ways: the other
+-- children were visited, or there are none. What each step shows stands in NodeStops, ChildSteps, ChildNodes and Descents, and in
+-- the contract of `enter_node`.
 use Prim.Native.Nat.{ℕ, suc, _-_, _*_, _+_, _<_}
-use mathlib.Core.Path.{sym, _∙_}
+use mathlib.Core.Path.{_≡_, sym, _∙_}
+use mathlib.Core.Logic.{⊎-elim}
 use mathlib.Core.List.{List}
 use native.Mathlib.Omega.{arith}
 use borrow.Fn.Kinds.{In}
 use borrow.Fn.PlainCycle.{Measures, is, falls, and}
+use lib.ListN.{length}
 use Rattle.join_spec.specs.Query.{Query}
 use Rattle.join_spec.specs.Node.{lastOf}
 use Rattle.word_lists.specs.Flags.{Clear}
@@ -20,7 +23,7 @@ use Rattle.join_blocks.proofs.NodeStops.{goes-on, goes-not, stop-there, stop-sm
 use Rattle.join_enter.specs.Entering.{NodeEntered}
 use Rattle.join_visit.proofs.ChildSteps.{kids-run, childPath}
 use Rattle.join_visit.proofs.ChildNodes.{next-node, children-done}
-use Rattle.join_visit.proofs.Descents.{Descending, descending-start, node-left, descending-end, ask-below, spent-below, ask-above, spent-above, descending-step}
+use Rattle.join_visit.proofs.Descents.{Descending, descending-start, node-left, descending-end, ask-below, spent-below, ask-above, spent-above, descending-step, descending-only}
 use Rattle.join_check.proofs.keys.run_end.Reads as run-end
 use Rattle.join_blocks.proofs.check_block.Reads as check-block
 use Rattle.join_nodes.proofs.decide.decide.Reads as decide
@@ -210,6 +213,11 @@ module _ (t : ℕ) where
       → NodeVisited (a .lay) (a .st) q path (a .work .now) w (a .d) (a .lo) (a .hi) (a .p .tally) one
   ends c = descending-end (c .before .loop .inv .0) (c .loop-test .taken)
 
+  -- flags that are clear are as many as were passed
+  as-many : (c : node-lts.In-loop (node-callees t) (node-at t) visit-node.Post Inv-down μ-down) {f : List ℕ} → Clear f
+      → length f ≡ length (begun c .args .flags .now)
+  as-many c clear = clear .size ∙ sym (begun c .pre .1 .1 .size)
+
   decide-requires : node-lts.Need-decide-requires (node-callees t) (node-at t) visit-node.Post Inv-down μ-down
   decide-requires c κs =
       some-path (here (c .before)) (λ q path node. node .at)
@@ -233,7 +241,7 @@ module _ (t : ℕ) where
 
   node-same-length-2 : node-lts.Need-same-length-2 (node-callees t) (node-at t) visit-node.Post Inv-down μ-down
   node-same-length-2 c =
-      c .before .before .before .before .before .before .loop .inv .1 .size ∙ sym (c .before .before .before .before .before .before .before .before .before .pre .1 .1 .size)
+      let test = c .before .before .before .before .before in as-many test (test .before .loop .inv .1)
 
   node-returns : node-lts.Need-returns (node-callees t) (node-at t) visit-node.Post Inv-down μ-down
   node-returns c =
@@ -268,11 +276,12 @@ module _ (t : ℕ) where
 
   node-same-length-3 : node-lts.Need-same-length-3 (node-callees t) (node-at t) visit-node.Post Inv-down μ-down
   node-same-length-3 c =
-      c .before .before .before .before .before .before .enter-node .kept .0 ∙ c .before .before .before .before .before .before .before .before .before .before .before .before .before .loop .inv .0 .size
+      let over = c .before .before .before .before .before .before in
+      over .enter-node .kept .0 ∙ in-loop over .before .loop .inv .0 .size
 
   node-same-length-4 : node-lts.Need-same-length-4 (node-callees t) (node-at t) visit-node.Post Inv-down μ-down
   node-same-length-4 c =
-      c .before .before .before .before .before .before .enter-node .kept .1 .0 ∙ c .before .before .before .before .before .before .before .before .before .before .before .before .before .loop .inv .1 .size ∙ sym (c .before .before .before .before .before .before .before .before .before .before .before .before .before .before .before .before .pre .1 .1 .size)
+      let over = c .before .before .before .before .before .before in as-many (in-loop over) (over .enter-node .ensures .1)
 
   node-returns-2 : node-lts.Need-returns-2 (node-callees t) (node-at t) visit-node.Post Inv-down μ-down
   node-returns-2 c =
@@ -284,7 +293,7 @@ module _ (t : ℕ) where
   inside c = c .before .before .before .before .before .before .before .before
 
   abbrev chosen-at : node-lts.After-visit-children (node-callees t) (node-at t) visit-node.Post Inv-down μ-down → node-lts.After-heaviest-run (node-callees t) (node-at t) visit-node.Post Inv-down μ-down
-  chosen-at c = c .before .before .before
+  chosen-at c = c .before .before .before .before .before
 
   heaviest-run-requires : node-lts.Need-heaviest-run-requires (node-callees t) (node-at t) visit-node.Post Inv-down μ-down
   heaviest-run-requires c κs =
@@ -293,9 +302,15 @@ module _ (t : ℕ) where
       some-query (here (in-loop over))
       (λ q path node. kids-run (entered over q path node .kids (more .if2 .left) .kids) (more .if2 .left))
 
+  sub-if3 : node-lts.Need-sub-if3 (node-callees t) (node-at t) visit-node.Post Inv-down μ-down
+  sub-if3 c = omega (arith, c .before .heaviest-run .ensures)
+
+  sub-if3-2 : node-lts.Need-sub-if3-2 (node-callees t) (node-at t) visit-node.Post Inv-down μ-down
+  sub-if3-2 c = omega (arith, c .before .heaviest-run .ensures)
+
   visit-children-requires : node-lts.Need-visit-children-requires (node-callees t) (node-at t) visit-node.Post Inv-down μ-down
   visit-children-requires c κs =
-      let chosen = c .before .before in
+      let chosen = c .before .before .before .before in
       let over = inside chosen in
       let test = in-loop over in (
         omega (arith, begun test .pre .0, test .before .loop .inv .0 .deeper),
@@ -307,11 +322,14 @@ module _ (t : ℕ) where
 
   node-same-length-5 : node-lts.Need-same-length-5 (node-callees t) (node-at t) visit-node.Post Inv-down μ-down
   node-same-length-5 c =
-      c .before .before .before .before .before .visit-children .kept .0 ∙ c .before .before .before .before .before .before .before .before .before .before .before .before .before .before .before .before .enter-node .kept .0 ∙ c .before .before .before .before .before .before .before .before .before .before .before .before .before .before .before .before .before .before .before .before .before .before .before .loop .inv .0 .size
+      let low = c .before .before .before .before .before in
+      let over = inside (chosen-at low) in
+      low .visit-children .kept .0 ∙ over .enter-node .kept .0 ∙ in-loop over .before .loop .inv .0 .size
 
   node-same-length-6 : node-lts.Need-same-length-6 (node-callees t) (node-at t) visit-node.Post Inv-down μ-down
   node-same-length-6 c =
-      c .before .before .before .before .before .visit-children .kept .1 .0 ∙ c .before .before .before .before .before .before .before .before .before .before .before .before .before .before .before .before .enter-node .kept .1 .0 ∙ c .before .before .before .before .before .before .before .before .before .before .before .before .before .before .before .before .before .before .before .before .before .before .before .loop .inv .1 .size ∙ sym (c .before .before .before .before .before .before .before .before .before .before .before .before .before .before .before .before .before .before .before .before .before .before .before .before .before .before .pre .1 .1 .size)
+      let low = c .before .before .before .before .before in
+      as-many (in-loop (inside (chosen-at low))) (low .visit-children .ensures .1)
 
   node-returns-3 : node-lts.Need-returns-3 (node-callees t) (node-at t) visit-node.Post Inv-down μ-down
   node-returns-3 c =
@@ -320,7 +338,7 @@ module _ (t : ℕ) where
       let over = inside chosen in (
         ends (in-loop over)
             (spent-below (entered over) (chosen .before .before .if2 .left) (chosen .heaviest-run .ensures)
-            (low .visit-children .ensures .0) (c .if3 .taken)),
+            (low .visit-children .ensures .0) (c .if4 .taken)),
         low .visit-children .ensures .1,
       )
 
@@ -335,18 +353,23 @@ module _ (t : ℕ) where
         (
           some-path (here test)
               (ask-above (entered over) (chosen .before .before .if2 .left) (chosen .heaviest-run .ensures)
-              (low .visit-children .ensures .0) (calm .if3 .left)),
+              (low .visit-children .ensures .0) (calm .if4 .left)),
           low .visit-children .ensures .1,
         ),
       )
 
   node-same-length-7 : node-lts.Need-same-length-7 (node-callees t) (node-at t) visit-node.Post Inv-down μ-down
   node-same-length-7 c =
-      c .before .before .before .before .before .visit-children2 .kept .0 ∙ c .before .before .before .before .before .before .before .before .before .before .before .before .before .visit-children .kept .0 ∙ c .before .before .before .before .before .before .before .before .before .before .before .before .before .before .before .before .before .before .before .before .before .before .before .before .enter-node .kept .0 ∙ c .before .before .before .before .before .before .before .before .before .before .before .before .before .before .before .before .before .before .before .before .before .before .before .before .before .before .before .before .before .before .before .loop .inv .0 .size
+      let high = c .before .before .before .before .before in
+      let low = high .before .before .before .before .before .before .before .before in
+      let over = inside (chosen-at low) in
+      high .visit-children2 .kept .0 ∙ low .visit-children .kept .0 ∙ over .enter-node .kept .0 ∙ in-loop over .before .loop .inv .0 .size
 
   node-same-length-8 : node-lts.Need-same-length-8 (node-callees t) (node-at t) visit-node.Post Inv-down μ-down
   node-same-length-8 c =
-      c .before .before .before .before .before .visit-children2 .kept .1 .0 ∙ c .before .before .before .before .before .before .before .before .before .before .before .before .before .visit-children .kept .1 .0 ∙ c .before .before .before .before .before .before .before .before .before .before .before .before .before .before .before .before .before .before .before .before .before .before .before .before .enter-node .kept .1 .0 ∙ c .before .before .before .before .before .before .before .before .before .before .before .before .before .before .before .before .before .before .before .before .before .before .before .before .before .before .before .before .before .before .before .loop .inv .1 .size ∙ sym (c .before .before .before .before .before .before .before .before .before .before .before .before .before .before .before .before .before .before .before .before .before .before .before .before .before .before .before .before .before .before .before .before .before .before .pre .1 .1 .size)
+      let high = c .before .before .before .before .before in
+      let low = high .before .before .before .before .before .before .before .before in
+      as-many (in-loop (inside (chosen-at low))) (high .visit-children2 .ensures .1)
 
   node-returns-4 : node-lts.Need-returns-4 (node-callees t) (node-at t) visit-node.Post Inv-down μ-down
   node-returns-4 c =
@@ -357,35 +380,40 @@ module _ (t : ℕ) where
       let over = inside chosen in (
         ends (in-loop over)
             (spent-above (entered over) (chosen .before .before .if2 .left) (chosen .heaviest-run .ensures)
-            (low .visit-children .ensures .0) (calm .if3 .left) (high .visit-children2 .ensures .0) (c .if4 .taken)),
+            (low .visit-children .ensures .0) (calm .if4 .left) (high .visit-children2 .ensures .0) (c .if5 .taken)),
         high .visit-children2 .ensures .1,
       )
 
   add-e : node-lts.Need-add-e (node-callees t) (node-at t) visit-node.Post Inv-down μ-down
   add-e c =
-      let node = here (c .before .before .before .before .before .before .before .before .before .before .before .before .before .before .before .before .before .before .before .before .before .before .before .before .before .before .before .before .before .before) .holds in
+      let node = here (in-loop (inside (c .before .before))) .holds in
       omega (arith, node .at .within, node .underway .shallow)
 
   node-loop-less : node-lts.Need-loop-less (node-callees t) (node-at t) visit-node.Post Inv-down μ-down
   node-loop-less c =
-      let node = here (c .before .before .before .before .before .before .before .before .before .before .before .before .before .before .before .before .before .before .before .before .before .before .before .before .before .before .before .before .before .before .before) .holds in
+      let node = here (in-loop (inside (c .before .before))) .holds in
       omega (arith, node .at .within, node .underway .limit)
 
+  -- the chosen child is left: the others were visited, or it is the only one
   node-loop-again : node-lts.Need-loop-again (node-callees t) (node-at t) visit-node.Post Inv-down μ-down
   node-loop-again c =
-      let quiet = c .before in
-      let high = quiet .before .before .before .before .before in
-      let calm = high .before .before .before in
-      let low = calm .before .before .before .before .before in
-      let chosen = chosen-at low in
+      let chosen = c .before .before in
       let over = inside chosen in
-      let test = in-loop over in (
+      let test = in-loop over in
+      ⊎-elim
+      (λ others. rw (others .18, others .19, others .20) (
         descending-step (entered over) (chosen .before .before .if2 .left) (chosen .heaviest-run .ensures)
-            (low .visit-children .ensures .0) (calm .if3 .left) (high .visit-children2 .ensures .0) (quiet .if4 .left)
+            (others .3 .ensures .0) (others .8 .left) (others .11 .ensures .0) (others .16 .left)
             (test .loop-test .taken) (test .before .loop .inv .0)
-            (high .visit-children2 .kept .0 ∙ low .visit-children .kept .0 ∙ over .enter-node .kept .0),
-        high .visit-children2 .ensures .1,
-      )
+            (others .11 .kept .0 ∙ others .3 .kept .0 ∙ over .enter-node .kept .0),
+        others .11 .ensures .1,
+      ))
+      (λ only. rw (only .1, only .2, only .3) (
+        descending-only (entered over) (chosen .before .before .if2 .left) (chosen .heaviest-run .ensures)
+            (omega (arith, only .0 .left)) (test .loop-test .taken) (test .before .loop .inv .0) (over .enter-node .kept .0),
+        over .enter-node .ensures .1,
+      ))
+      (c .if3 .came)
 
   node-same-length-9 : node-lts.Need-same-length-9 (node-callees t) (node-at t) visit-node.Post Inv-down μ-down
   node-same-length-9 c = c .before .loop .inv .0 .size
@@ -427,6 +455,8 @@ pub +visit-children+visit-node-spec : {M : Type 1} → statement M
     (node-same-length-4 t)
     (node-returns-2 t)
     (heaviest-run-requires t)
+    (sub-if3 t)
+    (sub-if3-2 t)
     (visit-children-requires t)
     (node-same-length-5 t)
     (node-same-length-6 t)
