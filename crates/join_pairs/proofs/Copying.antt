@@ -18,9 +18,10 @@ use Rattle.join_index.specs.declared.Layout.{Layout}
 use Rattle.word_lists.specs.Words.{Word}
 use Rattle.kept_rows.specs.Kept.{containedAt, RowIs}
 use Rattle.kept_rows.proofs.RowLaws.{row-moved}
-use Rattle.join_pairs.specs.Containing.{pairsWith, rowAt}
-use Rattle.join_pairs.specs.Writing.{KeptRoom, LeftRoom}
-use Rattle.join_pairs.proofs.RowPairs.{row-whole}
+use Rattle.row_pairs.specs.Containing.{pairsWith}
+use Rattle.row_pairs.specs.Writing.{KeptRoom}
+use Rattle.join_pairs.specs.Writing.{rowAt, LeftRoom}
+use Rattle.join_pairs.proofs.LeftPairs.{row-whole}
 
 module _ {lay : Layout} {q : Query} {w : List ℕ} {k at : ℕ} {was : List ℕ} (there : LeftRoom lay q w k at was) where
   -- the two words of the row are there

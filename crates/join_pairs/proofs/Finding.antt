@@ -25,12 +25,13 @@ use Rattle.join_check.specs.declared.checks.Probe.{Probe}
 use Rattle.join_check.specs.Asking.{LeftThere}
 use Rattle.join_check.specs.Probes.{Probed}
 use Rattle.join_check.proofs.Reading.{index-frame}
-use Rattle.join_pairs.specs.declared.candidates.Shortlist.{Shortlist}
+use Rattle.join_shortlists.specs.declared.candidates.Shortlist.{Shortlist}
 use Rattle.kept_rows.specs.Kept.{containedAt}
-use Rattle.join_pairs.specs.Containing.{RanksThere, pairsWith, rowAt, rowOf}
-use Rattle.join_pairs.specs.Shortlists.{FindThere, ShortlistOf, Shortlisted}
-use Rattle.join_pairs.specs.Writing.{RowRoom, LeftRoom}
-use Rattle.join_pairs.proofs.RowPairs.{row-whole, row-empty}
+use Rattle.row_pairs.specs.Containing.{pairsWith, rowOf}
+use Rattle.row_pairs.specs.Writing.{RowRoom}
+use Rattle.join_shortlists.specs.Shortlists.{RanksThere, FindThere, ShortlistOf, Shortlisted}
+use Rattle.join_pairs.specs.Writing.{rowAt, LeftRoom}
+use Rattle.join_pairs.proofs.LeftPairs.{row-whole, row-empty}
 
 rising-rest : (w : List ℕ) (from to rest : ℕ) → from ≤ rest → rising (slice from to w) ≡ true → rising (slice rest to w) ≡ true
 unfolding slice

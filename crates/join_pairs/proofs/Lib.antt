@@ -1,8 +1,5 @@
--- Laws on the pairs of a left set, and on its candidates; each function that needs a proof file has its folder beside them.
-pub mod RowPairs
-pub mod Inverted
-pub mod Meeting
-pub mod Sifting
-pub mod Passing
+-- Laws on the pairs of a left set, and on what its candidates and its kept row come to; each function that needs a proof file has
+-- its folder beside them.
+pub mod LeftPairs
 pub mod Finding
 pub mod Copying

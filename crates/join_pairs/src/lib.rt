@@ -11,8 +11,6 @@ ghost use Rattle.word_lists.specs.Flags.{Clear};
 ghost use Rattle.join_check.specs.Asking.{Some};
 ghost use Rattle.join_pairs.specs.Writing.{PairsRoom};
 
-mod candidates;
-mod left;
 mod rows;
 
 // Writes the pair list of the query whose index the work list holds. Candidates go into the slots of the work list.

@@ -1,11 +1,11 @@
 // The tests of a join before its walk, in the table's order: settings, sets of each side, work list.
 use inputs::test_sets;
 use inputs::test_work;
+use rank_tests::is_permutation;
 use sets::MAX_ITEMS;
 use sets::MAX_LIMIT;
 use sets::Refusal;
 use sets::Tested;
-use sets::is_permutation;
 ghost use mathlib.Core.Path.{_≡_};
 ghost use Rattle.inputs.specs.Input.{inputOf};
 ghost use Rattle.join_spec.specs.Answer.{badSettings, joinTests};

@@ -13,7 +13,7 @@ ghost use Rattle.first_spec.specs.First.{firstAnswer, firstWords};
 ghost use Rattle.item_order.specs.Order.{orderAnswer, orderRanks, orderWords};
 ghost use Rattle.tag_file.specs.Loading.{listsOf, loadAnswer, loadWords, LoadCall};
 ghost use Rattle.tag_pooling.specs.Pooling.{pooledAnswer, PooledCall};
-ghost use Rattle.tag_writer.specs.Writer.{writeAnswer, writtenFile, writeWords};
+ghost use Rattle.writer_spec.specs.Writer.{writeAnswer, writtenFile, writeWords};
 
 // Joins two collections.
 #[no_mangle]
@@ -214,7 +214,7 @@ pub extern "C" fn kitfinder_write(
         (listsOf (now (tags .entry)) (now («left_numbers» .entry)) (now («left_ends» .entry)) (now («left_items» .entry))
         (now («right_numbers» .entry)) (now («right_ends» .entry)) (now («right_items» .entry))) (now (file .entry)) ⌝ }
 {
-    *answer = tag_writer::write_words(tag_writer::write(
+    *answer = writer_spec::write_words(tag_writer::write(
         t,
         tags,
         left_numbers,

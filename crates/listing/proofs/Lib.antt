@@ -1,7 +1,4 @@
--- Contents: filled texts, the texts of a join, of an order and of a load, by what is promised of their calls.
+-- Contents: the text of a file by its length, and the text of a load, by what is promised of its call.
 pub mod Texts
-pub mod PairPlaces
-pub mod JoinTexts
-pub mod OrderTexts
 pub mod LoadRoom
 pub mod LoadTexts

@@ -21,8 +21,10 @@ use Rattle.tag_file.proofs.AnswerLaws.{accepted, accepts, refuses-fault, room-e
 use Rattle.tag_containment.proofs.LoadedLists.{load-counts, load-filled}
 use Rattle.text_lines.specs.Lines.{refusalLine}
 use Rattle.inputs.specs.Input.{inputOf}
-use Rattle.listing.specs.Listing.{maxFile, programSettings, joinText, recordsText}
-use Rattle.listing.specs.Inner.{textRoom, Within, cutText}
+use Rattle.join_text.specs.JoinText.{programSettings, joinText}
+use Rattle.join_text.specs.Inner.{textRoom}
+use Rattle.listing.specs.Listing.{maxFile, recordsText}
+use Rattle.listing.specs.Inner.{Within, cutText}
 use Rattle.listing.proofs.LoadRoom.{ProgramLists, fault-free, never-short}
 
 -- the text of T items and seven lists as a load fills them

@@ -1,35 +1,15 @@
--- A text that was put at the beginning of a lent list fills it; and the text of a file by its length.
+-- The text of a file by its length.
 use Prim.Native.Nat.{ℕ, _≤_, _<_}
-use mathlib.Core.Path.{_≡_, ap, subst}
+use mathlib.Core.Path.{_≡_}
 use mathlib.Core.List.{List}
-use native.Mathlib.Omega.{arith}
 use borrow.Author.Tests.{lt-ltb, le-ltb}
-use lib.ListN.{length, drop, length-append}
-use Rattle.lists.specs.Writing.{Put}
-use Rattle.lists.proofs.Writing.{written-whole}
+use lib.ListN.{length}
 use Rattle.sets.specs.Refusals.{unless}
 use Rattle.sets.specs.declared.Refusal.the-variants.{ShortWork}
 use Rattle.tag_file.specs.Records.{records}
 use Rattle.tag_file.specs.Loading.{fileFault}
 use Rattle.text_lines.specs.Lines.{refusalLine}
-use Rattle.listing.specs.Listing.{maxFile, recordsText, listing, Fills}
-
-pub put-fills : {text was : List ℕ} {r : ℕ} {is : List ℕ} → Put was 0 text r is → r ≤ length was → Fills text was r is
-put-fills put room =
-    record {
-      long = omega (arith, put .past);
-      room = room;
-      list = written-whole put (omega (arith, put .past));
-    }
-
--- the text lies within the list
-pub fills-within : {text was : List ℕ} {r : ℕ} {is : List ℕ} → Fills text was r is → r ≤ length is
-fills-within {text} {was} {r} {is} f =
-    omega (arith, f .long, ap length (f .list), length-append text (drop (length text) was))
-
--- the same text, said otherwise
-pub fills-same : {text other was : List ℕ} {r : ℕ} {is : List ℕ} → text ≡ other → Fills text was r is → Fills other was r is
-fills-same {text} {other} {was} {r} {is} e f = subst (λ (t : List ℕ). Fills t was r is) e f
+use Rattle.listing.specs.Listing.{maxFile, recordsText, listing}
 
 module _ (file : List ℕ) where
   pub listing-long : maxFile < length file → listing file ≡ refusalLine ShortWork

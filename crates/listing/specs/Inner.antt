@@ -1,19 +1,14 @@
--- Inner: what the functions of the listing ask and promise each other: numbers for each set, and room for what was loaded and
--- for its text.
-use Prim.Native.Nat.{ℕ, _+_, _*_, _/_, _≤_}
-use mathlib.Core.Path.{_≡_}
+-- Inner: what the functions of the listing ask and promise each other: room for what was loaded and for its text.
+use Prim.Native.Nat.{ℕ, _*_, _/_, _≤_}
 use mathlib.Core.List.{List}
 use lib.ListN.{length, take}
 use Rattle.sets.specs.Limits.{maxItems}
 use Rattle.inputs.specs.Input.{inputOf}
 use Rattle.tag_file.specs.Format.{tagLength}
 use Rattle.tag_file.specs.declared.Loaded.{Loaded}
-use Rattle.text_lines.specs.Room.{lineRoom, pairRoom}
-use Rattle.listing.specs.Listing.{maxFile, joinText, programSettings}
-
--- the bytes of the longest text: the counts, and a line for each of 8,192 pairs
-abbrev pub textRoom : ℕ
-textRoom = lineRoom + pairRoom * 8192
+use Rattle.join_text.specs.JoinText.{joinText, programSettings}
+use Rattle.join_text.specs.Inner.{textRoom}
+use Rattle.listing.specs.Listing.{maxFile}
 
 -- the bytes of the tag table, and the items of a side: the tags that the longest file can have
 abbrev pub tableBytes : ℕ
@@ -21,12 +16,6 @@ tableBytes = tagLength * maxItems
 
 abbrev pub sideItems : ℕ
 sideItems = maxFile / tagLength
-
--- numbers for each set of both sides, and room for the text
-pub record Numbered (leftNumbers leftEnds rightNumbers rightEnds text : List ℕ) : Type 0 where
-  pub lefts : length leftEnds ≡ length leftNumbers
-  pub rights : length rightEnds ≡ length rightNumbers
-  pub room : textRoom ≤ length text
 
 -- the counts lie within lists of numbers, ends, items and ranks, and there is room for the text
 pub record Within (loaded : Loaded) (leftNumbers leftEnds leftItems rightNumbers rightEnds rightItems ranks text : List ℕ) : Type 0 where

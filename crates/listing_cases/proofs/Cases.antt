@@ -42,7 +42,7 @@ use Rattle.tag_round_trip.proofs.Refilled.{side-unbad}
 use Rattle.tag_round_trip.proofs.FileRecords.{file-few}
 use Rattle.tag_containment.proofs.LoadedPairs.{tagsContained, sets-tags}
 use Rattle.text_lines.specs.Lines.{refusalLine, countsLine, pairLines}
-use Rattle.listing.specs.Listing.{workWords, pairPlaces, programRoom, programSettings, answerText, joinText}
+use Rattle.join_text.specs.JoinText.{workWords, pairPlaces, programRoom, programSettings, answerText, joinText}
 use Rattle.listing.specs.Listing.{recordsInput, recordsText, lengthTest, listing}
 use Rattle.listing.proofs.LoadRoom.{fault-free}
 use Rattle.listing_cases.proofs.Sizes.{recordsSize, words-records}

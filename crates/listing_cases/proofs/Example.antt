@@ -18,7 +18,8 @@ use Rattle.tag_file.specs.Reading.{readAt, tagsAt}
 use Rattle.tag_file.specs.Records.{recordsFrom, insert, insertAll, allTags, itemsOf}
 use Rattle.tag_file.specs.Loading.{fileFault, firstFault, faultOf, tooMany, endsFrom, join}
 use Rattle.text_lines.specs.Lines.{ascii, decimalFrom, decimal, refusedLine, countsLine, pairLine, pairLines}
-use Rattle.listing.specs.Listing.{joinText, listing}
+use Rattle.join_text.specs.JoinText.{joinText}
+use Rattle.listing.specs.Listing.{listing}
 
 -- a tag: eleven zero bytes and the one shown
 abbrev tag : ℕ → List ℕ

@@ -3,8 +3,6 @@
 pub mod Words
 -- the counts and the index with one more right set
 pub mod Counts
--- the tags of one set from two records
-pub mod Uniting
 -- the pass: its invariant over the records seen
 pub mod Passing
 -- a right set in the pass

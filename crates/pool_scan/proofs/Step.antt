@@ -32,8 +32,9 @@ use Rattle.right_slots.specs.Slots.{slotOf, AtSlots, slotWord, pooledMark, Numb
 use Rattle.right_slots.proofs.Counted.{slot-below}
 use Rattle.right_slots.proofs.Found.{FoundRight, found-right, missed-right}
 use Rattle.right_slots.proofs.Putting.{NumbersSmall, at-slots-put}
-use Rattle.pool_scan.specs.declared.United.{United}
-use Rattle.pool_scan.specs.Second.{RecordThere, KnownThere, UniteReady, Taking, TakenIn, unitedBy, SecondReady}
+use Rattle.pool_union.specs.declared.United.{United}
+use Rattle.pool_union.specs.Union.{RecordThere, KnownThere, UniteReady, Taking, TakenIn}
+use Rattle.pool_scan.specs.Second.{unitedBy, SecondReady}
 use Rattle.pool_scan.proofs.Counts.{OneTaken, alone-taken, met-taken}
 use Rattle.pool_scan.proofs.Passing.{Passing, this}
 use Rattle.pool_scan.proofs.Words.{word-apart, word-met, own-none, own-one, noted-tells}

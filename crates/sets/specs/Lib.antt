@@ -5,4 +5,3 @@ pub mod Ordered
 pub mod Signatures
 pub mod Refusals
 pub mod Lent
-pub mod WholeList

@@ -21,9 +21,10 @@ use Rattle.tag_file.specs.Records.{insert, insertAll, collapse}
 use Rattle.tag_file.proofs.Tables.{three-ways, memb-insert, rising-insert, length-insert, insert-known, insert-new}
 use Rattle.tag_file.proofs.Tables.{insertAll-append, insertAll-last, length-insertAll-bound, rising-collapse, memb-collapse}
 use Rattle.tag_file.proofs.RecordLaws.{length-tagsAt, tagsAt-last}
-use Rattle.tag_index.specs.Index.{indexRoom, seenWords, tagOfId, tableOf, tagValue, Sorted, Lower, Seen, NewTag, Adding}
+use Rattle.tag_words.specs.Words.{tagValue}
+use Rattle.tag_index.specs.Index.{indexRoom, seenWords, tagOfId, tableOf, Sorted, Lower, Seen, NewTag, Adding}
 use Rattle.tag_index.specs.Index.{OneMore, AllAdded}
-use Rattle.tag_index.specs.declared.Tag.{Tag}
+use Rattle.tag_words.specs.declared.Tag.{Tag}
 use Rattle.tag_index.proofs.Ids.{id-position, sorted-size, sorted-at, sorted-lower, same-id}
 use Rattle.tag_index.proofs.Ids.{last-id, listed-put, tag-other, tag-this, table-put}
 

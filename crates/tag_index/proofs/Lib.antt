@@ -1,5 +1,4 @@
 -- Laws of the tag index; each function that needs a proof file has its folder beside them.
-pub mod Words
 pub mod Search
 pub mod Ids
 pub mod Ranks

@@ -9,8 +9,8 @@ use Rattle.tag_file.specs.declared.Loaded.{Loaded}
 use Rattle.tag_file.specs.declared.LoadAnswer.{LoadAnswer}
 use Rattle.tag_file.specs.declared.LoadAnswer.the-variants as load
 use Rattle.tag_file.specs.Loading.{Lists, roomFor, LoadCall}
-use Rattle.tag_writer.specs.declared.WriteAnswer.the-variants as write
-use Rattle.tag_writer.specs.Writer.{fileBytes, WriteCall}
+use Rattle.writer_spec.specs.declared.WriteAnswer.the-variants as write
+use Rattle.writer_spec.specs.Writer.{fileBytes, WriteCall}
 use Rattle.tag_pooling.specs.Pooling.{pooledRecords, PooledCall}
 use Rattle.tag_round_trip.specs.Trips.{partsOf, Trip}
 use Rattle.tag_round_trip.proofs.RoundTrip.{fills-trip, fills-again}

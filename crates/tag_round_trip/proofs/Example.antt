@@ -10,7 +10,7 @@ use Rattle.tag_file.specs.Format.{valueFrom, bytesOf, tagBytes}
 use Rattle.tag_file.specs.Reading.{readAt, tagsAt}
 use Rattle.tag_file.specs.Records.{records, recordsFrom, insert, insertAll, allTags, itemsOf}
 use Rattle.tag_file.specs.Loading.{filled, fileFault, firstFault, faultOf, tooMany, endsFrom, join}
-use Rattle.tag_writer.specs.Writer.{recordsOf, fileBytes}
+use Rattle.writer_spec.specs.Writer.{recordsOf, fileBytes}
 
 -- a tag: eleven zero bytes and the one shown
 tag : ℕ → List ℕ

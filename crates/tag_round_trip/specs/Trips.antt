@@ -7,11 +7,11 @@ use mathlib.Core.Bool.{true}
 use lib.ListN.{length, take}
 use Rattle.tag_file.specs.declared.Loaded.{Loaded}
 use Rattle.tag_file.specs.declared.LoadAnswer.the-variants as load
-use Rattle.tag_writer.specs.declared.WriteAnswer.the-variants as write
+use Rattle.writer_spec.specs.declared.WriteAnswer.the-variants as write
 use Rattle.tag_file.specs.Format.{tagLength}
 use Rattle.tag_file.specs.Records.{TagRecord}
 use Rattle.tag_file.specs.Loading.{Lists, filled, totalsOf, roomFor, loadAnswer, listsAfter}
-use Rattle.tag_writer.specs.Writer.{fileBytes, writeAnswer, writtenFile}
+use Rattle.writer_spec.specs.Writer.{fileBytes, writeAnswer, writtenFile}
 
 -- the parts of seven lists that a load with these counts filled
 abbrev pub partsOf : Loaded → Lists → Lists

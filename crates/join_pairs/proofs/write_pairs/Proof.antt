@@ -16,10 +16,9 @@ use Rattle.join_index.specs.declared.Layout.{Layout}
 use Rattle.word_lists.specs.Flags.{Clear}
 use Rattle.join_check.proofs.Reading.{index-frame}
 use Rattle.kept_rows.proofs.RowLaws.{rows-framed}
-use Rattle.join_pairs.specs.Containing.{rowAt}
-use Rattle.join_pairs.specs.Writing.{LeftRoom, LeftWritten, PairsRoom}
-use Rattle.join_pairs.proofs.Meeting.{changed-then}
-use Rattle.join_pairs.proofs.RowPairs.{pairs-next, pairs-none}
+use Rattle.join_pairs.specs.Writing.{rowAt, LeftRoom, LeftWritten, PairsRoom}
+use Rattle.join_shortlists.proofs.Meeting.{changed-then}
+use Rattle.join_pairs.proofs.LeftPairs.{pairs-next, pairs-none}
 use Rattle.join_pairs.proofs.write_pairs.Statement.{statement}
 use Rattle.join_pairs.proofs.write_pairs.Tie as tie
 

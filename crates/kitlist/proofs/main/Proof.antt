@@ -1,7 +1,7 @@
 -- `kitlist::main` is safe: the text lies within its list.
 use mathlib.Core.Path.{sym}
 use lib.Seq.{length-take-le}
-use Rattle.listing.proofs.Texts.{fills-within}
+use Rattle.join_text.proofs.Texts.{fills-within}
 use borrow.Author.Needs.{needs}
 use Rattle.kitlist.proofs.main.Statement.{statement}
 use Rattle.kitlist.proofs.main.Tie as tie

@@ -1,7 +1,8 @@
 -- `listing::list_file` meets its contract: a file that is too long, and one that is not.
 use mathlib.Core.Path.{sym}
 use native.Mathlib.Omega.{arith}
-use Rattle.listing.proofs.Texts.{put-fills, fills-same, listing-long, listing-short}
+use Rattle.join_text.proofs.Texts.{put-fills, fills-same}
+use Rattle.listing.proofs.Texts.{listing-long, listing-short}
 use borrow.Author.Needs.{needs}
 use Rattle.listing.proofs.list_file.Statement.{statement}
 use Rattle.listing.proofs.list_file.Tie as tie

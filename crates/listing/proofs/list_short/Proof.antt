@@ -2,7 +2,7 @@
 -- is refused for a record at fault alone.
 use native.Mathlib.Omega.{arith}
 use Rattle.tag_file.specs.Loading.{Lists, listsOf}
-use Rattle.listing.proofs.Texts.{put-fills, fills-same}
+use Rattle.join_text.proofs.Texts.{put-fills, fills-same}
 use Rattle.listing.proofs.LoadRoom.{ProgramLists}
 use Rattle.listing.proofs.LoadTexts.{loaded-text, loaded-within, refused-load}
 use borrow.Author.Needs.{needs}

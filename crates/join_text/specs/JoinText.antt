@@ -1,0 +1,53 @@
+-- The text that the program kitlist prints for a join of two numbered collections: how it joins, and its lines. Document 01, "The
+-- program kitlist". Kits are left sets here and stacks right sets. Its lines are defined in `text_lines`; the rank table and the
+-- join's answer are those of the operations.
+use Prim.Native.Nat.{ℕ, _*_, _-_, _≤_}
+use mathlib.Core.Path.{_≡_}
+use mathlib.Core.List.{List, _++_}
+use mathlib.Core.Bool.{false}
+use lib.ListN.{length}
+use Rattle.sets.specs.Limits.{fullWords}
+use Rattle.sets.specs.Lent.{filledOver}
+use Rattle.inputs.specs.Input.{Input, leftSets, rightSets}
+use Rattle.item_order.specs.Order.{rankTable}
+use Rattle.join_spec.specs.declared.JoinAnswer.{JoinAnswer}
+use Rattle.join_spec.specs.declared.JoinAnswer.the-variants.{Joined, Refused}
+use Rattle.join_spec.specs.declared.Rule.the-variants.{Merge}
+use Rattle.join_spec.specs.PairList.{pairList}
+use Rattle.join_spec.specs.Query.{Settings, settingsOf}
+use Rattle.join_spec.specs.Answer.{Room, joinAnswer}
+use Rattle.text_lines.specs.Lines.{refusalLine, countsLine, pairLines}
+
+-- the words of the work list, and the places of the pair list: two for each of 8,192 pairs
+abbrev pub workWords : ℕ
+workWords = 16384
+
+abbrev pub pairPlaces : ℕ
+pairPlaces = 2 * 8192
+
+abbrev pub programRoom : Room
+programRoom = record { words = workWords; places = pairPlaces }
+
+-- how it joins under a rank table: limit 2, the greatest allowance, Merge
+abbrev pub settingsUnder : List ℕ → Settings
+settingsUnder ranks = settingsOf 2 ranks (fullWords - 1) Merge
+
+-- the same with ranks by rising frequency
+abbrev pub programSettings : Input → Settings
+programSettings i = settingsUnder (rankTable false (i .T) (leftSets i) (rightSets i))
+
+-- the text of a join's answer: the counts and a line for each pair, by the numbers of its records; or the refusal
+abbrev pub answerText : List ℕ → List ℕ → List ℕ → JoinAnswer → List ℕ
+answerText leftNumbers rightNumbers pairs (Joined counts) = countsLine counts ++ pairLines leftNumbers rightNumbers pairs
+answerText leftNumbers rightNumbers pairs (Refused why) = refusalLine why
+
+-- the text of a join of two numbered collections
+unfoldable pub joinText : List ℕ → List ℕ → Input → Settings → List ℕ
+joinText leftNumbers rightNumbers i s =
+    answerText leftNumbers rightNumbers (pairList (leftSets i) (rightSets i)) (joinAnswer i s programRoom)
+
+-- a text fills a lent list from its beginning, which is as before beyond; r is the text's length, and the list holds it
+pub record Fills (text was : List ℕ) (r : ℕ) (is : List ℕ) : Type 0 where
+  pub long : r ≡ length text
+  pub room : r ≤ length was
+  pub list : is ≡ filledOver text was

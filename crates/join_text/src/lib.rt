@@ -1,0 +1,122 @@
+// The text of a join of two numbered collections, written into a lent list of bytes: orders their items by rising frequency, joins
+// them, and writes the counts and a line for each pair, or why there is no list. What the text is is defined in specs/.
+use item_order::OrderAnswer;
+use join_spec::JoinAnswer;
+use join_spec::Rule;
+use text_lines::put_counts;
+use text_lines::put_pairs;
+use text_lines::put_refusal;
+ghost use mathlib.Core.Path.{_≡_};
+ghost use lib.ListN.{length};
+ghost use Rattle.inputs.specs.Input.{inputOf};
+ghost use Rattle.join_text.specs.JoinText.{workWords, pairPlaces, settingsUnder, programSettings, joinText, Fills};
+ghost use Rattle.join_text.specs.Inner.{Numbered};
+
+// The most pairs that are listed.
+pub const MAX_PAIRS: usize = 8192;
+// The depth limit and the budget of the join.
+const LIMIT: u32 = 2;
+
+const BUDGET: u32 = 0xFFFFFFFF;
+// The words of the work list, and the places of the pair list, two a pair.
+const WORDS: usize = 16384;
+
+const PLACES: usize = 2 * MAX_PAIRS;
+
+fn new_work() -> [u32; WORDS]
+    ensures { λ r. ⌜ workWords ≡ length r ⌝ }
+{
+    [0; WORDS]
+}
+
+fn new_pairs() -> [u16; PLACES]
+    ensures { λ r. ⌜ pairPlaces ≡ length r ⌝ }
+{
+    [0; PLACES]
+}
+
+// The text of a join of ordered collections.
+fn list_ordered(
+    t: u32,
+    left_numbers: &[u16],
+    left_ends: &[u32],
+    left_items: &[u16],
+    right_numbers: &[u16],
+    right_ends: &[u32],
+    right_items: &[u16],
+    ranks: &[u16],
+    text: &mut [u8],
+) -> usize
+    requires { ⌜ Numbered (now «left_numbers») (now «left_ends») (now «right_numbers») (now «right_ends») (now text) ⌝ }
+    ensures { λ r. ⌜ Fills (joinText (now («left_numbers» .entry)) (now («right_numbers» .entry))
+        (inputOf t (now («left_ends» .entry)) (now («left_items» .entry)) (now («right_ends» .entry)) (now («right_items» .entry)))
+        (settingsUnder (now (ranks .entry)))) (now (text .entry)) r (now (text .exit)) ⌝ }
+{
+    let mut work = new_work();
+    let mut pairs = new_pairs();
+    let answer = join::run(
+        t,
+        left_ends,
+        left_items,
+        right_ends,
+        right_items,
+        LIMIT,
+        ranks,
+        BUDGET,
+        Rule::Merge,
+        &mut work,
+        &mut pairs,
+    );
+    match answer {
+        JoinAnswer::Joined(counts) => {
+            let n = put_counts(text, counts);
+            let places = 2 * (counts.pairs as usize);
+            put_pairs(text, n, &pairs[..places], left_numbers, right_numbers)
+        }
+        JoinAnswer::Refused(why) => put_refusal(text, why),
+    }
+}
+
+// The text of a join of collections: their items are ordered by rising frequency first.
+pub fn list_loaded(
+    t: u32,
+    left_numbers: &[u16],
+    left_ends: &[u32],
+    left_items: &[u16],
+    right_numbers: &[u16],
+    right_ends: &[u32],
+    right_items: &[u16],
+    ranks: &mut [u16],
+    text: &mut [u8],
+) -> usize
+    requires { ⌜ Numbered (now «left_numbers») (now «left_ends») (now «right_numbers») (now «right_ends») (now text) ⌝ }
+    requires { ⌜ length (now ranks) ≡ t ⌝ }
+    ensures { λ r. ⌜ Fills (joinText (now («left_numbers» .entry)) (now («right_numbers» .entry))
+        (inputOf t (now («left_ends» .entry)) (now («left_items» .entry)) (now («right_ends» .entry)) (now («right_items» .entry)))
+        (programSettings (inputOf t (now («left_ends» .entry)) (now («left_items» .entry))
+        (now («right_ends» .entry)) (now («right_items» .entry))))) (now (text .entry)) r (now (text .exit)) ⌝ }
+{
+    let answer = item_order::order(
+        t,
+        left_ends,
+        left_items,
+        right_ends,
+        right_items,
+        false,
+        ranks,
+    );
+    match answer {
+        OrderAnswer::Ordered => list_ordered(
+            t,
+            left_numbers,
+            left_ends,
+            left_items,
+            right_numbers,
+            right_ends,
+            right_items,
+            ranks,
+            text,
+        ),
+        OrderAnswer::Refused(why) => put_refusal(text, why),
+    }
+}

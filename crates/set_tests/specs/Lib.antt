@@ -1,0 +1,2 @@
+-- Contents: what the functions of this crate promise each other.
+pub mod WholeList

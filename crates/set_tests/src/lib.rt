@@ -1,0 +1,129 @@
+// The test of a collection: its first bad set, told from the whole list where there is none. And the test of the items of one set.
+use list_falls::count_border_falls;
+use list_falls::count_falls;
+use list_falls::count_high;
+use list_falls::good_ends;
+use sets::MAX_ENTRIES;
+use sets::MAX_ITEMS;
+use sets::MAX_SET_LENGTH;
+use sets::MAX_SETS;
+use sets::Verdict;
+use sets::count_entries;
+ghost use mathlib.Core.Path.{_≡_};
+ghost use mathlib.Core.Bool.{_&&_};
+ghost use Prim.Native.Nat.{_≤_};
+ghost use lib.Dec.{leb, ltb};
+ghost use lib.ListN.{length};
+ghost use Rattle.lists.specs.Lists.{all, rising};
+ghost use Rattle.sets.specs.Limits.{maxItems};
+ghost use Rattle.sets.specs.Collections.{between, goodItems, goodEnd, firstBad};
+ghost use Rattle.set_tests.specs.WholeList.{isGood};
+
+// Whether the items of a part are below t and strictly rise: `least` is the least that the next may be.
+fn rises_below(t: u32, start: usize, end: usize, items: &[u16]) -> bool
+    requires { ⌜ end ≤ length (now items) ⌝ }
+    ensures { λ r. ⌜ r ≡ (all (λ i. ltb i t) (between start end (now (items .entry)))
+        && rising (between start end (now (items .entry)))) ⌝ }
+{
+    let mut i = start;
+    let mut least: u32 = 0;
+    while i < end {
+        let x = items[i] as u32;
+        if x < least {
+            return false;
+        }
+        if t <= x {
+            return false;
+        }
+        least = x + 1;
+        i += 1;
+    }
+    true
+}
+
+// Whether the items of a part can be those of a set: not too many, each below t, strictly rising.
+pub fn good_items(t: u32, start: usize, end: usize, items: &[u16]) -> bool
+    requires { ⌜ (start ≤ end) × (end ≤ length (now items)) ⌝ }
+    ensures { λ r. ⌜ r ≡ goodItems t (between start end (now (items .entry))) ⌝ }
+{
+    if MAX_SET_LENGTH < end - start {
+        return false;
+    }
+    rises_below(t, start, end, items)
+}
+
+// Whether a set is in order, given the end before it and its own.
+fn good_set(t: u32, start: usize, end: usize, items: &[u16]) -> bool
+    ensures { λ r. ⌜ r ≡ (goodEnd start end (now (items .entry)) && goodItems t (between start end (now (items .entry)))) ⌝ }
+{
+    if end < start {
+        return false;
+    }
+    if MAX_ENTRIES < end {
+        return false;
+    }
+    if items.len() < end {
+        return false;
+    }
+    good_items(t, start, end, items)
+}
+
+// The first bad set of a collection, looked for set by set.
+fn find_bad(t: u32, ends: &[u32], items: &[u16]) -> Verdict
+    ensures { λ r. ⌜ r ≡ firstBad t (now (ends .entry)) (now (items .entry)) ⌝ }
+{
+    let mut k: usize = 0;
+    let mut start: usize = 0;
+    while k < ends.len() {
+        let end = ends[k] as usize;
+        if MAX_SETS <= k {
+            return Verdict::Bad(k);
+        }
+        if !good_set(t, start, end, items) {
+            return Verdict::Bad(k);
+        }
+        start = end;
+        k += 1;
+    }
+    Verdict::Good
+}
+
+// Whether t is within its limit and no set is bad, told from the whole list: a fall that is not at a border is one inside a set.
+fn all_good(t: u32, ends: &[u32], items: &[u16]) -> bool
+    ensures { λ r. ⌜ r ≡ (leb t maxItems && isGood (firstBad t (now (ends .entry)) (now (items .entry)))) ⌝ }
+{
+    if MAX_ITEMS < t {
+        return false;
+    }
+    if MAX_SETS < ends.len() {
+        return false;
+    }
+    if !good_ends(MAX_SET_LENGTH, ends) {
+        return false;
+    }
+    let n = count_entries(ends);
+    if MAX_ENTRIES < n {
+        return false;
+    }
+    if items.len() < n {
+        return false;
+    }
+    let high = count_high(t as u16, n, items);
+    if high != 0 {
+        return false;
+    }
+    let borders = count_border_falls(n, ends, items);
+    let all = count_falls(n, items);
+    all == borders
+}
+
+// The first bad set of a collection. Sets are looked at one by one only where the whole list shows that there is one, or t is
+// above its limit.
+pub fn first_bad(t: u32, ends: &[u32], items: &[u16]) -> Verdict
+    ensures { λ r. ⌜ r ≡ firstBad t (now (ends .entry)) (now (items .entry)) ⌝ }
+{
+    if all_good(t, ends, items) {
+        return Verdict::Good;
+    }
+    find_bad(t, ends, items)
+}

@@ -1,0 +1,2 @@
+-- Contents: a tag as two numbers.
+pub mod Words
