@@ -1,24 +1,24 @@
--- Distinct numbers below T, tested in one pass with a mark for each number that was met: a number is fresh if it is below T and
--- not marked, and is marked then.
+-- Distinct numbers, told in one pass with a mark for each number that was met: a number is fresh if it is not marked, and is marked
+-- then.
 use mathlib.Core.Path.{_≡_, refl, sym, _∙_, subst⁻¹}
 use mathlib.Core.List.{List, [], _∷_}
-use mathlib.Core.Bool.{Bool, true, false, not, _&&_, _||_, and-true}
-use Prim.Native.Nat.{ℕ, suc, _+_, _<_, _≤_, min}
+use mathlib.Core.Bool.{Bool, true, false, not, _&&_, _||_, and-true, and-assoc}
+use Prim.Native.Nat.{ℕ, suc, _+_, _<_, _≤_}
 use native.Mathlib.Numerals.{add-one}
-use native.Mathlib.Nat.{le-trans}
 use native.Mathlib.Omega.{arith}
-use borrow.Author.Tests.{ltb-true, ltb-false, lt-ltb, le-ltb, eqb-true, eqb-false, eq-eqb, ne-eqb}
+use borrow.Author.Tests.{ltb-true, eqb-true, eqb-false, eq-eqb}
+use lib.Bits.{bitOr, or-add-and, and-le-l, and-le-r}
 use lib.Dec.{ltb, eqb}
-use lib.ListN.{length, getD, set, drop, replicate, length-set, drop-of-length-le, List·getD-eq-default}
+use lib.ListN.{length, getD, set, drop, replicate, length-set, drop-of-length-le}
 use lib.Seq.{getD-set-same, getD-set-other, drop-cons}
 use Rattle.lists.specs.Lists.{all, distinct, memb}
-use Rattle.lists.proofs.Bools.{by-test}
+use Rattle.lists.proofs.Bools.{by-test, and-left, and-right, and-both, same-test}
 use Rattle.lists.proofs.Zeros.{getD-zeros}
 
--- whether the numbers are below T, none marked before and no two alike
-unfoldable pub freshIn : ℕ → List ℕ → List ℕ → Bool
-freshIn T seen [] = true
-freshIn T seen (x ∷ xs) = (ltb x T && eqb (getD seen x 0) 0) && freshIn T (set seen x 1) xs
+-- whether the numbers are unmarked and no two alike
+unfoldable pub freshIn : List ℕ → List ℕ → Bool
+freshIn seen [] = true
+freshIn seen (x ∷ xs) = eqb (getD seen x 0) 0 && freshIn (set seen x 1) xs
 
 -- a number is unmarked after x was marked where it is not x and was unmarked before
 unmarked : (seen : List ℕ) (x y : ℕ) → x < length seen
@@ -44,70 +44,62 @@ all-unmarked seen x (y ∷ ys) inside =
     rw (unmarked seen x y inside, all-unmarked seen x ys inside)
     (swap (eqb x y) (eqb (getD seen y 0) 0) (memb x ys) (all (λ y. eqb (getD seen y 0) 0) ys))
 
--- the pass decides what is asked, where each number below T that can occur has a mark
-regroup : (u a m d v : Bool) → (u && (a && (d && (m && v)))) ≡ (a && ((m && d) && (u && v)))
-regroup true false m d v = refl
-regroup false false m d v = refl
-regroup true true true d v = refl
-regroup true true false true v = refl
-regroup true true false false v = refl
-regroup false true true true v = refl
-regroup false true true false v = refl
-regroup false true false d v = refl
+-- the pass decides what is asked, where each number has a mark
+regroup : (u m d v : Bool) → (u && (d && (m && v))) ≡ ((m && d) && (u && v))
+regroup true true d v = refl
+regroup true false true v = refl
+regroup true false false v = refl
+regroup false true true v = refl
+regroup false true false v = refl
+regroup false false d v = refl
 
-pub fresh-all : (T bound : ℕ) (seen xs : List ℕ) → min T bound ≤ length seen → ((i : ℕ) → getD xs i 0 < bound)
-    → freshIn T seen xs ≡ (all (λ x. ltb x T) xs && (distinct xs && all (λ x. eqb (getD seen x 0) 0) xs))
+fresh-all : (seen xs : List ℕ) → all (λ x. ltb x (length seen)) xs ≡ true
+    → freshIn seen xs ≡ (distinct xs && all (λ x. eqb (getD seen x 0) 0) xs)
 unfolding freshIn all distinct
-fresh-all T bound seen [] room small = refl
-fresh-all T bound seen (x ∷ xs) room small =
-    let first : x < bound = small 0 in
-    by-test (ltb x T)
-    (λ e.
-    let below : x < T = ltb-true x T e in
-    let inside : x < length seen = omega arith in
-    let room-after : min T bound ≤ length (set seen x 1) = rw (length-set seen x 1) room in
-    rw (e, fresh-all T bound (set seen x 1) xs room-after (λ i. small (suc i)), all-unmarked seen x xs inside)
-    (regroup (eqb (getD seen x 0) 0) (all (λ x. ltb x T) xs) (not (memb x xs)) (distinct xs)
-    (all (λ x. eqb (getD seen x 0) 0) xs)))
-    (λ e. rw e)
+fresh-all seen [] room = refl
+fresh-all seen (x ∷ xs) room =
+    let inside : x < length seen = ltb-true x (length seen) (and-left (ltb x (length seen)) (all (λ y. ltb y (length seen)) xs) room) in
+    let room-after : all (λ y. ltb y (length (set seen x 1))) xs ≡ true = rw (length-set seen x 1) (and-right (ltb x (length seen)) (all (λ y. ltb y (length seen)) xs) room) in
+    rw (fresh-all (set seen x 1) xs room-after, all-unmarked seen x xs inside)
+    (regroup (eqb (getD seen x 0) 0) (not (memb x xs)) (distinct xs) (all (λ x. eqb (getD seen x 0) 0) xs))
 
 all-zeros : (n : ℕ) (xs : List ℕ) → all (λ x. eqb (getD (replicate n 0) x 0) 0) xs ≡ true
 unfolding all
 all-zeros n [] = refl
 all-zeros n (x ∷ xs) = rw (all-zeros n xs, getD-zeros n x)
 
-pub fresh-start : (T bound : ℕ) (seen xs : List ℕ) → seen ≡ replicate (length seen) 0 → min T bound ≤ length seen
-    → ((i : ℕ) → getD xs i 0 < bound) → freshIn T seen xs ≡ (all (λ x. ltb x T) xs && distinct xs)
-fresh-start T bound seen xs clear room small =
+pub fresh-start : (seen xs : List ℕ) → seen ≡ replicate (length seen) 0 → all (λ x. ltb x (length seen)) xs ≡ true
+    → freshIn seen xs ≡ distinct xs
+fresh-start seen xs clear room =
     let unmarked-all : all (λ x. eqb (getD seen x 0) 0) xs ≡ true =
     subst⁻¹ (λ (l : List ℕ). all (λ x. eqb (getD l x 0) 0) xs ≡ true) clear (all-zeros (length seen) xs)
     in
-    fresh-all T bound seen xs room small ∙ rw (unmarked-all, and-true (distinct xs))
+    fresh-all seen xs room ∙ rw (unmarked-all, and-true (distinct xs))
 
--- a bound on the numbers of a list, once all its places were read
-pub small-all : (bound i : ℕ) (xs : List ℕ) → 0 < bound → length xs ≤ i → ((j : ℕ) → j < i → getD xs j 0 < bound)
-    → (j : ℕ) → getD xs j 0 < bound
-small-all bound i xs some past known j =
-    by-test (ltb j i) (λ e. known j (ltb-true j i e))
-    (λ e. rw (List·getD-eq-default xs 0 {n = j} (le-trans past (ltb-false j i e))) some)
+-- what was met twice so far is kept as the marks that were read, put together: none was where this is 0
+none-again : (a b : ℕ) → eqb (bitOr a b) 0 ≡ (eqb a 0 && eqb b 0)
+none-again a b =
+    same-test (eqb (bitOr a b) 0) (eqb a 0 && eqb b 0)
+    (λ e.
+    let none : bitOr a b ≡ 0 = eqb-true (bitOr a b) 0 e in
+    and-both
+    (eq-eqb a 0 (omega (arith, none, or-add-and a b, and-le-r a b)))
+    (eq-eqb b 0 (omega (arith, none, or-add-and a b, and-le-l a b))))
+    (λ e.
+    let first : a ≡ 0 = eqb-true a 0 (and-left (eqb a 0) (eqb b 0) e) in
+    let second : b ≡ 0 = eqb-true b 0 (and-right (eqb a 0) (eqb b 0) e) in
+    eq-eqb (bitOr a b) 0 (omega (arith, first, second, or-add-and a b)))
 
--- the pass from place i on
-module _ (T i : ℕ) (seen xs : List ℕ) where
-  pub fresh-high : i < length xs → T ≤ getD xs i 0 → freshIn T seen (drop i xs) ≡ false
+-- the pass from place i on, with what was met twice before it
+module _ (i : ℕ) (seen xs : List ℕ) (again : ℕ) where
+  pub fresh-next : i < length xs
+      → (eqb (bitOr again (getD seen (getD xs i 0) 0)) 0 && freshIn (set seen (getD xs i 0) 1) (drop (i + 1) xs))
+      ≡ (eqb again 0 && freshIn seen (drop i xs))
   unfolding freshIn
-  fresh-high below high = rw (drop-cons xs i 0 below, le-ltb (getD xs i 0) T high)
+  fresh-next below =
+      rw (drop-cons xs i 0 below, add-one i, none-again again (getD seen (getD xs i 0) 0))
+      (and-assoc (eqb again 0) (eqb (getD seen (getD xs i 0) 0) 0) (freshIn (set seen (getD xs i 0) 1) (drop (suc i) xs)))
 
-  pub fresh-marked : i < length xs → getD xs i 0 < T → (getD seen (getD xs i 0) 0 ≡ 0 → ⊥) → freshIn T seen (drop i xs) ≡ false
+  pub fresh-end : length xs ≤ i → (eqb again 0 && freshIn seen (drop i xs)) ≡ eqb again 0
   unfolding freshIn
-  fresh-marked below low marked =
-      rw (drop-cons xs i 0 below, lt-ltb (getD xs i 0) T low, ne-eqb (getD seen (getD xs i 0) 0) 0 marked)
-
-  pub fresh-next : i < length xs → getD xs i 0 < T → getD seen (getD xs i 0) 0 ≡ 0
-      → freshIn T seen (drop i xs) ≡ freshIn T (set seen (getD xs i 0) 1) (drop (i + 1) xs)
-  unfolding freshIn
-  fresh-next below low clear =
-      rw (drop-cons xs i 0 below, lt-ltb (getD xs i 0) T low, eq-eqb (getD seen (getD xs i 0) 0) 0 clear, add-one i)
-
-  pub fresh-end : length xs ≤ i → freshIn T seen (drop i xs) ≡ true
-  unfolding freshIn
-  fresh-end past = rw (drop-of-length-le xs {i = i} past)
+  fresh-end past = rw (drop-of-length-le xs {i = i} past, and-true (eqb again 0))

@@ -1,46 +1,41 @@
-// The test of a rank table: whether it is a permutation.
-use sets::MAX_ITEMS;
+// The test of a rank table: whether it is a permutation. As with the sets' items, no branch depends on a rank, so that a good table,
+// the usual one, is gone through at the pace of its reads.
+use list_falls::count_high;
 ghost use mathlib.Core.Path.{_≡_};
-ghost use mathlib.Core.Bool.{_&&_};
-ghost use Prim.Native.Nat.{_≤_, min};
+ghost use mathlib.Core.Bool.{true};
+ghost use Prim.Native.Nat.{_≤_};
 ghost use lib.Dec.{ltb};
 ghost use lib.ListN.{length, replicate};
 ghost use Rattle.lists.specs.Lists.{all, distinct};
-ghost use Rattle.sets.specs.Limits.{halfWords};
+ghost use Rattle.sets.specs.Limits.{maxItems};
 ghost use Rattle.sets.specs.Ordered.{isPermutation};
 
-// Whether the ranks are below t, no two alike. `seen` has a place for each rank that can occur, none marked yet.
-fn distinct_below(t: u32, ranks: &[u16], seen: &mut [u8]) -> bool
-    requires { ⌜ now seen ≡ replicate (length (now seen)) 0 ⌝ ∗ ⌜ min t halfWords ≤ length (now seen) ⌝ }
-    ensures { λ r. ⌜ r ≡ (all (λ x. ltb x t) (now (ranks .entry)) && distinct (now (ranks .entry))) ⌝ }
+// Whether no two ranks are alike. `seen` has a place for each of them, none marked yet.
+fn all_distinct(ranks: &[u16], seen: &mut [u8]) -> bool
+    requires clear { ⌜ now seen ≡ replicate (length (now seen)) 0 ⌝ }
+    requires room { ⌜ all (λ x. ltb x (length (now seen))) (now ranks) ≡ true ⌝ }
+    ensures { λ r. ⌜ r ≡ distinct (now (ranks .entry)) ⌝ }
 {
-    let top = t as usize;
-    let mut i: usize = 0;
-    while i < ranks.len() {
+    let mut again: u8 = 0;
+    for i in 0..ranks.len() {
         let x = ranks[i] as usize;
-        if top <= x {
-            return false;
-        }
-        if seen[x] != 0 {
-            return false;
-        }
+        again = again | seen[x];
         seen[x] = 1;
-        i += 1;
     }
-    true
+    again == 0
 }
 
-// Whether a rank table is a permutation of 0 .. t-1. A small table pays for few marks only.
+// Whether a rank table is a permutation of 0 .. t-1.
 pub fn is_permutation(t: u32, ranks: &[u16]) -> bool
+    requires { ⌜ t ≤ maxItems ⌝ }
     ensures { λ r. ⌜ r ≡ isPermutation t (now (ranks .entry)) ⌝ }
 {
     if ranks.len() != t as usize {
         return false;
     }
-    if t <= MAX_ITEMS {
-        let mut few = [0u8; 4096];
-        return distinct_below(t, ranks, &mut few);
+    if count_high(t as u16, ranks.len(), ranks) != 0 {
+        return false;
     }
-    let mut many = [0u8; 65536];
-    distinct_below(t, ranks, &mut many)
+    let mut seen = [0u8; 4096];
+    all_distinct(ranks, &mut seen)
 }
