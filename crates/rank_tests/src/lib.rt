@@ -25,7 +25,7 @@ fn all_distinct(ranks: &[u16], seen: &mut [u8]) -> bool
     again == 0
 }
 
-// Whether a rank table is a permutation of 0 .. t-1.
+// Whether a rank table is a permutation of 0 .. t-1. A small table pays for few marks only.
 pub fn is_permutation(t: u32, ranks: &[u16]) -> bool
     requires { ⌜ t ≤ maxItems ⌝ }
     ensures { λ r. ⌜ r ≡ isPermutation t (now (ranks .entry)) ⌝ }
@@ -35,6 +35,10 @@ pub fn is_permutation(t: u32, ranks: &[u16]) -> bool
     }
     if count_high(t as u16, ranks.len(), ranks) != 0 {
         return false;
+    }
+    if t <= 512 {
+        let mut few = [0u8; 512];
+        return all_distinct(ranks, &mut few);
     }
     let mut seen = [0u8; 4096];
     all_distinct(ranks, &mut seen)

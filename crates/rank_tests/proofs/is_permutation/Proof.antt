@@ -1,7 +1,7 @@
 -- `rank_tests::is_permutation` meets its contract: the length, then that no rank is too high, then the pass with a table of marks.
 use mathlib.Core.Path.{_≡_, sym, ap, _∙_}
 use mathlib.Core.List.{List}
-use mathlib.Core.Bool.{true, false}
+use mathlib.Core.Bool.{Bool, true, false}
 use Prim.Native.Nat.{ℕ, _≤_}
 use native.Mathlib.Omega.{arith}
 use borrow.Author.Needs.{needs}
@@ -9,7 +9,7 @@ use borrow.Author.Tests.{eq-eqb, ne-eqb, ltb-true, lt-ltb}
 use lib.Dec.{eqb, leb, ltb}
 use lib.ListN.{length, replicate, length-replicate}
 use lib.Seq.{take-length}
-use Rattle.lists.specs.Lists.{all, count, slice}
+use Rattle.lists.specs.Lists.{all, count, distinct, slice}
 use Rattle.lists.proofs.Throughout.{all-weaken}
 use Rattle.list_falls.proofs.Passes.{high-none}
 use Rattle.sets.specs.Limits.{maxItems}
@@ -60,19 +60,37 @@ below c =
     ∙ eq-eqb (count (leb (a .t)) (slice 0 (length (a .ranks .now)) (a .ranks .now))) 0
     (sym (c .before .count-high .ensures) ∙ c .if2 .left)
 
+-- where they are, the pass over them decides the rest
+decided : (c : tie.Else2) (r : Bool)
+    → let a = c .before .before .before .before .args in r ≡ distinct (a .ranks .now) → r ≡ isPermutation (a .t) (a .ranks .now)
+unfolding isPermutation
+decided c r is =
+    let a = c .before .before .before .before .args in
+    rw (eq-eqb (length (a .ranks .now)) (a .t) (omega arith), below c) is
+
 slice-aggregate-all-distinct : tie.Need-slice-aggregate-all-distinct
 slice-aggregate-all-distinct c = search needs
 
 all-distinct-requires : tie.Need-all-distinct-requires
 all-distinct-requires c κs =
-    let a = c .before .before .before .before .before .args in
-    (clear maxItems, room (a .t) maxItems (a .ranks .now) (omega arith) (below (c .before)))
+    let few = c .before .before in
+    let a = few .before .before .before .before .args in
+    (clear 512, room (a .t) 512 (a .ranks .now) (omega arith) (below few))
 
 returns-3 : tie.Need-returns-3
-unfolding isPermutation
-returns-3 c =
-    let a = c .before .before .before .before .before .before .before .args in
-    rw (eq-eqb (length (a .ranks .now)) (a .t) (omega arith), below (c .before .before .before)) (c .before .all-distinct .ensures)
+returns-3 c = decided (c .before .before .before .before) (c .before .all-distinct .result) (c .before .all-distinct .ensures)
+
+slice-aggregate-all-distinct-2 : tie.Need-slice-aggregate-all-distinct-2
+slice-aggregate-all-distinct-2 c = search needs
+
+all-distinct-requires-2 : tie.Need-all-distinct-requires-2
+all-distinct-requires-2 c κs =
+    let few = c .before .before in
+    let a = few .before .before .before .before .args in
+    (clear maxItems, room (a .t) maxItems (a .ranks .now) (omega arith) (below few))
+
+returns-4 : tie.Need-returns-4
+returns-4 c = decided (c .before .before .before .before) (c .before .all-distinct2 .result) (c .before .all-distinct2 .ensures)
 
 pub is-permutation-spec : {M : Type 1} → statement M
 is-permutation-spec =
@@ -84,4 +102,7 @@ is-permutation-spec =
     returns-2
     slice-aggregate-all-distinct
     all-distinct-requires
-    returns-3)
+    returns-3
+    slice-aggregate-all-distinct-2
+    all-distinct-requires-2
+    returns-4)
