@@ -13,7 +13,7 @@ use join_walk::walk;
 use lists::zero_u16;
 use sets::Refusal;
 use sets::Tested;
-use word_lists::flags::clear_flags;
+use word_flags::clear_flags;
 ghost use mathlib.Core.Path.{_≡_};
 ghost use lib.ListN.{length};
 ghost use Rattle.sets.specs.Collections.{setsOf};

@@ -16,7 +16,7 @@ use Rattle.join_spec.specs.Node.{seen}
 use Rattle.join_index.specs.Grouping.{rightAt}
 use Rattle.join_index.specs.declared.Layout.{Layout}
 use Rattle.word_lists.specs.Words.{Word}
-use Rattle.word_lists.specs.Flags.{flagRoom, Below}
+use Rattle.word_flags.specs.Flags.{flagRoom, Below}
 use Rattle.join_check.specs.Asking.{RightThere, PlacesThere}
 use Rattle.join_check.proofs.Reading.{right-stored}
 

@@ -20,8 +20,9 @@ use Rattle.join_index.specs.Ground.{invertedList, offsetOf}
 use Rattle.join_index.specs.declared.Layout.{Layout}
 use Rattle.join_index.proofs.GroundLaws.{slot-bound}
 use Rattle.word_lists.specs.Words.{Word}
-use Rattle.word_lists.specs.Merges.{Rising, Apart, Intersected}
-use Rattle.word_lists.specs.Flags.{flagRoom, Below}
+use Rattle.word_lists.specs.Merges.{Rising}
+use Rattle.word_flags.specs.Sharing.{Apart, Intersected}
+use Rattle.word_flags.specs.Flags.{flagRoom, Below}
 use Rattle.join_check.proofs.Places.{places-below}
 use Rattle.join_nodes.specs.Narrowing.{Candidates, Narrowed, candidateList}
 use Rattle.join_nodes.proofs.Narrowing.{narrow-first, narrow-further}

@@ -1,13 +1,13 @@
 // From the candidates before a node to those after it.
 use join_index::Layout;
-use word_lists::flags::intersect;
+use word_flags::intersect;
 use word_lists::words::word_at;
 ghost use mathlib.Core.Path.{_≡_};
 ghost use Rattle.join_spec.specs.Query.{Query};
 ghost use Rattle.join_spec.specs.Node.{lastOf};
 ghost use mathlib.Core.List.{List};
 ghost use Prim.Native.Nat.{ℕ};
-ghost use Rattle.word_lists.specs.Flags.{Clear};
+ghost use Rattle.word_flags.specs.Flags.{Clear};
 ghost use Rattle.join_nodes.specs.Narrowing.{SomePath, Candidates, Narrowed};
 
 // A part of the work list.

@@ -7,7 +7,7 @@ use join_shortlists::ranks::pivot;
 use row_pairs::write_kept;
 use row_pairs::write_row;
 use word_lists::words::word_at;
-ghost use Rattle.word_lists.specs.Flags.{Clear};
+ghost use Rattle.word_flags.specs.Flags.{Clear};
 ghost use Rattle.join_check.specs.Asking.{Some};
 ghost use Rattle.join_pairs.specs.Writing.{LeftRoom, LeftWritten};
 

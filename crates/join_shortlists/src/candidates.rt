@@ -2,9 +2,9 @@
 // other ranks while that costs less than to look at each.
 use crate::ranks::holders;
 use join_index::Layout;
-use word_lists::flags::intersect;
+use word_flags::intersect;
 use word_lists::words::word_at;
-ghost use Rattle.word_lists.specs.Flags.{Clear};
+ghost use Rattle.word_flags.specs.Flags.{Clear};
 ghost use Rattle.join_check.specs.Asking.{Some, RankThere};
 ghost use Rattle.join_shortlists.specs.Shortlists.{Located, SpanThere, RankMet, FindThere, Shortlisted};
 

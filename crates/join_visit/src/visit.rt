@@ -14,7 +14,7 @@ use join_nodes::decide::decide;
 ghost use mathlib.Core.List.{List};
 ghost use Prim.Native.Nat.{ℕ};
 ghost use Rattle.join_spec.specs.Query.{Query};
-ghost use Rattle.word_lists.specs.Flags.{Clear};
+ghost use Rattle.word_flags.specs.Flags.{Clear};
 ghost use Rattle.join_nodes.specs.Narrowing.{SomePath};
 ghost use Rattle.join_nodes.specs.Visiting.{Node, NodeVisited, ChildrenAt, ChildrenVisited};
 

@@ -19,7 +19,7 @@ ghost use Prim.Native.Nat.{ℕ};
 ghost use Rattle.join_spec.specs.Query.{Query};
 ghost use Rattle.join_index.specs.Ground.{invertedList};
 ghost use Rattle.join_check.specs.Asking.{Some, RankThere};
-ghost use Rattle.word_lists.specs.Flags.{Clear};
+ghost use Rattle.word_flags.specs.Flags.{Clear};
 ghost use Rattle.join_walk.specs.Partitions.{SomeRank, Partition, Partitions, PartVisited, WalkReady, WalkDone};
 
 // Whether a right set holds the rank r.

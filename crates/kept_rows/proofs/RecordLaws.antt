@@ -18,8 +18,8 @@ use Rattle.join_index.specs.Grouping.{rightAt}
 use Rattle.join_index.specs.declared.Layout.{Layout}
 use Rattle.word_lists.specs.Words.{Word}
 use Rattle.word_lists.specs.Merges.{Rising}
-use Rattle.word_lists.specs.Flags.{Behind}
-use Rattle.word_lists.proofs.Keeping.{Keeping, keeping-start, keeping-step, keeping-end}
+use Rattle.word_flags.specs.Flags.{Behind}
+use Rattle.word_flags.proofs.Keeping.{Keeping, keeping-start, keeping-step, keeping-end}
 use Rattle.join_check.specs.declared.Tally.{Tally}
 use Rattle.join_check.specs.declared.checks.Probe.{Probe}
 use Rattle.join_check.specs.Asking.{Some, Index, RightThere}

@@ -13,8 +13,8 @@ use Rattle.lists.proofs.Slices.{frame-less, frame-at}
 use Rattle.join_spec.specs.Query.{Query}
 use Rattle.join_index.specs.declared.Layout.{Layout}
 use Rattle.word_lists.specs.Words.{Word}
-use Rattle.word_lists.specs.Flags.{Behind}
-use Rattle.word_lists.proofs.Keeping.{Keeping, keeping-end}
+use Rattle.word_flags.specs.Flags.{Behind}
+use Rattle.word_flags.proofs.Keeping.{Keeping, keeping-end}
 use Rattle.join_check.specs.Asking.{Some, Index}
 use Rattle.join_check.specs.Runs.{leftIn}
 use Rattle.join_check.proofs.Orders.{order-within, run-left}

@@ -19,7 +19,8 @@ use Rattle.tag_file.specs.Loading.{Lists, fileFault, filled, roomFor, totalsOf}
 use Rattle.tag_pooling.specs.Pooling.{pooledRecords, secondFault, firstOverlong, pooledAnswer, PooledCall}
 use Rattle.tag_pooling.proofs.Answers.{answer-clears, answer-accepted}
 use Rattle.tag_scan.specs.Scan.{Limited, Taken, Scanned}
-use Rattle.tag_loader.specs.Passes.{hasRoom, AllCleared, AllFilled}
+use Rattle.load_lists.specs.Room.{hasRoom, AllCleared}
+use Rattle.tag_loader.specs.Passes.{AllFilled}
 use Rattle.tag_loader.proofs.Rooms.{room-counted}
 use Rattle.right_slots.specs.Slots.{NumbersNoted, BlocksCounted}
 use Rattle.pool_scan.specs.declared.Second.{Second}

@@ -16,7 +16,7 @@ use Rattle.tag_file.specs.Records.{records, tagTable}
 use Rattle.tag_file.specs.Loading.{Lists, fileFault, filled, roomFor, totalsOf}
 use Rattle.tag_pooling.specs.Pooling.{pooledRecords, secondFault, pooledAnswer}
 use Rattle.tag_scan.specs.Scan.{Limited, Taken}
-use Rattle.tag_loader.specs.Passes.{hasRoom}
+use Rattle.load_lists.specs.Room.{hasRoom}
 use Rattle.right_slots.specs.Slots.{NumbersNoted, BlocksCounted, AtSlots, slotWord}
 
 -- the answer of the first passes, and then 4 by the lengths of the lists, and then 10

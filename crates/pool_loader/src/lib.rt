@@ -1,5 +1,7 @@
 // The pooled load of two tag files into seven lent lists, over one tag table: the first passes over both files, the room, and the
 // second passes. It allocates nothing beyond its own arrays.
+use load_lists::clear_lists;
+use load_lists::has_room;
 use pool_fill::fill_right;
 use pool_scan::Second;
 use pool_scan::scan_second;
@@ -17,8 +19,6 @@ use tag_fill::fill_tags;
 use tag_index::HINT_SLOTS;
 use tag_index::INDEX_ROOM;
 use tag_index::rank_ids;
-use tag_loader::clear_lists;
-use tag_loader::has_room;
 use tag_scan::USED_WORDS;
 use tag_scan::scan_records;
 ghost use mathlib.Core.Path.{_≡_};

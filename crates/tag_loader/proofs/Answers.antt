@@ -19,7 +19,8 @@ use Rattle.tag_file.specs.Loading.{Lists, fileFault, totalsOf, filled, roomFor,
 use Rattle.tag_file.proofs.FaultLaws.{fault-clears}
 use Rattle.tag_file.proofs.AnswerLaws.{accepts, refuses-short, refuses-fault}
 use Rattle.tag_scan.specs.Scan.{Scanned, Limited}
-use Rattle.tag_loader.specs.Passes.{hasRoom, AllCleared, AllFilled, Fillable}
+use Rattle.load_lists.specs.Room.{hasRoom, AllCleared}
+use Rattle.tag_loader.specs.Passes.{AllFilled, Fillable}
 use Rattle.tag_loader.proofs.Rooms.{room-counted}
 
 -- a refusal that makes zeros

@@ -20,7 +20,8 @@ use Rattle.tag_file.proofs.ItemCount.{length-tagBytes, length-numbersOf, length
 use Rattle.tag_file.proofs.AnswerLaws.{RoomForEach, room-each}
 use Rattle.tag_index.specs.Index.{tableOf, Sorted, Ranked}
 use Rattle.tag_fill.specs.Fill.{FillReady}
-use Rattle.tag_loader.specs.Passes.{sideFits, hasRoom, Fillable}
+use Rattle.load_lists.specs.Room.{sideFits, hasRoom}
+use Rattle.tag_loader.specs.Passes.{Fillable}
 
 side-fits : (side : Side) (rs : List TagRecord) (numbers ends items : List ℕ)
     → sideFits (length (ofSide side rs)) (entriesOf side rs) (length numbers) (length ends) (length items)

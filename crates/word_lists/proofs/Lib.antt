@@ -2,6 +2,3 @@
 pub mod Lasts
 pub mod Trimming
 pub mod Advancing
-pub mod Halving
-pub mod Flagging
-pub mod Keeping

@@ -1,4 +1,3 @@
 -- Contents: what the functions of this crate ask and answer.
 pub mod Words
 pub mod Merges
-pub mod Flags

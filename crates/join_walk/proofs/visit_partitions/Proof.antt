@@ -3,7 +3,7 @@ use native.Mathlib.Omega.{arith}
 use mathlib.Core.List.{[]}
 use mathlib.Core.Path.{sym, _∙_}
 use Prim.Native.Nat.{_-_}
-use Rattle.word_lists.specs.Flags.{Clear}
+use Rattle.word_flags.specs.Flags.{Clear}
 use Rattle.join_nodes.proofs.PartLoop.{Continuing, continuing-start, continuing-step, continuing-spent, continuing-end}
 use Rattle.join_visit.proofs.ChildSteps.{kids-run, childRank, first-child}
 use Rattle.join_walk.specs.Partitions.{Partitions}

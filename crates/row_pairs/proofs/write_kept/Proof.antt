@@ -8,7 +8,7 @@ use native.Mathlib.Omega.{arith}
 use Rattle.lists.specs.Lists.{slice}
 use Rattle.lists.proofs.Writing.{Writing, writing-start, writing-step, writing-end, writing-room}
 use Rattle.join_spec.specs.PairList.{ontoPair}
-use Rattle.word_lists.proofs.Flagging.{word-below}
+use Rattle.word_flags.proofs.Flagging.{word-below}
 use Rattle.row_pairs.specs.Containing.{pairsWith}
 use Rattle.row_pairs.proofs.RowPairs.{kept-next, kept-none}
 use Rattle.row_pairs.proofs.write_kept.Statement.{statement}

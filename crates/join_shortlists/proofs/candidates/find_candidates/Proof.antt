@@ -8,7 +8,7 @@ use Rattle.lists.proofs.Slices.{changed-none}
 use Rattle.join_spec.specs.Query.{Query}
 use Rattle.join_index.specs.declared.Layout.{Layout}
 use Rattle.word_lists.specs.Words.{Word}
-use Rattle.word_lists.specs.Flags.{Clear}
+use Rattle.word_flags.specs.Flags.{Clear}
 use Rattle.join_shortlists.specs.declared.candidates.Span.{Span}
 use Rattle.join_shortlists.specs.Shortlists.{SpanThere, RankMet, FindThere, Shortlisted}
 use Rattle.join_shortlists.proofs.Meeting.{changed-then}

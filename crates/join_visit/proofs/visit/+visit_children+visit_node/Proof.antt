@@ -13,7 +13,7 @@ use borrow.Fn.PlainCycle.{Measures, is, falls, and}
 use lib.ListN.{length}
 use Rattle.join_spec.specs.Query.{Query}
 use Rattle.join_spec.specs.Node.{lastOf}
-use Rattle.word_lists.specs.Flags.{Clear}
+use Rattle.word_flags.specs.Flags.{Clear}
 use Rattle.join_nodes.specs.Narrowing.{slotOf, SomePath}
 use Rattle.join_nodes.specs.Visiting.{Node, ChildrenAt, NodeVisited}
 use Rattle.join_nodes.specs.declared.Walked.{Walked}

@@ -4,7 +4,7 @@ use Prim.Native.Nat.{_+_, _-_}
 use mathlib.Core.Path.{_≡_, refl}
 use mathlib.Core.Bool.{true}
 use native.Mathlib.Omega.{arith}
-use Rattle.word_lists.proofs.Keeping.{Keeping, keeping-start, keeping-step}
+use Rattle.word_flags.proofs.Keeping.{Keeping, keeping-start, keeping-step}
 use Rattle.kept_rows.proofs.Sharing.{copying-end}
 use Rattle.kept_rows.proofs.rows.copy_words.Statement.{statement}
 use Rattle.kept_rows.proofs.rows.copy_words.Tie as tie

@@ -1,0 +1,1 @@
+-- No laws; each function that needs a proof file has its folder here.

@@ -1,0 +1,3 @@
+-- Contents: what the functions of this crate ask and answer.
+pub mod Flags
+pub mod Sharing

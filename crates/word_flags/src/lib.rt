@@ -1,0 +1,104 @@
+// Tables of flags, one for each number below their length, the words of a part of a list that are kept by one, and the words that
+// two rising parts share. A table is lent all clear and comes back all clear.
+use crate::found::keep_found;
+use word_lists::words::word_at;
+ghost use mathlib.Core.Bool.{false};
+ghost use lib.ListN.{length};
+ghost use Rattle.lists.specs.Lists.{memb, slice};
+ghost use Rattle.word_lists.specs.Merges.{Rising};
+ghost use Rattle.word_flags.specs.Sharing.{Apart, Intersected};
+ghost use Rattle.word_flags.specs.Flags.{flagRoom, Below, Flagged, isFlagged, Clear, Behind, Kept};
+
+mod found;
+
+// How many flags a table has.
+const FLAG_ROOM: usize = 4096;
+
+// A table without a flag.
+pub fn clear_flags() -> [u8; FLAG_ROOM]
+    ensures { λ r. ⌜ Clear r ⌝ }
+{
+    [0u8; FLAG_ROOM]
+}
+
+// Flags the words of a part. No number is flagged before.
+pub fn flag_words(work: &[u32], a: usize, b: usize, flags: &mut [u8])
+    requires { ⌜ Below (length (now flags)) a b (now work) ⌝ }
+    requires { ⌜ Flagged (λ s. false) (now flags) ⌝ }
+    ensures { λ _. ⌜ Flagged (λ s. memb s (slice a b (now (work .entry)))) (now (flags .exit)) ⌝ }
+{
+    let mut i = a;
+    while i < b {
+        let s = word_at(work, i);
+        flags[s] = 1;
+        i += 1;
+    }
+}
+
+// Writes from out on the flagged words of a part, and returns where they end. Every word is stored, and the place moves on only
+// past those that are flagged: no branch depends on the words.
+pub fn keep_flagged(work: &mut [u32], c: usize, e: usize, out: usize, flags: &[u8]) -> usize
+    requires { ⌜ Below (length (now flags)) c e (now work) ⌝ }
+    requires { ⌜ Behind c e out (now work) ⌝ }
+    requires { ⌜ Flagged (isFlagged (now flags)) (now flags) ⌝ }
+    ensures { λ r. ⌜ Kept (isFlagged (now (flags .entry))) c e out (now (work .entry)) (now (work .exit)) r ⌝ }
+{
+    let mut j = c;
+    let mut n = out;
+    while j < e {
+        let x = work[j];
+        work[n] = x;
+        n += flags[x as usize] as usize;
+        j += 1;
+    }
+    n
+}
+
+// Takes the flags of the words of a part away. No other number is flagged before.
+pub fn unflag_words(work: &[u32], a: usize, b: usize, flags: &mut [u8])
+    requires { ⌜ Below (length (now flags)) a b (now work) ⌝ }
+    requires { ⌜ Flagged (λ s. memb s (slice a b (now work))) (now flags) ⌝ }
+    ensures { λ _. ⌜ Flagged (λ s. false) (now (flags .exit)) ⌝ }
+{
+    let mut i = a;
+    while i < b {
+        let s = word_at(work, i);
+        flags[s] = 0;
+        i += 1;
+    }
+}
+
+// Whether a part of so many words is far shorter than another: to find each of its words there takes less time than to flag all.
+fn is_far_shorter(short: usize, long: usize) -> bool {
+    short < long / 32
+}
+
+// Writes from out on the words of the first part that are among those of the second, and returns where they end: the words of the
+// first part are flagged, those of the second that are flagged are written, and the flags are taken away again. Where the second part
+// is far shorter, its words are looked for in the first.
+pub fn intersect(
+    work: &mut [u32],
+    flags: &mut [u8],
+    a: usize,
+    b: usize,
+    c: usize,
+    e: usize,
+    out: usize,
+) -> usize
+    requires { ⌜ Rising a b (now work) ⌝ }
+    requires { ⌜ Rising c e (now work) ⌝ }
+    requires { ⌜ Apart b c e out (now work) ⌝ }
+    requires { ⌜ Below flagRoom a b (now work) ⌝ }
+    requires { ⌜ Below flagRoom c e (now work) ⌝ }
+    requires { ⌜ Clear (now flags) ⌝ }
+    ensures shared { λ r. ⌜ Intersected a b c e out (now (work .entry)) (now (work .exit)) r ⌝ }
+    ensures clear { λ _. ⌜ Clear (now (flags .exit)) ⌝ }
+{
+    if is_far_shorter(e - c, b - a) {
+        return keep_found(work, a, b, c, e, out);
+    }
+    flag_words(work, a, b, flags);
+    let r = keep_flagged(work, c, e, out, flags);
+    unflag_words(work, a, b, flags);
+    r
+}
