@@ -58,8 +58,12 @@ fresh-all : (seen xs : List ℕ) → all (λ x. ltb x (length seen)) xs ≡ true
 unfolding freshIn all distinct
 fresh-all seen [] room = refl
 fresh-all seen (x ∷ xs) room =
-    let inside : x < length seen = ltb-true x (length seen) (and-left (ltb x (length seen)) (all (λ y. ltb y (length seen)) xs) room) in
-    let room-after : all (λ y. ltb y (length (set seen x 1))) xs ≡ true = rw (length-set seen x 1) (and-right (ltb x (length seen)) (all (λ y. ltb y (length seen)) xs) room) in
+    let first = ltb x (length seen) in
+    let others = all (λ y. ltb y (length seen)) xs in
+    let inside : x < length seen = ltb-true x (length seen) (and-left first others room) in
+    let room-after : all (λ y. ltb y (length (set seen x 1))) xs ≡ true =
+    rw (length-set seen x 1) (and-right first others room)
+    in
     rw (fresh-all (set seen x 1) xs room-after, all-unmarked seen x xs inside)
     (regroup (eqb (getD seen x 0) 0) (not (memb x xs)) (distinct xs) (all (λ x. eqb (getD seen x 0) 0) xs))
 
