@@ -1,6 +1,7 @@
 /* A kiosk in C: reads a tag file of any size, orders its tags, joins kits and stacks, and prints each kit that a stack holds whole; a
  * kit without tags never is.
  * A wide kiosk has two pads: with the file of the second, stacks of one number are pooled.
+ * Where reads were repeats, it tells the installer how many, on standard error.
  * Ends with 0 for a list, 1 for a refusal, 2 where reading, writing or memory failed.
  * Usage: kiosk FILE [SECOND] */
 #include <errno.h>
@@ -97,6 +98,8 @@ int main(int argc, char **argv)
     else
         load_pooled(argv[1], argv[2], loaded);
     need_accepted(loaded);
+    if (loaded[8] + loaded[9] > 0)
+        fprintf(stderr, "kiosk: repeated reads: %" PRIu64 " of kits, %" PRIu64 " of stacks\n", loaded[8], loaded[9]);
     size_t kits = loaded[3], stacks = loaded[4], kit_entries = loaded[5], stack_entries = loaded[6];
     uint32_t t = (uint32_t)loaded[7];
 

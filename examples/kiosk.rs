@@ -1,5 +1,6 @@
 //! A kiosk in Rust: reads a tag file, and prints each kit that a stack holds whole; a kit without tags never is. A wide kiosk has two
-//! pads: with the file of the second, stacks of one number are pooled. Ends with 0 for a list, 1 for a refusal, 2 where reading or writing failed.
+//! pads: with the file of the second, stacks of one number are pooled. Where reads were repeats, it tells the installer how many, on
+//! standard error. Ends with 0 for a list, 1 for a refusal, 2 where reading or writing failed.
 //! Usage: kiosk FILE [SECOND]
 
 use kitfinder::TagFile;
@@ -20,6 +21,13 @@ fn print(pairs: &[(u16, u16)]) -> io::Result<()> {
     output.flush()
 }
 
+fn tell_repeats(file: &TagFile) {
+    let (kits, stacks) = (file.left_repeats(), file.right_repeats());
+    if kits + stacks > 0 {
+        eprintln!("kiosk: repeated reads: {kits} of kits, {stacks} of stacks");
+    }
+}
+
 fn read(path: &OsStr) -> Result<Vec<u8>, String> {
     std::fs::read(path).map_err(|error| format!("{}: {error}", path.to_string_lossy()))
 }
@@ -35,7 +43,7 @@ fn main() -> ExitCode {
         [first, second] => TagFile::load_pooled(first, second),
         _ => return fail("usage: kiosk FILE [SECOND]"),
     };
-    let pairs = match loaded.and_then(|loaded| loaded.whole_kits()) {
+    let pairs = match loaded.inspect(tell_repeats).and_then(|loaded| loaded.whole_kits()) {
         Ok(pairs) => pairs,
         Err(refusal) => {
             eprintln!("kiosk: {refusal}");

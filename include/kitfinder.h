@@ -19,6 +19,9 @@
  * A collection is a list of ends and a list of items: set k holds the items from the end of set k-1 (0 for k = 0) up to its own,
  * strictly rising. Items beyond the last end don't count.
  *
+ * A repeat is a read of a tag that its own record had before: a record has as many as its count of tags less its distinct ones. Pad
+ * installers judge an aerial by them. A tag that two records have, or that lies on both pads, is no repeat.
+ *
  * `answer` has as many words as the function says. answer[0] is 0 where the input is accepted, else the number of the refusal; then
  * the values from answer[3] on are 0. What comes with each refusal, and what the lists that the function writes hold after it:
  *
@@ -48,7 +51,7 @@
 extern "C" {
 #endif
 
-#define KITFINDER_VERSION "0.1.0"
+#define KITFINDER_VERSION "0.2.0"
 
 /* The limits: items (tags), sets and entries of a side, items of a set, and the join's limit. An entry is an item of a set. */
 #define KITFINDER_MAX_ITEMS 4096
@@ -65,10 +68,10 @@ extern "C" {
 #define KITFINDER_JOIN_ANSWER 9
 #define KITFINDER_FIRST_ANSWER 6
 #define KITFINDER_ORDER_ANSWER 3
-#define KITFINDER_LOAD_ANSWER 8
-#define KITFINDER_LOAD_POOLED_ANSWER 8
+#define KITFINDER_LOAD_ANSWER 10
+#define KITFINDER_LOAD_POOLED_ANSWER 10
 #define KITFINDER_WRITE_ANSWER 4
-#define KITFINDER_READ_RECORD_ANSWER 9
+#define KITFINDER_READ_RECORD_ANSWER 10
 
 /* The bytes of stack that each function may take below its caller's frame, whatever its input: tests/stack measures them. They cover
  * a memset that is bound at its first call. Of the join's, 336 bytes are for each level of the limit, where left sets are gathered to be
@@ -79,7 +82,7 @@ extern "C" {
 #define KITFINDER_LOAD_STACK 131072
 #define KITFINDER_LOAD_POOLED_STACK 131072
 #define KITFINDER_WRITE_STACK 8192
-#define KITFINDER_READ_RECORD_STACK 1024
+#define KITFINDER_READ_RECORD_STACK 8192
 
 /* The merge rules. */
 enum { KITFINDER_MERGE = 0, KITFINDER_CHECK = 1, KITFINDER_WEIGHED = 2 };
@@ -147,7 +150,7 @@ void kitfinder_order(uint32_t t,
 
 /* Loads a tag file: the tag table, 12 bytes a tag by item, and for each side the record numbers, ends and items. Lists as long as
  * the limits hold every file; they stay as they were beyond what is filled. Refuses with 1 to 4.
- * answer[3] kits, [4] stacks, [5] kit entries, [6] stack entries, [7] tags. */
+ * answer[3] kits, [4] stacks, [5] kit entries, [6] stack entries, [7] tags, [8] repeats of kits, [9] repeats of stacks. */
 void kitfinder_load(const uint8_t *file, size_t file_len,
                     uint8_t *tags, size_t tags_len,
                     uint16_t *left_numbers, size_t left_numbers_len,
@@ -166,7 +169,8 @@ void kitfinder_load(const uint8_t *file, size_t file_len,
  * may be used once (2), and the limits of 3 are for the pooled stacks, and for the tags of these and of the kits. Byte places of the
  * second file count on from first_len. 4 is judged over what both give, and 10 after it, with the first record of the second file whose
  * stack has over 255 tags once it is pooled.
- * answer[3] kits, [4] pooled stacks, [5] kit entries, [6] pooled stack entries, [7] tags. */
+ * answer[3] kits, [4] pooled stacks, [5] kit entries, [6] pooled stack entries, [7] tags, [8] repeats of the first file's kits, to
+ * which those of the second add none, [9] repeats of the stacks of both files. */
 void kitfinder_load_pooled(const uint8_t *first, size_t first_len,
                            const uint8_t *second, size_t second_len,
                            uint8_t *tags, size_t tags_len,
@@ -194,7 +198,8 @@ void kitfinder_write(uint32_t t,
 
 /* Reads the record at a byte place of a tag file. Refuses with 1, also where the place lies past the file's end.
  * answer[3] 0 for a whole record, 1 where the file ends; [4] 0 for a kit, 1 for a stack; [5] its number; [6] the count of its tags;
- * [7] the byte place of the first tag; [8] that of the next record. */
+ * [7] the byte place of the first tag; [8] that of the next record; [9] how many of its tags are repeats. Where the file ends, the words
+ * from [4] on are 0. */
 void kitfinder_read_record(const uint8_t *file, size_t file_len, size_t at, uint64_t answer[KITFINDER_READ_RECORD_ANSWER]);
 
 /* The lengths below are for collections without a bad set. Of others each takes no more than the limits for granted, so that none is

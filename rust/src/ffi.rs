@@ -76,7 +76,7 @@ extern "C" {
         right_ends_len: usize,
         right_items: *mut u16,
         right_items_len: usize,
-        answer: *mut [u64; 8],
+        answer: *mut [u64; 10],
     );
 
     /// Loads the tag files of two pads, pooled.
@@ -99,7 +99,7 @@ extern "C" {
         right_ends_len: usize,
         right_items: *mut u16,
         right_items_len: usize,
-        answer: *mut [u64; 8],
+        answer: *mut [u64; 10],
     );
 
     /// Writes a tag file.
@@ -125,5 +125,5 @@ extern "C" {
     );
 
     /// Reads the record at a byte place of a tag file.
-    pub fn kitfinder_read_record(file: *const u8, file_len: usize, at: usize, answer: *mut [u64; 9]);
+    pub fn kitfinder_read_record(file: *const u8, file_len: usize, at: usize, answer: *mut [u64; 10]);
 }

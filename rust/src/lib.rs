@@ -19,7 +19,8 @@
 //! ```
 //!
 //! Words: a kit is a left set, a stack a right set, a tag an item, the allowance the budget. A place is the number of a set in its
-//! collection, from 0. docs/FORMAT.md has the tag file, the limits, and what makes a set bad.
+//! collection, from 0. A repeat is a read of a tag that its own record had before; pad installers judge an aerial by them.
+//! docs/FORMAT.md has the tag file, the limits, and what makes a set bad.
 //!
 //! Everything may be called from several threads at once. The stack that each function of the library may take is a constant here
 //! ([`JOIN_STACK`] and its like), as in include/kitfinder.h.
@@ -59,7 +60,7 @@ pub const LOAD_POOLED_STACK: usize = 131072;
 /// The bytes of stack that writing may take.
 pub const WRITE_STACK: usize = 8192;
 /// The bytes of stack that reading a record may take.
-pub const READ_RECORD_STACK: usize = 1024;
+pub const READ_RECORD_STACK: usize = 8192;
 
 /// A collection: set k holds the items from the end of set k-1 (0 for the first) up to its own end, strictly rising. [`Sets`] makes
 /// one.
@@ -184,6 +185,10 @@ pub struct Loaded {
     pub right_entries: usize,
     /// Distinct tags.
     pub tags: usize,
+    /// Repeats of kit records: of each, its count of tags less its distinct ones.
+    pub left_repeats: usize,
+    /// Repeats of stack records, those of both files where two were pooled.
+    pub right_repeats: usize,
 }
 
 /// A whole record of a tag file.
@@ -200,6 +205,8 @@ pub struct Record {
     pub tags: usize,
     /// The byte place of the next record.
     pub next: usize,
+    /// How many of its tags are repeats: their count less the distinct ones.
+    pub repeats: usize,
 }
 
 /// The entries of a collection: its last end, or as many as there can be where that is wild.
@@ -366,9 +373,28 @@ pub fn order(t: u32, left: Collection, right: Collection, falling: bool, ranks: 
     refusal::accepted(&answer)
 }
 
-/// Loads a tag file into the seven lists. Lists as long as the limits hold every file. [`TagFile::load`] brings its own.
+/// Loads a tag file into the seven lists, and counts its repeats. Lists as long as the limits hold every file. [`TagFile::load`] brings
+/// its own.
+///
+/// ```
+/// // A kit with a tag, and a stack with three reads of it.
+/// let file = [&b"KT\x00\x07\x01"[..], &[1; 12], b"SK\x00\x09\x03", &[1; 36]].concat();
+/// let lists = kitfinder::Lists {
+///     tags: &mut [0; 12],
+///     left_numbers: &mut [0; 1],
+///     left_ends: &mut [0; 1],
+///     left_items: &mut [0; 1],
+///     right_numbers: &mut [0; 1],
+///     right_ends: &mut [0; 1],
+///     right_items: &mut [0; 1],
+/// };
+/// let loaded = kitfinder::load(&file, lists)?;
+/// assert_eq!((loaded.right_entries, loaded.tags), (1, 1));
+/// assert_eq!((loaded.left_repeats, loaded.right_repeats), (0, 2));
+/// # Ok::<(), kitfinder::Refusal>(())
+/// ```
 pub fn load(file: &[u8], lists: Lists) -> Result<Loaded, Refusal> {
-    let mut answer = [0u64; 8];
+    let mut answer = [0u64; 10];
     // SAFETY: each pointer comes from a slice of the length that follows it, and no two of the lent lists overlap.
     unsafe {
         ffi::kitfinder_load(
@@ -395,7 +421,7 @@ pub fn load(file: &[u8], lists: Lists) -> Result<Loaded, Refusal> {
 }
 
 /// What a loader's answer says.
-fn loaded(answer: &[u64; 8]) -> Result<Loaded, Refusal> {
+fn loaded(answer: &[u64; 10]) -> Result<Loaded, Refusal> {
     refusal::accepted(answer)?;
     Ok(Loaded {
         left_sets: answer[3] as usize,
@@ -403,13 +429,16 @@ fn loaded(answer: &[u64; 8]) -> Result<Loaded, Refusal> {
         left_entries: answer[5] as usize,
         right_entries: answer[6] as usize,
         tags: answer[7] as usize,
+        left_repeats: answer[8] as usize,
+        right_repeats: answer[9] as usize,
     })
 }
 
 /// Loads the tag files of two pads into the seven lists, over one tag table. Stacks with the same number in both files are pooled: the
 /// set is the union of their tags. The kits are the first file's; the stacks are the first file's in its order, each with what the
-/// second has under its number, and then the second's others in its order. Of the second file's kit records nothing is kept.
-/// [`TagFile::load_pooled`] brings its own lists.
+/// second has under its number, and then the second's others in its order. Of the second file's kit records nothing is kept, and their
+/// repeats don't count; those of its stack records do. A tag that lies on both pads is no repeat. [`TagFile::load_pooled`] brings its own
+/// lists.
 ///
 /// The first file is refused as by [`load`]. In the second, a kit record can only be [`Refusal::Malformed`]; the number of a stack may be
 /// used once, and [`Refusal::TooMany`] counts the pooled stacks, and the tags of these and of the kits. Byte places of the second file
@@ -434,7 +463,7 @@ fn loaded(answer: &[u64; 8]) -> Result<Loaded, Refusal> {
 /// # Ok::<(), kitfinder::Refusal>(())
 /// ```
 pub fn load_pooled(first: &[u8], second: &[u8], lists: Lists) -> Result<Loaded, Refusal> {
-    let mut answer = [0u64; 8];
+    let mut answer = [0u64; 10];
     // SAFETY: each pointer comes from a slice of the length that follows it, and no two of the lent lists overlap.
     unsafe {
         ffi::kitfinder_load_pooled(
@@ -512,13 +541,15 @@ pub fn write(
 /// Reads the record at a place of a tag file; `None` at the file's end.
 ///
 /// ```
-/// let record = kitfinder::read_record(b"KT\x00\x07\x00", 0)?.expect("there is a record");
-/// assert_eq!((record.number, record.count, record.next), (7, 0, 5));
-/// assert_eq!(kitfinder::read_record(b"KT\x00\x07\x00", record.next)?, None);
+/// // Kit 7 with a tag, another, and the first again.
+/// let file = [&b"KT\x00\x07\x03"[..], &[1; 12], &[2; 12], &[1; 12]].concat();
+/// let record = kitfinder::read_record(&file, 0)?.expect("there is a record");
+/// assert_eq!((record.number, record.count, record.repeats, record.next), (7, 3, 1, 41));
+/// assert_eq!(kitfinder::read_record(&file, record.next)?, None);
 /// # Ok::<(), kitfinder::Refusal>(())
 /// ```
 pub fn read_record(file: &[u8], at: usize) -> Result<Option<Record>, Refusal> {
-    let mut answer = [0u64; 9];
+    let mut answer = [0u64; 10];
     // SAFETY: the pointer comes from a slice of the length that follows it.
     unsafe { ffi::kitfinder_read_record(file.as_ptr(), file.len(), at, &mut answer) };
     refusal::accepted(&answer)?;
@@ -531,5 +562,6 @@ pub fn read_record(file: &[u8], at: usize) -> Result<Option<Record>, Refusal> {
         count: answer[6] as usize,
         tags: answer[7] as usize,
         next: answer[8] as usize,
+        repeats: answer[9] as usize,
     }))
 }

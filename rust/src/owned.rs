@@ -125,18 +125,30 @@ impl Query<'_> {
     }
 }
 
-/// A loaded tag file, or those of two pads pooled: its tags, its kits (left sets) and its stacks (right sets).
+/// A loaded tag file, or those of two pads pooled: its tags, its kits (left sets) and its stacks (right sets), and how many reads of each
+/// were repeats. What is written and loaded again is equal but for the repeats, of which it has none.
 #[derive(Clone, Debug, Default, PartialEq, Eq)]
 pub struct TagFile {
     tags: Vec<u8>,
     left_numbers: Vec<u16>,
     left: Sets,
+    left_repeats: usize,
     right_numbers: Vec<u16>,
     right: Sets,
+    right_repeats: usize,
 }
 
 impl TagFile {
     /// Loads a tag file.
+    ///
+    /// ```
+    /// // Stack 9 with a tag and its repeat. The file that is written has none.
+    /// let file = kitfinder::TagFile::load(&[&b"SK\x00\x09\x02"[..], &[1; 12], &[1; 12]].concat())?;
+    /// assert_eq!((file.t(), file.right_repeats()), (1, 1));
+    /// let again = kitfinder::TagFile::load(&file.write()?)?;
+    /// assert_eq!((again.right(), again.right_repeats()), (file.right(), 0));
+    /// # Ok::<(), kitfinder::Refusal>(())
+    /// ```
     pub fn load(file: &[u8]) -> Result<TagFile, Refusal> {
         let mut loaded = TagFile::with_room(file.len(), file.len());
         let counts = load(file, loaded.lists())?;
@@ -174,8 +186,10 @@ impl TagFile {
             tags: vec![0; TAG_BYTES * entries(right_bytes).min(MAX_ITEMS)],
             left_numbers: vec![0; sets(left_bytes)],
             left: side(left_bytes),
+            left_repeats: 0,
             right_numbers: vec![0; sets(right_bytes)],
             right: side(right_bytes),
+            right_repeats: 0,
         }
     }
 
@@ -192,7 +206,7 @@ impl TagFile {
         }
     }
 
-    /// Cuts the lists to what was filled.
+    /// Cuts the lists to what was filled, and takes the repeats over.
     fn cut(&mut self, counts: Loaded) {
         self.tags.truncate(TAG_BYTES * counts.tags);
         self.left_numbers.truncate(counts.left_sets);
@@ -201,6 +215,8 @@ impl TagFile {
         self.right_numbers.truncate(counts.right_sets);
         self.right.ends.truncate(counts.right_sets);
         self.right.items.truncate(counts.right_entries);
+        self.left_repeats = counts.left_repeats;
+        self.right_repeats = counts.right_repeats;
     }
 
     /// How many items there are: the distinct tags.
@@ -223,6 +239,11 @@ impl TagFile {
         &self.left
     }
 
+    /// How many reads of the kits were repeats, those of the second of two files left out.
+    pub fn left_repeats(&self) -> usize {
+        self.left_repeats
+    }
+
     /// The record numbers of the stacks.
     pub fn right_numbers(&self) -> &[u16] {
         &self.right_numbers
@@ -233,7 +254,12 @@ impl TagFile {
         &self.right
     }
 
-    /// The file that the writer makes: kits, then stacks, each record's tags rising.
+    /// How many reads of the stacks were repeats, those of both of two files.
+    pub fn right_repeats(&self) -> usize {
+        self.right_repeats
+    }
+
+    /// The file that the writer makes: kits, then stacks, each record's tags rising, without repeats.
     pub fn write(&self) -> Result<Vec<u8>, Refusal> {
         let (left, right) = (self.left.collection(), self.right.collection());
         let mut file = vec![0; file_bytes(left, right)];

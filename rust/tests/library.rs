@@ -29,6 +29,17 @@ fn query<'a>(kits: &'a Sets, stacks: &'a Sets) -> Query<'a> {
     Query { t: 4, left, right, limit: 2, ranks: &[0, 1, 2, 3], budget: u32::MAX, rule: Rule::Merge }
 }
 
+/// The repeats of kits and of stacks.
+fn repeats(file: &TagFile) -> (usize, usize) {
+    (file.left_repeats(), file.right_repeats())
+}
+
+/// Whether two loaded files hold the same, whatever their repeats.
+fn hold_same(one: &TagFile, other: &TagFile) -> bool {
+    let numbers = |file: &TagFile| [file.left_numbers().to_vec(), file.right_numbers().to_vec()];
+    one.tags().eq(other.tags()) && numbers(one) == numbers(other) && (one.left(), one.right()) == (other.left(), other.right())
+}
+
 /// The counts in the order of document 01.
 fn six(counts: Counts) -> [u32; 6] {
     [counts.pairs, counts.by_path, counts.confirmed, counts.checks, counts.dropped, counts.false_drops]
@@ -190,10 +201,32 @@ fn a_loaded_file_has_its_tags_kits_and_stacks() {
     assert_eq!(loaded.ranks(true), Ok(vec![0, 1, 2]));
     assert_eq!(loaded.whole_kits(), Ok(vec![(9, 9)]));
     assert_eq!(loaded.first_kit(&[]), Ok(None));
+    assert_eq!(repeats(&loaded), (0, 1));
     let written = loaded.write().expect("it can be written");
     let kits_first = [record(b"KT", 9, &[1]), record(b"KT", 300, &[]), record(b"KT", 4, &[1, 7]), record(b"SK", 9, &[1, 5])].concat();
     assert_eq!(written, kits_first);
-    assert_eq!(TagFile::load(&written).as_ref(), Ok(&loaded));
+    let again = TagFile::load(&written).expect("the file is in order");
+    assert!(hold_same(&again, &loaded));
+    assert_eq!(repeats(&again), (0, 0));
+    assert_eq!(TagFile::load(&kits_first), Ok(again));
+}
+
+#[test]
+fn repeats_are_counted_within_a_record() {
+    let loaded = |records: &[Vec<u8>]| TagFile::load(&records.concat()).map(|file| repeats(&file));
+    assert_eq!(loaded(&[]), Ok((0, 0)));
+    assert_eq!(loaded(&[record(b"KT", 1, &[1, 1, 2]), record(b"SK", 1, &[3, 2, 3, 3, 2])]), Ok((1, 3)));
+    assert_eq!(loaded(&[record(b"KT", 1, &[5; 255]), record(b"KT", 2, &[5; 255]), record(b"SK", 1, &[5; 2])]), Ok((508, 1)));
+    let apart = [record(b"KT", 1, &[1, 2]), record(b"KT", 2, &[2, 1]), record(b"SK", 1, &[1, 2]), record(b"SK", 2, &[2])];
+    assert_eq!(loaded(&apart), Ok((0, 0)));
+
+    // of the second pad's file the stacks add theirs, and the kits none
+    let first = [record(b"KT", 1, &[1, 1]), record(b"SK", 7, &[1, 2, 2])];
+    let pooled = |second: &[Vec<u8>]| TagFile::load_pooled(&first.concat(), &second.concat()).map(|file| repeats(&file));
+    assert_eq!(pooled(&[]), Ok((1, 1)));
+    assert_eq!(pooled(&[record(b"SK", 7, &[2, 1]), record(b"SK", 8, &[1])]), Ok((1, 1)));
+    assert_eq!(pooled(&[record(b"KT", 1, &[9; 4]), record(b"KT", 3, &[1, 1]), record(b"KT", 3, &[])]), Ok((1, 1)));
+    assert_eq!(pooled(&[record(b"SK", 8, &[2, 2, 2]), record(b"KT", 1, &[9; 4]), record(b"SK", 7, &[3, 1, 3])]), Ok((1, 4)));
 }
 
 #[test]
@@ -251,12 +284,15 @@ fn stacks_of_two_pads_are_pooled() {
     assert_eq!(pooled.right().collection(), Collection { ends: &[3, 3, 4], items: &[0, 2, 3, 1] });
     assert_eq!(pooled.whole_kits(), Ok(vec![(9, 9), (8, 9)]));
     assert_eq!(TagFile::load(&first).and_then(|alone| alone.whole_kits()), Ok(vec![(9, 9)]));
+    assert_eq!(repeats(&pooled), (0, 1));
     assert_eq!(TagFile::load_pooled(&first, b""), TagFile::load(&first));
     assert_eq!(TagFile::load_pooled(b"", b""), Ok(TagFile::default()));
     let of_second = TagFile::load_pooled(b"", &second).expect("the files are in order");
     assert_eq!((of_second.left().len(), of_second.right_numbers(), of_second.t()), (0, &[2, 9][..], 3));
     let written = pooled.write().expect("it can be written");
-    assert_eq!(TagFile::load(&written).as_ref(), Ok(&pooled));
+    let again = TagFile::load(&written).expect("the file is in order");
+    assert!(hold_same(&again, &pooled));
+    assert_eq!(repeats(&again), (0, 0));
     let empty = TagFile::load_pooled(&[record(b"KT", 5, &[]), first].concat(), &[second, record(b"KT", 5, &[1])].concat());
     assert_eq!(empty.and_then(|pooled| pooled.whole_kits()), pooled.whole_kits());
 }
@@ -304,12 +340,15 @@ fn the_pooled_load_refuses() {
 
 #[test]
 fn records_are_read_one_after_the_other() {
-    let file = [record(b"KT", 7, &[1, 2]), record(b"SK", 258, &[])].concat();
+    let file = [record(b"KT", 7, &[1, 2]), record(b"SK", 258, &[]), record(b"SK", 9, &[2, 1, 2, 2])].concat();
     let kit = kitfinder::read_record(&file, 0).expect("in order").expect("a record");
     assert_eq!((kit.side, kit.number, kit.count, kit.tags, kit.next), (Side::Left, 7, 2, 5, 29));
     let stack = kitfinder::read_record(&file, kit.next).expect("in order").expect("a record");
-    assert_eq!((stack.side, stack.number, stack.next), (Side::Right, 258, file.len()));
-    assert_eq!(kitfinder::read_record(&file, stack.next), Ok(None));
+    assert_eq!((stack.side, stack.number, stack.next), (Side::Right, 258, 34));
+    let last = kitfinder::read_record(&file, stack.next).expect("in order").expect("a record");
+    assert_eq!((last.count, last.tags, last.next), (4, 39, file.len()));
+    assert_eq!([kit, stack, last].map(|record| record.repeats), [0, 0, 2]);
+    assert_eq!(kitfinder::read_record(&file, last.next), Ok(None));
     assert_eq!(kitfinder::read_record(&file, 1), Err(Refusal::Malformed(1)));
 }
 
@@ -342,8 +381,9 @@ fn calls_run_on_several_threads_with_the_stack_that_is_stated() {
         .map(|_| {
             let file = file.clone();
             let work = move || {
-                let pooled = TagFile::load_pooled(&file, &file)?;
-                assert_eq!(TagFile::load(&file).as_ref(), Ok(&pooled));
+                let (alone, pooled) = (TagFile::load(&file)?, TagFile::load_pooled(&file, &file)?);
+                assert!(hold_same(&alone, &pooled));
+                assert_eq!((repeats(&alone), repeats(&pooled)), ((0, 1), (0, 2)));
                 pooled.whole_kits()
             };
             std::thread::Builder::new().stack_size(stack).spawn(work).expect("a thread")
@@ -354,11 +394,30 @@ fn calls_run_on_several_threads_with_the_stack_that_is_stated() {
     }
 }
 
+/// What the header defines, by name.
+fn defined(header: &str) -> HashMap<&str, &str> {
+    header.lines().filter_map(|line| line.strip_prefix("#define KITFINDER_")?.split_once(' ')).collect()
+}
+
+#[test]
+fn answers_have_as_many_words_as_the_headers() {
+    let [header, ffi] = ["include/kitfinder.h", "rust/src/ffi.rs"].map(|file| String::from_utf8(repository(file)).expect("text"));
+    let in_header: HashMap<&str, &str> =
+        defined(&header).into_iter().filter_map(|(name, words)| Some((name.strip_suffix("_ANSWER")?, words))).collect();
+    let mut functions = 0;
+    for function in ffi.split("pub fn kitfinder_").skip(1) {
+        let name = function.split('(').next().expect("a name").to_uppercase();
+        let words = function.split_once("answer: *mut [u64; ").and_then(|(_, words)| words.split(']').next());
+        assert_eq!(in_header.get(name.as_str()).copied(), words, "{name}");
+        functions += 1;
+    }
+    assert_eq!((functions, in_header.len()), (7, 7));
+}
+
 #[test]
 fn constants_are_the_headers() {
     let header = String::from_utf8(repository("include/kitfinder.h")).expect("text");
-    let defined: HashMap<&str, &str> =
-        header.lines().filter_map(|line| line.strip_prefix("#define KITFINDER_")?.split_once(' ')).collect();
+    let defined = defined(&header);
     let number = |name: &str| defined.get(name).and_then(|text| text.parse::<usize>().ok());
     let constants = [
         ("MAX_ITEMS", kitfinder::MAX_ITEMS),

@@ -1,5 +1,6 @@
 /* What the header says beyond the functions' contracts: its helpers' lengths suffice and are not one too many, its limits are the
- * library's, empty kits are passed over, refusals have names, and a null pointer may stand for an empty list. It is C and C++. */
+ * library's, empty kits are passed over, repeats stand in the words that it names, refusals have names, and a null pointer may stand for
+ * an empty list. It is C and C++. */
 #include <stdio.h>
 #include <stdlib.h>
 #include <string.h>
@@ -198,6 +199,52 @@ static void test_pooled(void)
     }
 }
 
+/* A record of number 7 whose tags are eleven zero bytes and a letter each. */
+static size_t make_record(uint8_t *file, const char *mark, const char *letters)
+{
+    size_t count = strlen(letters);
+    const uint8_t head[KITFINDER_RECORD_HEAD_BYTES] = { (uint8_t)mark[0], (uint8_t)mark[1], 0, 7, (uint8_t)count };
+    memcpy(file, head, sizeof head);
+    memset(file + sizeof head, 0, KITFINDER_TAG_BYTES * count);
+    for (size_t i = 0; i < count; i++)
+        file[sizeof head + KITFINDER_TAG_BYTES * (i + 1) - 1] = (uint8_t)letters[i];
+    return sizeof head + KITFINDER_TAG_BYTES * count;
+}
+
+/* The repeats of a record, and of the kits and stacks of a load, are the last words of the answer, and zeros in a refusal. Each answer
+ * has as many words as are named. */
+static void test_repeats(void)
+{
+    static uint8_t file[256], second[256];
+    size_t kit = make_record(file, "KT", "ABA"), length = kit + make_record(file + kit, "SK", "BABBC");
+    size_t second_kit = make_record(second, "KT", "CCCC"), second_len = second_kit + make_record(second + second_kit, "SK", "AA");
+    uint64_t read[KITFINDER_READ_RECORD_ANSWER + 1], loaded[KITFINDER_LOAD_ANSWER + 1], pooled[KITFINDER_LOAD_POOLED_ANSWER + 1];
+    read[KITFINDER_READ_RECORD_ANSWER] = loaded[KITFINDER_LOAD_ANSWER] = pooled[KITFINDER_LOAD_POOLED_ANSWER] = 77;
+
+    kitfinder_read_record(file, length, 0, read);
+    HOLD(read[0] == KITFINDER_ACCEPTED && read[3] == 0 && read[4] == KITFINDER_KITS && read[6] == 3 && read[8] == kit && read[9] == 1);
+    kitfinder_read_record(file, length, kit, read);
+    HOLD(read[0] == KITFINDER_ACCEPTED && read[4] == KITFINDER_STACKS && read[6] == 5 && read[8] == length && read[9] == 2);
+    kitfinder_read_record(file, length, length, read);
+    HOLD(read[0] == KITFINDER_ACCEPTED && read[3] == 1 && read[8] == 0 && read[9] == 0);
+    kitfinder_read_record(file, length - 1, kit, read);
+    HOLD(read[0] == KITFINDER_MALFORMED && read[1] == kit && read[8] == 0 && read[9] == 0);
+    HOLD(read[KITFINDER_READ_RECORD_ANSWER] == 77);
+
+    for (size_t tags_len = 0; tags_len <= sizeof tags; tags_len += sizeof tags) {
+        uint64_t number = tags_len ? KITFINDER_ACCEPTED : KITFINDER_SHORT_OUTPUT;
+        kitfinder_load(file, length, tags, tags_len, numbers, 1, left_ends, 1, left_items, 3, numbers + 1, 1, right_ends, 1, right_items,
+                       3, loaded);
+        HOLD(loaded[0] == number && loaded[7] == (tags_len ? 3 : 0));
+        HOLD(loaded[8] == (tags_len ? 1 : 0) && loaded[9] == (tags_len ? 2 : 0));
+        kitfinder_load_pooled(file, length, second, second_len, tags, tags_len, numbers, 1, left_ends, 1, left_items, 3, numbers + 1, 1,
+                              right_ends, 1, right_items, 3, pooled);
+        HOLD(pooled[0] == number && pooled[7] == (tags_len ? 3 : 0));
+        HOLD(pooled[8] == (tags_len ? 1 : 0) && pooled[9] == (tags_len ? 3 : 0));
+    }
+    HOLD(loaded[KITFINDER_LOAD_ANSWER] == 77 && pooled[KITFINDER_LOAD_POOLED_ANSWER] == 77);
+}
+
 /* Empty lists with a null pointer, in every function. */
 static void test_null(void)
 {
@@ -226,12 +273,12 @@ static void test_null(void)
     kitfinder_order(0, NULL, 0, NULL, 0, NULL, 0, NULL, 0, 0, NULL, 0, answer);
     HOLD(answer[0] == 0);
     kitfinder_load(NULL, 0, NULL, 0, NULL, 0, NULL, 0, NULL, 0, NULL, 0, NULL, 0, NULL, 0, answer);
-    HOLD(answer[0] == 0 && answer[3] == 0 && answer[7] == 0);
+    HOLD(answer[0] == 0 && answer[3] == 0 && answer[7] == 0 && answer[8] == 0 && answer[9] == 0);
     kitfinder_load((const uint8_t *)"KT\0\1\0", 5, NULL, 0, NULL, 0, NULL, 0, NULL, 0, NULL, 0, NULL, 0, NULL, 0, answer);
     HOLD(answer[0] == KITFINDER_SHORT_OUTPUT);
     const uint8_t *kit = (const uint8_t *)"KT\0\1\0", *stack = (const uint8_t *)"SK\0\1\0";
     kitfinder_load_pooled(NULL, 0, NULL, 0, NULL, 0, NULL, 0, NULL, 0, NULL, 0, NULL, 0, NULL, 0, NULL, 0, answer);
-    HOLD(answer[0] == 0 && answer[3] == 0 && answer[4] == 0 && answer[7] == 0);
+    HOLD(answer[0] == 0 && answer[3] == 0 && answer[4] == 0 && answer[7] == 0 && answer[8] == 0 && answer[9] == 0);
     kitfinder_load_pooled(NULL, 0, kit, 5, NULL, 0, NULL, 0, NULL, 0, NULL, 0, NULL, 0, NULL, 0, NULL, 0, answer);
     HOLD(answer[0] == 0 && answer[3] == 0);
     kitfinder_load_pooled(NULL, 0, stack, 5, NULL, 0, NULL, 0, NULL, 0, NULL, 0, NULL, 0, NULL, 0, NULL, 0, answer);
@@ -243,9 +290,9 @@ static void test_null(void)
     kitfinder_write(0, NULL, 0, numbers, 1, empty, 1, NULL, 0, NULL, 0, NULL, 0, NULL, 0, NULL, 0, answer);
     HOLD(answer[0] == KITFINDER_SHORT_OUTPUT);
     kitfinder_read_record(NULL, 0, 0, answer);
-    HOLD(answer[0] == 0 && answer[3] == 1);
+    HOLD(answer[0] == 0 && answer[3] == 1 && answer[9] == 0);
     kitfinder_read_record(NULL, 0, 1, answer);
-    HOLD(answer[0] == KITFINDER_MALFORMED);
+    HOLD(answer[0] == KITFINDER_MALFORMED && answer[9] == 0);
 }
 
 static void test_names(void)
@@ -262,8 +309,9 @@ int main(void)
     test_first();
     test_empty();
     test_pooled();
+    test_repeats();
     test_null();
     test_names();
-    printf("header: %s\n", failures ? "FAILED" : "helpers, limits, empty kits, null and names hold");
+    printf("header: %s\n", failures ? "FAILED" : "helpers, limits, empty kits, repeats, null and names hold");
     return failures > 0;
 }

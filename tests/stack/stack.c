@@ -366,6 +366,10 @@ static void pool_files(void)
     pool(3);
     make_file(FULL / 2, 2 * TAGS);
     pool(3);
+    /* nearly all reads are repeats */
+    make_file(64, 3);
+    second_len = put_records(second, 64, 0, TAGS_A_RECORD, 5);
+    pool(0);
 }
 
 static int failures;
@@ -403,10 +407,14 @@ int main(void)
     pool_files();
     say("kitfinder_load_pooled", KITFINDER_LOAD_POOLED_STACK);
 
-    make_file(64, TAGS);
-    file_len--;
-    for (at = 0; at <= file_len + 1; at += 5 + 12 * TAGS_A_RECORD)
-        more(taken("kitfinder_read_record", KITFINDER_READ_RECORD_STACK, read_record));
+    /* Records without a repeat, with some, and with nothing else; the last of each is cut short. */
+    static const uint32_t tags_read[] = { TAGS, 100, 1 };
+    for (size_t k = 0; k < sizeof tags_read / sizeof *tags_read; k++) {
+        make_file(64, tags_read[k]);
+        file_len--;
+        for (at = 0; at <= file_len + 1; at += 5 + 12 * TAGS_A_RECORD)
+            more(taken("kitfinder_read_record", KITFINDER_READ_RECORD_STACK, read_record));
+    }
     say("kitfinder_read_record", KITFINDER_READ_RECORD_STACK);
 
     make_file(64, TAGS);

@@ -24,6 +24,7 @@ use Rattle.join_spec.specs.declared.JoinAnswer.the-variants.{Refused}
 use Rattle.join_spec.specs.PairList.{pairList}
 use Rattle.join_spec.specs.Answer.{badSettings, joinTests}
 use Rattle.join_spec.proofs.Accepted.{answer-refused}
+use Rattle.tag_file.specs.declared.Repeats.{Repeats}
 use Rattle.text_lines.specs.Lines.{refusalLine}
 use Rattle.join_text.specs.JoinText.{programRoom, workWords, programSettings, answerText, joinText}
 
@@ -67,9 +68,10 @@ module _ (i : Input) where
         call .ranks ∙ ap (λ (a : OrderAnswer). ranksAfter a table ranks) (sym (call .answered) ∙ e)
 
     pub refused-order : {why : Refusal} → answer ≡ order.Refused why → length ranks ≡ i .T
-        → (leftNumbers rightNumbers : List ℕ) → refusalLine why ≡ joinText leftNumbers rightNumbers i (programSettings i)
+        → (repeats : Repeats) (leftNumbers rightNumbers : List ℕ)
+        → refusalLine why ≡ joinText repeats leftNumbers rightNumbers i (programSettings i)
     unfolding orderAnswer joinText
-    refused-order {why} e long leftNumbers rightNumbers =
+    refused-order {why} e long repeats leftNumbers rightNumbers =
         let failed = failed-test (orderTest i (length ranks)) why (sym e ∙ call .answered) in
-        ap (answerText leftNumbers rightNumbers (pairList (leftSets i) (rightSets i)))
+        ap (answerText repeats leftNumbers rightNumbers (pairList (leftSets i) (rightSets i)))
         (sym (answer-refused i (programSettings i) programRoom (tests-same (length ranks) workWords why long failed)))

@@ -3,11 +3,11 @@ use Prim.Native.Nat.{ℕ, _+_, _*_, _≤_}
 use mathlib.Core.Path.{_≡_}
 use mathlib.Core.List.{List}
 use lib.ListN.{length}
-use Rattle.text_lines.specs.Room.{lineRoom, pairRoom}
+use Rattle.text_lines.specs.Room.{lineRoom, repeatsRoom, pairRoom}
 
--- the bytes of the longest text: the counts, and a line for each of 8,192 pairs
+-- the bytes of the longest text: the counts, the repeats, and a line for each of 8,192 pairs
 abbrev pub textRoom : ℕ
-textRoom = lineRoom + pairRoom * 8192
+textRoom = lineRoom + repeatsRoom + pairRoom * 8192
 
 -- numbers for each set of both sides, and room for the text
 pub record Numbered (leftNumbers leftEnds rightNumbers rightEnds text : List ℕ) : Type 0 where

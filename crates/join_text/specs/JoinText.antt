@@ -1,6 +1,6 @@
--- The text that the program kitlist prints for a join of two numbered collections: how it joins, and its lines. Document 01, "The
--- program kitlist". Kits are left sets here and stacks right sets. Its lines are defined in `text_lines`; the rank table and the
--- join's answer are those of the operations.
+-- The text that the program kitlist prints for a join of two numbered collections, with the repeats that were read with them: how
+-- it joins, and its lines. Document 01, "The program kitlist"; document 02, C-15. Kits are left sets here and stacks right sets.
+-- Its lines are defined in `text_lines`; the rank table and the join's answer are those of the operations.
 use Prim.Native.Nat.{ℕ, _*_, _-_, _≤_}
 use mathlib.Core.Path.{_≡_}
 use mathlib.Core.List.{List, _++_}
@@ -16,7 +16,8 @@ use Rattle.join_spec.specs.declared.Rule.the-variants.{Merge}
 use Rattle.join_spec.specs.PairList.{pairList}
 use Rattle.join_spec.specs.Query.{Settings, settingsOf}
 use Rattle.join_spec.specs.Answer.{Room, joinAnswer}
-use Rattle.text_lines.specs.Lines.{refusalLine, countsLine, pairLines}
+use Rattle.tag_file.specs.declared.Repeats.{Repeats}
+use Rattle.text_lines.specs.Lines.{refusalLine, countsLine, repeatsLine, pairLines}
 
 -- the words of the work list, and the places of the pair list: two for each of 8,192 pairs
 abbrev pub workWords : ℕ
@@ -36,15 +37,16 @@ settingsUnder ranks = settingsOf 2 ranks (fullWords - 1) Merge
 abbrev pub programSettings : Input → Settings
 programSettings i = settingsUnder (rankTable false (i .T) (leftSets i) (rightSets i))
 
--- the text of a join's answer: the counts and a line for each pair, by the numbers of its records; or the refusal
-abbrev pub answerText : List ℕ → List ℕ → List ℕ → JoinAnswer → List ℕ
-answerText leftNumbers rightNumbers pairs (Joined counts) = countsLine counts ++ pairLines leftNumbers rightNumbers pairs
-answerText leftNumbers rightNumbers pairs (Refused why) = refusalLine why
+-- the text of a join's answer: the counts, the repeats and a line for each pair, by its records' numbers; or the refusal alone
+abbrev pub answerText : Repeats → List ℕ → List ℕ → List ℕ → JoinAnswer → List ℕ
+answerText repeats leftNumbers rightNumbers pairs (Joined counts) =
+    countsLine counts ++ (repeatsLine repeats ++ pairLines leftNumbers rightNumbers pairs)
+answerText repeats leftNumbers rightNumbers pairs (Refused why) = refusalLine why
 
 -- the text of a join of two numbered collections
-unfoldable pub joinText : List ℕ → List ℕ → Input → Settings → List ℕ
-joinText leftNumbers rightNumbers i s =
-    answerText leftNumbers rightNumbers (pairList (leftSets i) (rightSets i)) (joinAnswer i s programRoom)
+unfoldable pub joinText : Repeats → List ℕ → List ℕ → Input → Settings → List ℕ
+joinText repeats leftNumbers rightNumbers i s =
+    answerText repeats leftNumbers rightNumbers (pairList (leftSets i) (rightSets i)) (joinAnswer i s programRoom)
 
 -- a text fills a lent list from its beginning, which is as before beyond; r is the text's length, and the list holds it
 pub record Fills (text was : List ℕ) (r : ℕ) (is : List ℕ) : Type 0 where

@@ -1,11 +1,14 @@
 // The text of a join of two numbered collections, written into a lent list of bytes: orders their items by rising frequency, joins
-// them, and writes the counts and a line for each pair, or why there is no list. What the text is is defined in specs/.
+// them, and writes the counts, the repeats that were read with them and a line for each pair, or why there is no list. What the
+// text is is defined in specs/.
 use item_order::OrderAnswer;
 use join_spec::JoinAnswer;
 use join_spec::Rule;
+use tag_file::Repeats;
 use text_lines::put_counts;
 use text_lines::put_pairs;
 use text_lines::put_refusal;
+use text_lines::put_repeats;
 ghost use mathlib.Core.Path.{_≡_};
 ghost use lib.ListN.{length};
 ghost use Rattle.inputs.specs.Input.{inputOf};
@@ -37,6 +40,7 @@ fn new_pairs() -> [u16; PLACES]
 
 // The text of a join of ordered collections.
 fn list_ordered(
+    repeats: Repeats,
     t: u32,
     left_numbers: &[u16],
     left_ends: &[u32],
@@ -48,7 +52,7 @@ fn list_ordered(
     text: &mut [u8],
 ) -> usize
     requires { ⌜ Numbered (now «left_numbers») (now «left_ends») (now «right_numbers») (now «right_ends») (now text) ⌝ }
-    ensures { λ r. ⌜ Fills (joinText (now («left_numbers» .entry)) (now («right_numbers» .entry))
+    ensures { λ r. ⌜ Fills (joinText repeats (now («left_numbers» .entry)) (now («right_numbers» .entry))
         (inputOf t (now («left_ends» .entry)) (now («left_items» .entry)) (now («right_ends» .entry)) (now («right_items» .entry)))
         (settingsUnder (now (ranks .entry)))) (now (text .entry)) r (now (text .exit)) ⌝ }
 {
@@ -70,8 +74,9 @@ fn list_ordered(
     match answer {
         JoinAnswer::Joined(counts) => {
             let n = put_counts(text, counts);
+            let m = put_repeats(text, n, repeats);
             let places = 2 * (counts.pairs as usize);
-            put_pairs(text, n, &pairs[..places], left_numbers, right_numbers)
+            put_pairs(text, m, &pairs[..places], left_numbers, right_numbers)
         }
         JoinAnswer::Refused(why) => put_refusal(text, why),
     }
@@ -79,6 +84,7 @@ fn list_ordered(
 
 // The text of a join of collections: their items are ordered by rising frequency first.
 pub fn list_loaded(
+    repeats: Repeats,
     t: u32,
     left_numbers: &[u16],
     left_ends: &[u32],
@@ -91,7 +97,7 @@ pub fn list_loaded(
 ) -> usize
     requires { ⌜ Numbered (now «left_numbers») (now «left_ends») (now «right_numbers») (now «right_ends») (now text) ⌝ }
     requires { ⌜ length (now ranks) ≡ t ⌝ }
-    ensures { λ r. ⌜ Fills (joinText (now («left_numbers» .entry)) (now («right_numbers» .entry))
+    ensures { λ r. ⌜ Fills (joinText repeats (now («left_numbers» .entry)) (now («right_numbers» .entry))
         (inputOf t (now («left_ends» .entry)) (now («left_items» .entry)) (now («right_ends» .entry)) (now («right_items» .entry)))
         (programSettings (inputOf t (now («left_ends» .entry)) (now («left_items» .entry))
         (now («right_ends» .entry)) (now («right_items» .entry))))) (now (text .entry)) r (now (text .exit)) ⌝ }
@@ -107,6 +113,7 @@ pub fn list_loaded(
     );
     match answer {
         OrderAnswer::Ordered => list_ordered(
+            repeats,
             t,
             left_numbers,
             left_ends,

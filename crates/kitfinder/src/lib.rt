@@ -5,7 +5,7 @@ ghost use mathlib.Core.Path.{_≡_};
 ghost use mathlib.Core.Bool.{not};
 ghost use lib.Dec.{eqb};
 ghost use lib.ListN.{length};
-ghost use Rattle.tag_file.specs.Reading.{readAt, readWords};
+ghost use Rattle.tag_file.specs.Repeats.{recordRead, readWords};
 ghost use Rattle.join_spec.specs.Answer.{roomOf, joinWords, JoinCall};
 ghost use Rattle.inputs.specs.Input.{inputOf};
 ghost use Rattle.join.specs.Numbered.{weightsOf, numberedAnswer};
@@ -81,10 +81,10 @@ pub extern "C" fn kitfinder_first(
 
 // Reads the record at a place of a tag file.
 #[no_mangle]
-pub extern "C" fn kitfinder_read_record(file: &[u8], at: usize, answer: &mut [u64; 9])
-    ensures answer { λ _. ⌜ now (answer .exit) ≡ readWords (readAt (now (file .entry)) at) ⌝ }
+pub extern "C" fn kitfinder_read_record(file: &[u8], at: usize, answer: &mut [u64; 10])
+    ensures answer { λ _. ⌜ now (answer .exit) ≡ readWords (recordRead (now (file .entry)) at) ⌝ }
 {
-    *answer = tag_file::read_words(tag_file::read_record(file, at));
+    *answer = tag_file::read_words(record_reader::read(file, at));
 }
 
 // Ranks the items by frequency.
@@ -128,7 +128,7 @@ pub extern "C" fn kitfinder_load(
     right_numbers: &mut [u16],
     right_ends: &mut [u32],
     right_items: &mut [u16],
-    answer: &mut [u64; 8],
+    answer: &mut [u64; 10],
 )
     ensures answer { λ _. ⌜ now (answer .exit) ≡ loadWords (loadAnswer (now (file .entry))
         (listsOf (now (tags .entry)) (now («left_numbers» .entry)) (now («left_ends» .entry)) (now («left_items» .entry))
@@ -166,7 +166,7 @@ pub extern "C" fn kitfinder_load_pooled(
     right_numbers: &mut [u16],
     right_ends: &mut [u32],
     right_items: &mut [u16],
-    answer: &mut [u64; 8],
+    answer: &mut [u64; 10],
 )
     ensures answer { λ _. ⌜ now (answer .exit) ≡ loadWords (pooledAnswer (now (first .entry)) (now (second .entry))
         (listsOf (now (tags .entry)) (now («left_numbers» .entry)) (now («left_ends» .entry)) (now («left_items» .entry))

@@ -6,6 +6,7 @@ use Rattle.sets.specs.Limits.{maxItems}
 use Rattle.inputs.specs.Input.{inputOf}
 use Rattle.tag_file.specs.Format.{tagLength}
 use Rattle.tag_file.specs.declared.Loaded.{Loaded}
+use Rattle.tag_file.specs.declared.Repeats.{Repeats}
 use Rattle.join_text.specs.JoinText.{joinText, programSettings}
 use Rattle.join_text.specs.Inner.{textRoom}
 use Rattle.listing.specs.Listing.{maxFile}
@@ -29,10 +30,10 @@ pub record Within (loaded : Loaded) (leftNumbers leftEnds leftItems rightNumbers
   pub ranked : loaded .tags ≤ length ranks
   pub room : textRoom ≤ length text
 
--- the text of lists of which these counts are filled
-abbrev pub cutText : Loaded → List ℕ → List ℕ → List ℕ → List ℕ → List ℕ → List ℕ → List ℕ
-cutText loaded leftNumbers leftEnds leftItems rightNumbers rightEnds rightItems =
+-- the text of lists of which these counts are filled, with these repeats
+abbrev pub cutText : Loaded → Repeats → List ℕ → List ℕ → List ℕ → List ℕ → List ℕ → List ℕ → List ℕ
+cutText loaded repeats leftNumbers leftEnds leftItems rightNumbers rightEnds rightItems =
     let i =
     inputOf (loaded .tags) (take (loaded .«left_sets») leftEnds) (take (loaded .«left_entries») leftItems)
     (take (loaded .«right_sets») rightEnds) (take (loaded .«right_entries») rightItems) in
-    joinText (take (loaded .«left_sets») leftNumbers) (take (loaded .«right_sets») rightNumbers) i (programSettings i)
+    joinText repeats (take (loaded .«left_sets») leftNumbers) (take (loaded .«right_sets») rightNumbers) i (programSettings i)

@@ -1,6 +1,6 @@
--- The text that the program kitlist prints for a file, from the file's bytes on. Document 01, "The program kitlist". Kits are left
--- sets here and stacks right sets. The text of a join is defined in `join_text`, the line of a refusal in `text_lines`; the first record
--- at fault and what records fill are those of the operations.
+-- The text that the program kitlist prints for a file, from the file's bytes on. Document 01, "The program kitlist"; document 02,
+-- C-15. Kits are left sets here and stacks right sets. The text of a join is defined in `join_text`, the line of a refusal in
+-- `text_lines`; the first record at fault, what records fill and their repeats are those of the operations.
 use Prim.Native.Nat.{ℕ}
 use mathlib.Core.List.{List}
 use lib.Dec.{ltb}
@@ -11,6 +11,7 @@ use Rattle.sets.specs.declared.Refusal.the-variants.{ShortWork}
 use Rattle.sets.specs.declared.Tested.{Tested}
 use Rattle.inputs.specs.Input.{Input, inputOf}
 use Rattle.tag_file.specs.Records.{TagRecord, records, tagTable}
+use Rattle.tag_file.specs.Repeats.{repeatTotals}
 use Rattle.tag_file.specs.Loading.{fileFault, numbersOf, endsOf, joinedItems}
 use Rattle.text_lines.specs.Lines.{refusalLine}
 use Rattle.join_text.specs.JoinText.{programSettings, joinText}
@@ -24,10 +25,10 @@ abbrev pub recordsInput : List TagRecord → Input
 recordsInput rs =
     inputOf (length (tagTable rs)) (endsOf Left rs) (joinedItems Left rs) (endsOf Right rs) (joinedItems Right rs)
 
--- the text of records without a fault
+-- the text of records without a fault, with their repeats
 abbrev pub recordsText : List TagRecord → List ℕ
 recordsText rs =
-    joinText (numbersOf Left rs) (numbersOf Right rs) (recordsInput rs) (programSettings (recordsInput rs))
+    joinText (repeatTotals rs) (numbersOf Left rs) (numbersOf Right rs) (recordsInput rs) (programSettings (recordsInput rs))
 
 -- the file is not too long: 7
 abbrev pub lengthTest : List ℕ → Tested

@@ -1,5 +1,6 @@
 // The text that the program kitlist prints (document 01), written into a lent list of bytes: loads a tag file, and writes the text of
-// the join of its left sets (kits) with its right sets (stacks), or why there is no list. What the text is is defined in specs/.
+// the join of its left sets (kits) with its right sets (stacks), with the repeats that the loader counted, or why there is no list.
+// What the text is is defined in specs/.
 use join_text::MAX_PAIRS;
 use join_text::list_loaded;
 use sets::MAX_ITEMS;
@@ -7,6 +8,7 @@ use sets::MAX_SETS;
 use sets::Refusal;
 use tag_file::LoadAnswer;
 use tag_file::Loaded;
+use tag_file::Repeats;
 use tag_file::TAG_LENGTH;
 use text_lines::put_refusal;
 ghost use mathlib.Core.Path.{_≡_};
@@ -24,8 +26,8 @@ ghost use Rattle.listing.specs.Inner.{tableBytes, sideItems, Within, cut
 
 // The longest file that is read.
 pub const MAX_FILE: usize = 65536;
-// The bytes of the longest text: a line of counts, and twelve for each pair.
-pub const TEXT_ROOM: usize = 108 + 12 * MAX_PAIRS;
+// The bytes of the longest text: 108 for the counts, 50 for the repeats, and twelve for each pair.
+pub const TEXT_ROOM: usize = 158 + 12 * MAX_PAIRS;
 // The bytes of the tag table, and the items of a side: no file that is read has more tags.
 const TABLE: usize = TAG_LENGTH * (MAX_ITEMS as usize);
 
@@ -34,6 +36,7 @@ const ITEMS: usize = MAX_FILE / TAG_LENGTH;
 // The text of what was loaded: the counts say how much of each list is filled.
 fn list_counted(
     loaded: Loaded,
+    repeats: Repeats,
     left_numbers: &[u16],
     left_ends: &[u32],
     left_items: &[u16],
@@ -45,7 +48,8 @@ fn list_counted(
 ) -> usize
     requires { ⌜ Within loaded (now «left_numbers») (now «left_ends») (now «left_items»)
         (now «right_numbers») (now «right_ends») (now «right_items») (now ranks) (now text) ⌝ }
-    ensures { λ r. ⌜ Fills (cutText loaded (now («left_numbers» .entry)) (now («left_ends» .entry)) (now («left_items» .entry))
+    ensures { λ r. ⌜ Fills (cutText loaded repeats
+        (now («left_numbers» .entry)) (now («left_ends» .entry)) (now («left_items» .entry))
         (now («right_numbers» .entry)) (now («right_ends» .entry)) (now («right_items» .entry)))
         (now (text .entry)) r (now (text .exit)) ⌝ }
 {
@@ -55,6 +59,7 @@ fn list_counted(
     let left_entries = loaded.left_entries;
     let right_entries = loaded.right_entries;
     list_loaded(
+        repeats,
         items as u32,
         &left_numbers[..left_sets],
         &left_ends[..left_sets],
@@ -116,8 +121,9 @@ fn list_short(file: &[u8], text: &mut [u8]) -> usize
         &mut right_items,
     );
     match answer {
-        LoadAnswer::Loaded(loaded) => list_counted(
+        LoadAnswer::Loaded(loaded, repeats) => list_counted(
             loaded,
+            repeats,
             &left_numbers,
             &left_ends,
             &left_items,

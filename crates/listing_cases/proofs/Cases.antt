@@ -1,7 +1,7 @@
 -- The text of a file of bytes without the causes that can't arise: 4, 5, 6 and 8. What a load fills is good sets with T within
 -- its limit, the rank table is a permutation, and the greatest allowance is above kits x stacks. So a file is refused by its
 -- length (7), by a record at fault (1, 2, 3), by the work list (7: n above 1,020) or by the pair list (9: above 8,192 pairs), and
--- else the counts and the pairs are those of its records' sets.
+-- else the counts and the pairs are those of its records' sets, and the repeats those of its records.
 use Prim.Native.Nat.{ℕ, _+_, _*_, _-_, _<_, _≤_}
 use mathlib.Core.Path.{_≡_, refl, sym, ap, ap₂, subst, _∙_}
 use mathlib.Core.List.{List, _++_}
@@ -36,12 +36,14 @@ use Rattle.join_spec.proofs.GoodSettings.{GoodSettings, settings-good}
 use Rattle.join_spec.proofs.Accepted.{answer-tested, answer-refused}
 use Rattle.join_spec.proofs.PairListLaws.{pairOccurs, pair-occurs}
 use Rattle.tag_file.specs.Records.{TagRecord, records, ofSide, tagTable, itemsOf, setsOfSide}
+use Rattle.tag_file.specs.declared.Repeats.{Repeats}
+use Rattle.tag_file.specs.Repeats.{repeatTotals}
 use Rattle.tag_file.specs.Loading.{fileFault, numbersOf}
 use Rattle.tag_round_trip.proofs.Decoding.{sets-joined}
 use Rattle.tag_round_trip.proofs.Refilled.{side-unbad}
 use Rattle.tag_round_trip.proofs.FileRecords.{file-few}
 use Rattle.tag_containment.proofs.LoadedPairs.{tagsContained, sets-tags}
-use Rattle.text_lines.specs.Lines.{refusalLine, countsLine, pairLines}
+use Rattle.text_lines.specs.Lines.{refusalLine, countsLine, repeatsLine, pairLines}
 use Rattle.join_text.specs.JoinText.{workWords, pairPlaces, programRoom, programSettings, answerText, joinText}
 use Rattle.listing.specs.Listing.{recordsInput, recordsText, lengthTest, listing}
 use Rattle.listing.proofs.LoadRoom.{fault-free}
@@ -65,7 +67,8 @@ plainText rs =
     cond (ltb 1020 (recordsSize rs)) (refusalLine ShortWork)
     (cond (ltb 8192 (pairCount (sideSets Left rs) (sideSets Right rs))) (refusalLine ShortPairs)
     (countsLine (countsOf (recordsQuery rs))
-    ++ pairLines (numbersOf Left rs) (numbersOf Right rs) (pairList (sideSets Left rs) (sideSets Right rs))))
+    ++ (repeatsLine (repeatTotals rs)
+    ++ pairLines (numbersOf Left rs) (numbersOf Right rs) (pairList (sideSets Left rs) (sideSets Right rs)))))
 
 -- the sets of the records' input
 lefts-are : (rs : List TagRecord) → leftSets (recordsInput rs) ≡ sideSets Left rs
@@ -91,10 +94,10 @@ pair-size n =
     (λ e. let h = ltb-true 8192 n e in lt-ltb pairPlaces (2 * n) (omega arith))
 
 -- an answer over one of two
-text-either : (ln rn pairs : List ℕ) (b : Bool) (x y : JoinAnswer)
-    → answerText ln rn pairs (cond b x y) ≡ cond b (answerText ln rn pairs x) (answerText ln rn pairs y)
-text-either ln rn pairs true x y = refl
-text-either ln rn pairs false x y = refl
+text-either : (repeats : Repeats) (ln rn pairs : List ℕ) (b : Bool) (x y : JoinAnswer)
+    → answerText repeats ln rn pairs (cond b x y) ≡ cond b (answerText repeats ln rn pairs x) (answerText repeats ln rn pairs y)
+text-either repeats ln rn pairs true x y = refl
+text-either repeats ln rn pairs false x y = refl
 
 module _ (file : List ℕ) (low : (i : ℕ) → getD file i 0 < 256) (clear : fileFault file ≡ Passed) where
   abbrev rs : List TagRecord
@@ -155,15 +158,16 @@ module _ (file : List ℕ) (low : (i : ℕ) → getD file i 0 < 256) (clear : fi
   pub records-text : recordsText rs ≡ plainText rs
   unfolding joinText
   records-text =
+      let repeats = repeatTotals rs in
       let ln = numbersOf Left rs in
       let rn = numbersOf Right rs in
       let pairs = pairList (sideSets Left rs) (sideSets Right rs) in
-      ap₂ (answerText ln rn) (ap₂ pairList (lefts-are rs) (rights-are rs))
+      ap₂ (answerText repeats ln rn) (ap₂ pairList (lefts-are rs) (rights-are rs))
       (answered (ltb 1020 (recordsSize rs)) (ap (ltb workWords) (words-records rs) ∙ work-size (recordsSize rs))
       ∙ ap (cond (ltb 1020 (recordsSize rs)) (Refused ShortWork)) walked)
-      ∙ text-either ln rn pairs (ltb 1020 (recordsSize rs)) _ _
+      ∙ text-either repeats ln rn pairs (ltb 1020 (recordsSize rs)) _ _
       ∙ ap (cond (ltb 1020 (recordsSize rs)) (refusalLine ShortWork))
-      (text-either ln rn pairs (ltb 8192 (pairCount (sideSets Left rs) (sideSets Right rs))) _ _)
+      (text-either repeats ln rn pairs (ltb 8192 (pairCount (sideSets Left rs) (sideSets Right rs))) _ _)
 
 -- the text of a file of bytes
 pub listing-cases : (file : List ℕ) → ((i : ℕ) → getD file i 0 < 256)

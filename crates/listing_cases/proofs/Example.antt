@@ -1,4 +1,4 @@
--- Document 01's example of the program, computed: the whole text of its file.
+-- Document 01's example of the program, computed: the whole text of its file, with document 02's line of repeats.
 use mathlib.Core.Path.{_≡_, refl}
 use Prim.Native.Nat.{ℕ}
 use mathlib.Core.List.{List, [], _∷_, _++_}
@@ -16,8 +16,9 @@ use Rattle.join_spec.specs.Answer.{badSettings, joinTests, walkAnswer, joinAnsw
 use Rattle.tag_file.specs.Format.{valueFrom, bytesOf, tagBytes}
 use Rattle.tag_file.specs.Reading.{readAt, tagsAt}
 use Rattle.tag_file.specs.Records.{recordsFrom, insert, insertAll, allTags, itemsOf}
+use Rattle.tag_file.specs.Repeats.{repeatsIn}
 use Rattle.tag_file.specs.Loading.{fileFault, firstFault, faultOf, tooMany, endsFrom, join}
-use Rattle.text_lines.specs.Lines.{ascii, decimalFrom, decimal, refusedLine, countsLine, pairLine, pairLines}
+use Rattle.text_lines.specs.Lines.{ascii, decimalFrom, decimal, refusedLine, countsLine, repeatsLine, pairLine, pairLines}
 use Rattle.join_text.specs.JoinText.{joinText}
 use Rattle.listing.specs.Listing.{listing}
 
@@ -29,12 +30,12 @@ tag n = 0 ∷ 0 ∷ 0 ∷ 0 ∷ 0 ∷ 0 ∷ 0 ∷ 0 ∷ 0 ∷ 0 ∷ 0 ∷ n ∷ 
 abbrev file : List ℕ
 file = (0x4B ∷ 0x54 ∷ 0 ∷ 7 ∷ 2 ∷ []) ++ (tag 1 ++ tag 2) ++ (0x53 ∷ 0x4B ∷ 0 ∷ 9 ∷ 3 ∷ []) ++ (tag 2 ++ (tag 1 ++ tag 1))
 
-pub example-listing : listing file ≡ ascii "pairs 1 path 1 confirmed 0 checks 0 dropped 0 false 0\n7 9\n"
+pub example-listing : listing file ≡ ascii "pairs 1 path 1 confirmed 0 checks 0 dropped 0 false 0\nrepeats 0 1\n7 9\n"
 unfolding listing joinText joinAnswer joinTests walkAnswer badSettings setsTest wordsNeeded workTest rankTable pairsFrom rowFrom
     seen goesOn goesOnAt ending endingFrom isCandidate endingIn outcome total isPermutation ordered position signatureFrom
     setsFrom contained firstBadFrom badSet lastEnd fileFault firstFault faultOf tooMany readAt tagsAt recordsFrom valueFrom
     bytesOf tagBytes insert insertAll allTags itemsOf endsFrom join all any count sum keep memb range rising risingAfter distinct prefix
-    decimalFrom decimal refusedLine countsLine pairLine pairLines
+    repeatsIn decimalFrom decimal refusedLine countsLine repeatsLine pairLine pairLines
 example-listing = refl
 
 -- the same file one byte short is refused at its second record

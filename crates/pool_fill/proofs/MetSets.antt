@@ -18,13 +18,12 @@ use Rattle.tag_file.specs.Format.{tagAt}
 use Rattle.tag_file.specs.Reading.{pastTags, tagsAt}
 use Rattle.tag_file.specs.Records.{TagRecord, recordsAt, records, sameSide, ofSide, itemsOf, setsOfSide}
 use Rattle.tag_file.specs.Loading.{numberUsed, numbersOf, join}
-use Rattle.tag_file.proofs.RecordLaws.{same-side}
+use Rattle.tag_file.proofs.RecordLaws.{same-side, memb-tagsAt}
 use Rattle.tag_pooling.specs.Pooling.{sameSet, pooled}
 use Rattle.tag_pooling.proofs.OneMore.{used-alike}
 use Rattle.tag_index.specs.Index.{tableOf}
 use Rattle.tag_fill.specs.declared.Filled.{Filled}
 use Rattle.tag_fill.specs.Fill.{Unmarked, TagsKnown}
-use Rattle.tag_fill.proofs.Filling.{memb-tagsAt}
 use Rattle.right_slots.specs.Slots.{slotOf}
 use Rattle.right_slots.proofs.Counted.{slot-below}
 use Rattle.right_slots.proofs.Found.{FoundRight, found-right, met-right}

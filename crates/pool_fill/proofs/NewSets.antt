@@ -18,7 +18,7 @@ use Rattle.tag_pooling.proofs.OneMore.{used-keep}
 use Rattle.tag_index.specs.Index.{tableOf}
 use Rattle.tag_fill.specs.declared.Filled.{Filled}
 use Rattle.tag_fill.specs.Fill.{Unmarked, TagsKnown, RoomForOne, OneFilled}
-use Rattle.tag_fill.proofs.Filling.{memb-tagsAt}
+use Rattle.tag_file.proofs.RecordLaws.{memb-tagsAt}
 use Rattle.right_slots.proofs.Found.{missed-right}
 use Rattle.pool_fill.specs.Pool.{PoolFillReady}
 use Rattle.pool_fill.proofs.Laying.{Block}

@@ -18,13 +18,12 @@ use Rattle.tag_file.specs.Reading.{readAt, pastTags, tagsAt}
 use Rattle.tag_file.specs.Records.{TagRecord, recordsAt, records, sameSide, ofSide, itemsOf, setsOfSide}
 use Rattle.tag_file.specs.Loading.{numbersOf, join}
 use Rattle.tag_file.specs.declared.ReadAnswer.the-variants.{Record}
-use Rattle.tag_file.proofs.RecordLaws.{read-past, read-within, read-number, records-next}
+use Rattle.tag_file.proofs.RecordLaws.{memb-tagsAt, read-past, read-within, read-number, records-next}
 use Rattle.tag_file.proofs.FoundRecords.{found-number}
 use Rattle.tag_pooling.specs.Pooling.{unitedWith, pooled}
 use Rattle.tag_index.specs.Index.{tableOf}
 use Rattle.tag_fill.specs.declared.Filled.{Filled}
 use Rattle.tag_fill.specs.Fill.{Unmarked, TagsKnown}
-use Rattle.tag_fill.proofs.Filling.{memb-tagsAt}
 use Rattle.right_slots.specs.Slots.{slotOf, AtSlots}
 use Rattle.right_slots.proofs.Counted.{slot-below}
 use Rattle.right_slots.proofs.Found.{noted-member}

@@ -12,11 +12,13 @@ use Rattle.sets.specs.declared.Refusal.the-variants.{ShortOutput}
 use Rattle.sets.specs.declared.Tested.{Tested}
 use Rattle.sets.specs.declared.Tested.the-variants.{Passed, Failed}
 use Rattle.tag_file.specs.declared.Loaded.{Loaded}
+use Rattle.tag_file.specs.declared.Repeats.{Repeats}
 use Rattle.tag_file.specs.declared.LoadAnswer.{LoadAnswer}
 use Rattle.tag_file.specs.declared.LoadAnswer.the-variants as load
 use Rattle.tag_file.specs.Records.{records, tagTable}
+use Rattle.tag_file.specs.Repeats.{repeatTotals}
 use Rattle.tag_file.specs.Loading.{Lists, fileFault, filled, roomFor, totalsOf}
-use Rattle.tag_pooling.specs.Pooling.{pooledRecords, secondFault, firstOverlong, pooledAnswer, PooledCall}
+use Rattle.tag_pooling.specs.Pooling.{pooledRecords, pooledRepeats, secondFault, firstOverlong, pooledAnswer, PooledCall}
 use Rattle.tag_pooling.proofs.Answers.{answer-clears, answer-accepted}
 use Rattle.tag_scan.specs.Scan.{Limited, Taken, Scanned}
 use Rattle.load_lists.specs.Room.{hasRoom, AllCleared}
@@ -51,9 +53,9 @@ module _ (first second : List ℕ) (lent : Lists) where
         rightItems = rw (told, zeros) (z .right .items-zero);
       }
 
-  pub call-filled : {after : Lists} {answer : LoadAnswer} (total : Loaded) → answer ≡ pooledAnswer first second lent
-      → answer ≡ load.Loaded total → AllFilled (pooledRecords first second) lent after → PooledCall first second lent after answer
-  call-filled total is e f =
+  pub call-filled : {after : Lists} {answer : LoadAnswer} (total : Loaded) (repeats : Repeats) → answer ≡ pooledAnswer first second lent
+      → answer ≡ load.Loaded total repeats → AllFilled (pooledRecords first second) lent after → PooledCall first second lent after answer
+  call-filled total repeats is e f =
       let told = sym is ∙ e in
       record {
         answered = is;
@@ -68,26 +70,31 @@ module _ (first second : List ℕ) (lent : Lists) where
 
   -- ---- the first file
 
-  refused-fault : (t : Tested) (x : Loaded) (why : Refusal) → unless load.Refused t (load.Loaded x) ≡ load.Refused why → t ≡ Failed why
-  refused-fault Passed x why e = let z : _≡_ {A = ℕ} 0 1 = cc in absurd (omega arith)
-  refused-fault (Failed w) x why e = ap Failed cc
+  refused-fault : (t : Tested) (x : Loaded) (y : Repeats) (why : Refusal)
+      → unless load.Refused t (load.Loaded x y) ≡ load.Refused why → t ≡ Failed why
+  refused-fault Passed x y why e = let z : _≡_ {A = ℕ} 0 1 = cc in absurd (omega arith)
+  refused-fault (Failed w) x y why e = ap Failed cc
 
-  loaded-passed : (t : Tested) (x total : Loaded) → unless load.Refused t (load.Loaded x) ≡ load.Loaded total → (t ≡ Passed) × (total ≡ x)
-  loaded-passed Passed x total e = (refl, cc)
-  loaded-passed (Failed w) x total e = let z : _≡_ {A = ℕ} 0 1 = cc in absurd (omega arith)
+  loaded-passed : (t : Tested) (x total : Loaded) (y repeats : Repeats)
+      → unless load.Refused t (load.Loaded x y) ≡ load.Loaded total repeats → (t ≡ Passed) × (total ≡ x) × (repeats ≡ y)
+  loaded-passed Passed x total y repeats e = (refl, cc, cc)
+  loaded-passed (Failed w) x total y repeats e = let z : _≡_ {A = ℕ} 0 1 = cc in absurd (omega arith)
 
   pub first-refused : {heads tails order : List ℕ} {r : LoadAnswer} (why : Refusal) → Scanned first heads tails order r
       → r ≡ load.Refused why → r ≡ pooledAnswer first second lent
   first-refused why s e =
-      e ∙ sym (answer-fault why (refused-fault (fileFault first) (totalsOf (records first)) why (sym (s .answer) ∙ e)))
+      e ∙ sym (answer-fault why (refused-fault (fileFault first) (totalsOf (records first)) (repeatTotals (records first)) why
+      (sym (s .answer) ∙ e)))
 
-  pub first-taken : {heads tails order : List ℕ} {r : LoadAnswer} (total : Loaded) → Scanned first heads tails order r
-      → r ≡ load.Loaded total → FirstTaken first total heads tails order
-  first-taken {heads} {tails} {order} total s e =
-      let parts = loaded-passed (fileFault first) (totalsOf (records first)) total (sym (s .answer) ∙ e) in
+  pub first-taken : {heads tails order : List ℕ} {r : LoadAnswer} (total : Loaded) (repeats : Repeats)
+      → Scanned first heads tails order r → r ≡ load.Loaded total repeats → FirstTaken first total repeats heads tails order
+  first-taken {heads} {tails} {order} total repeats s e =
+      let parts =
+      loaded-passed (fileFault first) (totalsOf (records first)) total (repeatTotals (records first)) repeats (sym (s .answer) ∙ e) in
       record {
         clean = parts .0;
         taken = subst (λ (t : Loaded). Taken (records first) t heads tails order) (sym (parts .1)) (s .taken (parts .0));
+        repeated = parts .2;
       }
 
   -- ---- the second file
@@ -95,9 +102,9 @@ module _ (first second : List ℕ) (lent : Lists) where
   module _ {heads tails order used slots : List ℕ} {r : Second} (clean : fileFault first ≡ Passed)
       (s : SecondScanned first second heads tails order used slots r) where
     pub second-limited : LimitedIf (r .answer)
-    second-limited t e =
+    second-limited t repeats e =
         let parts = loaded-passed (secondFault (records first) (length first) second) (totalsOf (pooledRecords first second)) t
-        (sym (s .answer) ∙ e) in
+        (pooledRepeats (records first) (records second)) repeats (sym (s .answer) ∙ e) in
         subst (λ (q : Loaded). Limited q) (sym (parts .1)) (s .taken (parts .0) .limited)
 
     abbrev roomOf : LoadAnswer → Tested → LoadAnswer
@@ -116,18 +123,19 @@ module _ (first second : List ℕ) (lent : Lists) where
             ap (λ (a : LoadAnswer). roomOf a (r .long)) is ∙ rw (clean, e)
         by-fault Passed e =
             let totals = totalsOf (pooledRecords first second) in
-            let is : r .answer ≡ load.Loaded totals = s .answer ∙ rw e in
+            let repeats = pooledRepeats (records first) (records second) in
+            let is : r .answer ≡ load.Loaded totals repeats = s .answer ∙ rw e in
             ap₂ roomOf is (s .long e)
             ∙ ap (λ (b : Bool). unless load.Refused (refuseIf (not b) ShortOutput)
-            (unless load.Refused (firstOverlong (records first) (length first) [] (records second)) (load.Loaded totals)))
+            (unless load.Refused (firstOverlong (records first) (length first) [] (records second)) (load.Loaded totals repeats)))
             (room-counted (pooledRecords first second) lent)
             ∙ rw (clean, e)
 
-    pub pool-fillable : {counts : List ℕ} (total : Loaded) → NumbersNoted (records first) used → BlocksCounted used counts
-        → pooledAnswer first second lent ≡ load.Loaded total
+    pub pool-fillable : {counts : List ℕ} (total : Loaded) (repeats : Repeats) → NumbersNoted (records first) used
+        → BlocksCounted used counts → pooledAnswer first second lent ≡ load.Loaded total repeats
         → PoolFillable first second heads tails order (total .tags) used counts slots lent
-    pool-fillable total noted counted e =
-        let a = answer-accepted first second lent total e in
+    pool-fillable total repeats noted counted e =
+        let a = answer-accepted first second lent total repeats e in
         record {
           clean = clean;
           clean-second = a .clean-second;
@@ -143,7 +151,7 @@ module _ (first second : List ℕ) (lent : Lists) where
 -- ---- the answer by the lengths of the lists, case by case
 
 module _ (answer : LoadAnswer) (long : Tested) (tags leftNumbers leftEnds leftItems rightNumbers rightEnds rightItems : ℕ) {t : Loaded}
-    (is : answer ≡ load.Loaded t) {b : Bool}
+    {repeats : Repeats} (is : answer ≡ load.Loaded t repeats) {b : Bool}
     (told : b ≡ hasRoom t tags leftNumbers leftEnds leftItems rightNumbers rightEnds rightItems) where
   abbrev here : LoadAnswer
   here = decided answer long tags leftNumbers leftEnds leftItems rightNumbers rightEnds rightItems
@@ -160,5 +168,5 @@ module _ (answer : LoadAnswer) (long : Tested) (tags leftNumbers leftEnds leftIt
     pub decided-long : {why : Refusal} → long ≡ Failed why → load.Refused why ≡ here
     decided-long e = rw (is, room-is, e)
 
-    pub decided-loaded : long ≡ Passed → load.Loaded t ≡ here
+    pub decided-loaded : long ≡ Passed → load.Loaded t repeats ≡ here
     decided-loaded e = rw (is, room-is, e)

@@ -14,6 +14,7 @@ use sets::Side;
 use sets::Tested;
 use tag_file::LoadAnswer;
 use tag_file::Loaded;
+use tag_file::Repeats;
 use tag_fill::fill_side;
 use tag_fill::fill_tags;
 use tag_index::HINT_SLOTS;
@@ -48,7 +49,7 @@ fn decide(
 {
     let answer = second.answer;
     let long = second.long;
-    let LoadAnswer::Loaded(total) = answer else {
+    let LoadAnswer::Loaded(total, repeats) = answer else {
         return answer;
     };
     if !has_room(
@@ -65,7 +66,7 @@ fn decide(
     }
     match long {
         Tested::Failed(why) => LoadAnswer::Refused(why),
-        Tested::Passed => LoadAnswer::Loaded(total),
+        Tested::Passed => LoadAnswer::Loaded(total, repeats),
     }
 }
 
@@ -167,7 +168,7 @@ fn write_lists(
         (now («left_numbers» .exit)) (now («left_ends» .exit)) (now («left_items» .exit))
         (now («right_numbers» .exit)) (now («right_ends» .exit)) (now («right_items» .exit))) answer ⌝ }
 {
-    let LoadAnswer::Loaded(total) = answer else {
+    let LoadAnswer::Loaded(total, _) = answer else {
         clear_lists(
             tags,
             left_numbers,
@@ -206,6 +207,7 @@ fn pool_second(
     first: &[u8],
     second: &[u8],
     total: Loaded,
+    repeats: Repeats,
     heads: &mut [usize; INDEX_ROOM],
     tails: &mut [u32; INDEX_ROOM],
     order: &mut [u16; INDEX_ROOM],
@@ -218,7 +220,7 @@ fn pool_second(
     right_ends: &mut [u32],
     right_items: &mut [u16],
 ) -> LoadAnswer
-    requires { ⌜ FirstTaken (now first) total (now heads) (now tails) (now order) ⌝ }
+    requires { ⌜ FirstTaken (now first) total repeats (now heads) (now tails) (now order) ⌝ }
     ensures { λ r. ⌜ PooledCall (now (first .entry)) (now (second .entry))
         (listsOf (now (tags .entry))
         (now («left_numbers» .entry)) (now («left_ends» .entry)) (now («left_items» .entry))
@@ -235,6 +237,7 @@ fn pool_second(
         first,
         second,
         total,
+        repeats,
         &used,
         &counts,
         &mut slots,
@@ -317,7 +320,7 @@ pub fn load_pooled(
     let mut order = [0u16; INDEX_ROOM];
     let mut hints = [NO_ID; HINT_SLOTS];
     let answer = scan_first(first, &mut heads, &mut tails, &mut order, &mut hints);
-    let LoadAnswer::Loaded(total) = answer else {
+    let LoadAnswer::Loaded(total, repeats) = answer else {
         clear_lists(
             tags,
             left_numbers,
@@ -333,6 +336,7 @@ pub fn load_pooled(
         first,
         second,
         total,
+        repeats,
         &mut heads,
         &mut tails,
         &mut order,

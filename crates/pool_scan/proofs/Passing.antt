@@ -1,8 +1,9 @@
 -- The pass over the second file: its invariant over the records seen so far, with its start, its ends and its steps.
-use Prim.Native.Nat.{ℕ, _<_, _≤_}
+use Prim.Native.Nat.{ℕ, _+_, _-_, _<_, _≤_}
 use mathlib.Core.Path.{_≡_, refl, sym, ap, ap₂, subst, _∙_}
 use mathlib.Core.List.{List, [], _∷_, _++_, append-nil, append-assoc}
 use mathlib.Core.Bool.{Bool, true, false, not, _&&_}
+use native.Mathlib.Nat.{add-zero}
 use native.Mathlib.Omega.{arith}
 use borrow.Author.Tests.{eq-eqb, ne-eqb}
 use lib.Dec.{eqb, ltb}
@@ -18,13 +19,17 @@ use Rattle.sets.specs.declared.Refusal.the-variants.{Malformed, NumberUsed, Too
 use Rattle.sets.specs.declared.Tested.{Tested}
 use Rattle.sets.specs.declared.Tested.the-variants.{Passed, Failed}
 use Rattle.tag_file.specs.declared.Loaded.{Loaded}
+use Rattle.tag_file.specs.declared.Repeats.{Repeats}
 use Rattle.tag_file.specs.declared.LoadAnswer.{LoadAnswer}
 use Rattle.tag_file.specs.declared.LoadAnswer.the-variants as load
 use Rattle.tag_file.specs.declared.ReadAnswer.the-variants.{Record}
 use Rattle.tag_file.specs.Reading.{readAt, tagsAt}
 use Rattle.tag_file.specs.Records.{TagRecord, totalLength, recordsAt, records, sameSide, allTags, collapse}
+use Rattle.tag_file.specs.Repeats.{repeatsIn, repeatsOf, repeatTotals}
 use Rattle.tag_file.specs.Loading.{numberUsed, tooMany, totalsOf}
-use Rattle.tag_file.proofs.RecordLaws.{length-tagsAt, read-within, read-length, records-next, totalLength-last}
+use Rattle.tag_file.proofs.RecordLaws.{length-tagsAt, read-within, read-length, records-next, totalLength-last, totalLength-inside}
+use Rattle.tag_file.proofs.RepeatLaws.{distinct-and-repeats, repeats-are, repeats-bound, repeats-same, repeats-other}
+use Rattle.tag_pooling.specs.Pooling.{pooledRepeats}
 use Rattle.tag_pooling.specs.Pooling.{sameSet, pooled, placeAfter, secondFaultOf, firstSecondFault, secondFault, isOverlong, firstOverlong}
 use Rattle.tag_pooling.proofs.OneMore.{pooled-none, pooled-left}
 use Rattle.tag_pooling.proofs.Sides.{right-apart}
@@ -44,7 +49,7 @@ lastFault first second =
 abbrev pub overOf : Loaded → Bool
 overOf t = passes (t .«right_sets») (t .«right_entries») (t .tags)
 
-pub record Passing (first second noted used heads tails order slots : List ℕ) (total : Loaded) (long : Tested) (at : ℕ)
+pub record Passing (first second noted used heads tails order slots : List ℕ) (total : Loaded) (repeats : ℕ) (long : Tested) (at : ℕ)
     : Type 0 where
   pub seen : List TagRecord
   pub split : records second ≡ seen ++ recordsAt second at
@@ -56,14 +61,15 @@ pub record Passing (first second noted used heads tails order slots : List ℕ) 
       ≡ unless Failed long (firstOverlong (records first) (length first) seen (recordsAt second at))
   pub numbers : RightNoted noted seen
   pub taken : Taken (pooled (records first) seen) total heads tails order
+  pub repeated : repeats ≡ repeatsOf Right (records first) + repeatsOf Right seen
   pub size : length slots ≡ maxSets
   pub words : AtSlots (slotWord seen) (records first) used slots
 
-pub passing-start : {first second used counts heads tails order slots noted : List ℕ} {total : Loaded}
-    → SecondReady first total heads tails order used counts slots → RightNoted noted []
-    → Passing first second noted used heads tails order slots total Passed 0
-unfolding secondFault sum
-passing-start {first} {second} {used} {counts} {heads} {tails} {order} {slots} {noted} {total} r empty =
+pub passing-start : {first second used counts heads tails order slots noted : List ℕ} {total : Loaded} {found : Repeats}
+    → SecondReady first total found heads tails order used counts slots → RightNoted noted []
+    → Passing first second noted used heads tails order slots total (found .right) Passed 0
+unfolding secondFault sum keep
+passing-start {first} {second} {used} {counts} {heads} {tails} {order} {slots} {noted} {total} {found} r empty =
     record {
       seen = [];
       split = refl;
@@ -73,6 +79,7 @@ passing-start {first} {second} {used} {counts} {heads} {tails} {order} {slots} {
       longest = refl;
       numbers = empty;
       taken = subst (λ (rs : List TagRecord). Taken rs total heads tails order) (sym (pooled-none (records first))) (r .taken);
+      repeated = ap (λ (q : Repeats). q .right) (r .repeated) ∙ sym (add-zero (repeatsOf Right (records first)));
       size = r .slotted .size;
       words = λ b q a e side. r .slotted .places b q a e side ∙ sym (word-start b q);
     }
@@ -103,8 +110,8 @@ unless-passed : (a : Tested) → unless Failed a Passed ≡ a
 unless-passed Passed = refl
 unless-passed (Failed w) = refl
 
-module _ {first second noted used heads tails order slots : List ℕ} {total : Loaded} {long : Tested} {at : ℕ}
-    (p : Passing first second noted used heads tails order slots total long at) where
+module _ {first second noted used heads tails order slots : List ℕ} {total : Loaded} {repeats : ℕ} {long : Tested} {at : ℕ}
+    (p : Passing first second noted used heads tails order slots total repeats long at) where
   abbrev A : List TagRecord
   A = records first
 
@@ -126,14 +133,22 @@ module _ {first second noted used heads tails order slots : List ℕ} {total : L
         ∙ ap (λ (k : ℕ). refuseIf (not (eqb k (length second))) (Malformed (placeAfter base k))) at-end
 
     -- at the file's end
-    pub passing-whole : {r : Second} → at ≡ length second → r .answer ≡ load.Loaded total → r .long ≡ long
+    pub passing-whole : {r : Second} {found : Repeats} → at ≡ length second → found ≡ repeatTotals A
+        → r .answer ≡ load.Loaded total (record { left = found .left; right = repeats }) → r .long ≡ long
         → SecondScanned first second heads tails order used slots r
     unfolding firstOverlong
-    passing-whole {r} end answer told =
+    passing-whole {r} {found} end before answer told =
         let clean : secondFault A base second ≡ Passed = last-is ∙ rw (eq-eqb at (length second) end) in
+        let lefts : found .left ≡ repeatsOf Left A = ap (λ (q : Repeats). q .left) before in
+        let rights : repeats ≡ repeatsOf Right A + repeatsOf Right (records second) =
+        p .repeated ∙ ap (λ (rs : List TagRecord). repeatsOf Right A + repeatsOf Right rs) (sym all-seen)
+        in
+        let both : _≡_ {A = Repeats} (record { left = found .left; right = repeats }) (pooledRepeats A (records second)) =
+        rw (lefts, rights)
+        in
         record {
           answer = answer
-              ∙ ap load.Loaded (p .taken .counts ∙ ap (λ (rs : List TagRecord). totalsOf (pooled A rs)) (sym all-seen))
+              ∙ ap₂ load.Loaded (p .taken .counts ∙ ap (λ (rs : List TagRecord). totalsOf (pooled A rs)) (sym all-seen)) both
               ∙ rw clean;
           long = λ n. told ∙ sym (unless-passed long)
               ∙ ap (λ (l : List TagRecord). unless Failed long (firstOverlong A base (p .seen) l)) (sym stop) ∙ sym (p .longest);
@@ -184,8 +199,31 @@ module _ {first second noted used heads tails order slots : List ℕ} {total : L
     place-next : next ≡ totalLength (p .seen ++ (this ∷ []))
     place-next = omega (arith, totalLength-last (p .seen) this, p .place, length-tagsAt c second q, read-length second at e)
 
+    -- its repeats are those of its tags that are not distinct
+    here-repeats : {fresh : ℕ} → fresh ≡ length (collapse (tagsAt c second q)) → c - fresh ≡ repeatsIn (tagsAt c second q)
+    here-repeats {fresh} distinct = repeats-are (tagsAt c second q) c fresh (length-tagsAt c second q) distinct
+
+    -- and lie in the file: with those before there are fewer than bytes in both
+    pub passing-repeats : {fresh : ℕ} → fresh ≡ length (collapse (tagsAt c second q)) → length first < 18446744073709551616
+        → length second < 18446744073709551616 → (fresh ≤ c) × (repeats + (c - fresh) < 18446744073709551616)
+    passing-repeats {fresh} distinct fits-first fits-second = (
+      omega (arith, distinct, distinct-and-repeats (tagsAt c second q), length-tagsAt c second q),
+      omega (
+        arith,
+        fits-first,
+        fits-second,
+        p .repeated,
+        p .place,
+        repeats-bound Right A,
+        totalLength-inside first,
+        repeats-bound Right (p .seen),
+        read-length second at e,
+        read-within second at e,
+      ),
+    )
+
     -- a left set's: it is passed over
-    pub passing-left : sameSide Right side ≡ false → Passing first second noted used heads tails order slots total long next
+    pub passing-left : sameSide Right side ≡ false → Passing first second noted used heads tails order slots total repeats long next
     unfolding secondFaultOf
     passing-left left =
         record {
@@ -197,6 +235,7 @@ module _ {first second noted used heads tails order slots : List ℕ} {total : L
           longest = long-here ∙ rw (left, unless-passed long);
           numbers = noted-left (p .numbers) this left;
           taken = subst (λ (rs : List TagRecord). Taken rs total heads tails order) (sym (pooled-left A (p .seen) this left)) (p .taken);
+          repeated = p .repeated ∙ ap (λ (k : ℕ). repeatsOf Right A + k) (sym (repeats-other Right (p .seen) this left));
           size = p .size;
           words = λ b r a is right.
               let apart : sameSet r this ≡ false = rw (right-apart (r .side) side right left) in
@@ -225,14 +264,14 @@ module _ {first second noted used heads tails order slots : List ℕ} {total : L
             second-refused (TooMany (placeAfter base at))
             (here ∙ rw (right, sym tells ∙ free, sym (one .over) ∙ t, ← p .place)) size answer
 
-        pub passing-next : {now-noted own : List ℕ} {all : ℕ} {now-long : Tested} → overOf now-total ≡ false
-            → Inserted noted n now-noted
+        pub passing-next : {now-noted own : List ℕ} {all fresh now-repeats : ℕ} {now-long : Tested} → overOf now-total ≡ false
+            → Inserted noted n now-noted → fresh ≡ length (collapse (tagsAt c second q)) → now-repeats ≡ repeats + (c - fresh)
             → AtSlots (slotWord (p .seen ++ (this ∷ []))) A used now-slots
             → allTags (keep (sameSet this) A) ≡ own → all ≡ length (collapse (own ++ tagsAt c second q))
             → now-long ≡ unless Failed long (refuseIf (ltb maxSetLength all) (Overlong (placeAfter base at)))
-            → Passing first second now-noted used now-heads now-tails now-order now-slots now-total now-long next
+            → Passing first second now-noted used now-heads now-tails now-order now-slots now-total now-repeats now-long next
         unfolding secondFaultOf
-        passing-next {now-noted} {own} {all} {now-long} few note words is counted told =
+        passing-next {now-noted} {own} {all} {fresh} {now-repeats} {now-long} few note distinct rose words is counted told =
             record {
               seen = p .seen ++ (this ∷ []);
               split = split-next;
@@ -246,6 +285,7 @@ module _ {first second noted used heads tails order slots : List ℕ} {total : L
                   ∙ sym told);
               numbers = noted-right (p .numbers) this right note;
               taken = one .taken (sym (one .over) ∙ few);
+              repeated = omega (arith, rose, p .repeated, here-repeats distinct, repeats-same Right (p .seen) this right);
               size = size;
               words = words;
             }

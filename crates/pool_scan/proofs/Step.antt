@@ -17,6 +17,7 @@ use Rattle.sets.specs.declared.Side.{Side}
 use Rattle.sets.specs.declared.Side.the-variants.{Right}
 use Rattle.sets.specs.declared.Tested.{Tested}
 use Rattle.tag_file.specs.declared.Loaded.{Loaded}
+use Rattle.tag_file.specs.declared.Repeats.{Repeats}
 use Rattle.tag_file.specs.declared.ReadAnswer.the-variants.{Record}
 use Rattle.tag_file.specs.Reading.{readAt, pastTags, tagsAt}
 use Rattle.tag_file.specs.Records.{TagRecord, totalLength, records, sameSide, allTags, collapse, tagTable}
@@ -48,11 +49,12 @@ pub record Stepped (first : List ℕ) (seen : List TagRecord) (s : TagRecord) (u
   pub own : List ℕ
   pub is : allTags (keep (sameSet s) (records first)) ≡ own
   pub counted : u .all ≡ length (collapse (own ++ s .tags))
+  pub distinct : u .fresh ≡ length (collapse (s .tags))
 
-module _ {first second used counts heads₀ tails₀ order₀ slots₀ : List ℕ} {total₀ : Loaded}
-    (ready : SecondReady first total₀ heads₀ tails₀ order₀ used counts slots₀) (byte : (i : ℕ) → getD first i 0 < 256)
-    {noted heads tails order slots : List ℕ} {total : Loaded} {long : Tested} {at : ℕ}
-    (p : Passing first second noted used heads tails order slots total long at)
+module _ {first second used counts heads₀ tails₀ order₀ slots₀ : List ℕ} {total₀ : Loaded} {found₀ : Repeats}
+    (ready : SecondReady first total₀ found₀ heads₀ tails₀ order₀ used counts slots₀) (byte : (i : ℕ) → getD first i 0 < 256)
+    {noted heads tails order slots : List ℕ} {total : Loaded} {repeats : ℕ} {long : Tested} {at : ℕ}
+    (p : Passing first second noted used heads tails order slots total repeats long at)
     {side : Side} {n c q next : ℕ} (e : readAt second at ≡ Record side n c q next)
     (right : sameSide Right side ≡ true) (small : n < halfWords) (free : member noted n ≡ false) where
   abbrev s : TagRecord
@@ -163,6 +165,7 @@ module _ {first second used counts heads₀ tails₀ order₀ slots₀ : List �
           own = [];
           is = own-none A s unused;
           counted = t .alone out .all-counted;
+          distinct = t .alone out .new-counted;
         }
       where
         apart : (b : List TagRecord) (w : TagRecord) (a : List TagRecord) → A ≡ b ++ (w ∷ a) → numberUsed A s ≡ false → sameSet w s ≡ false
@@ -189,6 +192,7 @@ module _ {first second used counts heads₀ tails₀ order₀ slots₀ : List �
           own = w .this .tags;
           is = own-one A s (w .this) (only met);
           counted = i .all-counted;
+          distinct = i .new-counted;
         }
       where
         written : (met : member used n ≡ true) (w : FoundRight A n)

@@ -10,11 +10,13 @@ use Rattle.sets.specs.Refusals.{unless}
 use Rattle.sets.specs.declared.Tested.{Tested}
 use Rattle.sets.specs.declared.Tested.the-variants.{Passed}
 use Rattle.tag_file.specs.declared.Loaded.{Loaded}
+use Rattle.tag_file.specs.declared.Repeats.{Repeats}
 use Rattle.tag_file.specs.declared.LoadAnswer.{LoadAnswer}
 use Rattle.tag_file.specs.declared.LoadAnswer.the-variants as load
 use Rattle.tag_file.specs.Records.{records}
+use Rattle.tag_file.specs.Repeats.{repeatTotals}
 use Rattle.tag_file.specs.Loading.{totalsOf}
-use Rattle.tag_pooling.specs.Pooling.{pooled, secondFault, firstOverlong}
+use Rattle.tag_pooling.specs.Pooling.{pooled, pooledRepeats, secondFault, firstOverlong}
 use Rattle.tag_scan.specs.Scan.{Taken}
 use Rattle.right_slots.specs.Slots.{AtSlots, Slottable, Slotted, slotWord}
 use Rattle.pool_union.specs.declared.United.{United}
@@ -39,18 +41,20 @@ unitedBy t u false =
       tags = u .tags;
     }
 
--- the first file was taken in, and its right sets have slots
-pub record SecondReady (first : List ℕ) (total : Loaded) (heads tails order used counts slots : List ℕ) : Type 0 where
+-- the first file was taken in, its repeats are counted, and its right sets have slots
+pub record SecondReady (first : List ℕ) (total : Loaded) (repeats : Repeats) (heads tails order used counts slots : List ℕ)
+    : Type 0 where
   pub taken : Taken (records first) total heads tails order
+  pub repeated : repeats ≡ repeatTotals (records first)
   pub slottable : Slottable first
   pub slotted : Slotted first used counts slots
 
--- the second file: its first fault, or the counts of the pooled records; where it has none, they are taken in, the slots have the lengths
+-- the second file: its first fault, or the counts of the pooled records and the repeats of both files; where it has none, they are taken in, the slots have the lengths
 -- of the pooled sets, and the first record whose pooled set is too long is known
 pub record SecondScanned (first second heads tails order used slots : List ℕ) (r : Second) : Type 0 where
   pub answer : r .answer
       ≡ unless load.Refused (secondFault (records first) (length first) second)
-      (load.Loaded (totalsOf (pooled (records first) (records second))))
+      (load.Loaded (totalsOf (pooled (records first) (records second))) (pooledRepeats (records first) (records second)))
   pub long : secondFault (records first) (length first) second ≡ Passed
       → r .long ≡ firstOverlong (records first) (length first) [] (records second)
   pub taken : secondFault (records first) (length first) second ≡ Passed

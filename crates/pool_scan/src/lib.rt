@@ -1,5 +1,6 @@
-// The first pass over the second of two pooled files: the first record at fault, or the counts of the pooled records and the index of
-// their tags. It goes on from the counts and the index of the first file. The tags of a pooled set are counted as a union.
+// The first pass over the second of two pooled files: the first record at fault, or the counts of the pooled records, the repeats of both
+// files and the index of their tags. It goes on from the counts, the repeats and the index of the first file. The tags of a pooled set are
+// counted as a union; its repeats by the second file's record alone.
 use pool_union::United;
 use pool_union::unite;
 use right_slots::NUMBER_WORDS;
@@ -11,6 +12,7 @@ use std::num::wrapping_add_usize;
 use tag_file::LoadAnswer;
 use tag_file::Loaded;
 use tag_file::ReadAnswer;
+use tag_file::Repeats;
 use tag_file::is_side;
 use tag_file::read_record;
 use tag_index::HINT_SLOTS;
@@ -84,11 +86,12 @@ fn first_long(before: Tested, all: usize, place: usize) -> Tested
     }
 }
 
-// The pass over the second file, from the counts of the first.
+// The pass over the second file, from the counts and the repeats of the first.
 pub fn scan_second(
     first: &[u8],
     second: &[u8],
     before: Loaded,
+    found: Repeats,
     used: &[u64],
     counts: &[u16],
     slots: &mut [u32],
@@ -97,12 +100,13 @@ pub fn scan_second(
     order: &mut [u16; INDEX_ROOM],
     hints: &mut [u16; HINT_SLOTS],
 ) -> Second
-    requires { ⌜ SecondReady (now first) before (now heads) (now tails) (now order) (now used) (now counts) (now slots) ⌝ }
+    requires { ⌜ SecondReady (now first) before found (now heads) (now tails) (now order) (now used) (now counts) (now slots) ⌝ }
     ensures { λ r. ⌜ SecondScanned (now (first .entry)) (now (second .entry)) (now (heads .exit)) (now (tails .exit))
         (now (order .exit)) (now (used .entry)) (now (slots .exit)) r ⌝ }
 {
     let mut noted = [0u64; NUMBER_WORDS];
     let mut total = before;
+    let mut repeats = found.right;
     let mut long = Tested::Passed;
     let mut at = 0;
     loop {
@@ -117,8 +121,12 @@ pub fn scan_second(
         } = answer
         else {
             if at == second.len() {
+                let both = Repeats {
+                    left: found.left,
+                    right: repeats,
+                };
                 return Second {
-                    answer: LoadAnswer::Loaded(total),
+                    answer: LoadAnswer::Loaded(total, both),
                     long,
                 };
             }
@@ -157,6 +165,7 @@ pub fn scan_second(
                     long,
                 };
             }
+            repeats = repeats + (count - united.fresh);
             long = first_long(long, united.all, place);
         }
         at = next;

@@ -61,14 +61,15 @@ module _ {heads tails order : List ℕ} {n : ℕ} (i : IndexReady heads tails n 
     added-few =
         omega (arith, a .adding .counted, length-insertAll-bound [] (tagsAt count file start), length-tagsAt count file start)
 
-    pub taken-alone : {u : United} → u .tags ≡ tags → u .own ≡ 0 → u .all ≡ fresh
+    pub taken-alone : {u : United} → u .tags ≡ tags → u .own ≡ 0 → u .fresh ≡ fresh → u .all ≡ fresh
         → TakenIn [] (tagsAt count file start) heads tails n order u now-heads now-tails now-order
     unfolding insertAll
-    taken-alone {u} is none all =
+    taken-alone {u} is none new all =
         record {
           sorted = subst (λ (k : ℕ). Sorted now-heads now-tails k now-order) (sym is) (a .adding .sorted);
           table = ap (λ (k : ℕ). tableOf now-heads now-tails k now-order) is ∙ a .table;
           own-counted = none;
+          new-counted = new ∙ a .adding .counted;
           all-counted = all ∙ a .adding .counted;
           less = omega (arith, none);
           few = omega (arith, all, added-few);
@@ -106,14 +107,16 @@ module _ {heads tails order : List ℕ} {n : ℕ} (i : IndexReady heads tails n 
               added-few,
             )
 
-        pub taken-both : {u : United} → u .tags ≡ tags₂ → u .own ≡ fresh → u .all ≡ fresh₂
+        pub taken-both : {u : United} → u .tags ≡ tags₂ → u .own ≡ fresh → u .fresh ≡ length (collapse (tagsAt count₂ second start₂))
+            → u .all ≡ fresh₂
             → TakenIn (tagsAt count file start) (tagsAt count₂ second start₂) heads tails n order u late-heads late-tails late-order
-        taken-both {u} is own all =
+        taken-both {u} is own new all =
             record {
               sorted = subst (λ (k : ℕ). Sorted late-heads late-tails k late-order) (sym is) (b .adding .sorted);
               table = ap (λ (k : ℕ). tableOf late-heads late-tails k late-order) is ∙ b .table
                   ∙ ap (λ (l : List ℕ). insertAll l (tagsAt count₂ second start₂)) same-table;
               own-counted = own ∙ a .adding .counted;
+              new-counted = new;
               all-counted = all ∙ b .adding .counted;
               less = omega (
                 arith,

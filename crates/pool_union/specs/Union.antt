@@ -57,6 +57,7 @@ pub record TakenIn (own new heads tails : List ℕ) (n : ℕ) (order : List ℕ)
   pub sorted : Sorted now-heads now-tails (r .tags) now-order
   pub table : tableOf now-heads now-tails (r .tags) now-order ≡ insertAll (tableOf heads tails n order) new
   pub own-counted : r .own ≡ length (collapse own)
+  pub new-counted : r .fresh ≡ length (collapse new)
   pub all-counted : r .all ≡ length (collapse (own ++ new))
   pub less : r .own ≤ r .all
   pub few : r .all ≤ maxSetLength + maxSetLength

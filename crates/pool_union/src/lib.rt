@@ -9,6 +9,7 @@ use tag_index::Added;
 use tag_index::HINT_SLOTS;
 use tag_index::INDEX_ROOM;
 use tag_index::SEEN_WORDS;
+use tag_index::add_beside;
 use tag_index::add_tags;
 ghost use mathlib.Core.Path.{_≡_};
 ghost use mathlib.Core.List.{[]};
@@ -20,10 +21,11 @@ ghost use Rattle.pool_union.specs.Union.{RecordThere, KnownThere, IndexR
 ghost use Rattle.pool_union.specs.Union.{UniteReady, Taking};
 
 // The tags of a set of the second file: how many the index has with them, how many distinct ones the first file's set of its number had,
-// how many both have together, and whether there is one.
+// how many the second's record has, how many both have together, and whether there is one.
 pub struct United {
     pub tags: usize,
     pub own: usize,
+    pub fresh: usize,
     pub all: usize,
     pub met: bool,
 }
@@ -93,6 +95,7 @@ fn add_alone(
     United {
         tags: added.tags,
         own: 0,
+        fresh: added.fresh,
         all: added.fresh,
         met: false,
     }
@@ -120,7 +123,7 @@ fn add_both(
 {
     let mut seen = [0u64; SEEN_WORDS];
     let own = add_first(first, at, heads, tails, order, &mut seen, hints, n);
-    let both = add_tags(
+    let both = add_beside(
         second,
         heads,
         tails,
@@ -134,6 +137,7 @@ fn add_both(
     United {
         tags: both.tags,
         own: own.fresh,
+        fresh: both.own,
         all: both.fresh,
         met: true,
     }

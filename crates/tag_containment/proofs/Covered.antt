@@ -17,6 +17,7 @@ use Rattle.tag_file.specs.Reading.{marked, wholeAt, recordAt, readAt, tagsAt}
 use Rattle.tag_file.specs.Records.{onward, recordsFrom, totalLength, records}
 use Rattle.tag_file.specs.Loading.{Lists, refusalOf, fileFault, LoadCall}
 use Rattle.tag_file.specs.declared.Loaded.{Loaded}
+use Rattle.tag_file.specs.declared.Repeats.{Repeats}
 use Rattle.tag_file.specs.declared.LoadAnswer.the-variants as load
 use Rattle.tag_file.specs.declared.ReadAnswer.{ReadAnswer}
 use Rattle.tag_file.specs.declared.ReadAnswer.the-variants.{Record, NoMore, Refused}
@@ -115,6 +116,7 @@ module _ (file : List ℕ) (clear : fileFault file ≡ Passed) where
   records-cover = end-only file (totalLength (records file)) reading-ends
 
 -- the same of a load that is accepted
-pub load-covers : (file : List ℕ) {before after : Lists} {loaded : Loaded} → LoadCall file before after (load.Loaded loaded)
-    → totalLength (records file) ≡ length file
-load-covers file {before} {after} {loaded} call = records-cover file (accepted file before loaded (sym (call .answered)) .clear)
+pub load-covers : (file : List ℕ) {before after : Lists} {loaded : Loaded} {repeats : Repeats}
+    → LoadCall file before after (load.Loaded loaded repeats) → totalLength (records file) ≡ length file
+load-covers file {before} {after} {loaded} {repeats} call =
+    records-cover file (accepted file before loaded repeats (sym (call .answered)) .clear)

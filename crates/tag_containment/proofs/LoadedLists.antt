@@ -1,6 +1,6 @@
 -- What lists hold that records filled: each set is the items of the record at its place, each number that record's, and the tag
--- table rises as bytes. Then of a load that is accepted, by what its contract says of a call, with the counts, and no number
--- twice on a side.
+-- table rises as bytes. Then of a load that is accepted, by what its contract says of a call, with the counts, the repeats, and no
+-- number twice on a side.
 use mathlib.Core.Path.{_≡_, refl, sym, ap, _∙_}
 use Prim.Native.Nat.{ℕ, _+_, _<_}
 use mathlib.Core.List.{List, [], _∷_, _++_, append-assoc}
@@ -15,10 +15,12 @@ use Rattle.sets.specs.declared.Side.{Side}
 use Rattle.sets.specs.declared.Side.the-variants.{Left, Right}
 use Rattle.inputs.specs.Input.{Input, inputOf, leftSets, rightSets}
 use Rattle.tag_file.specs.declared.Loaded.{Loaded}
+use Rattle.tag_file.specs.declared.Repeats.{Repeats}
 use Rattle.tag_file.specs.declared.LoadAnswer.the-variants as load
 use Rattle.tag_file.specs.Records.{TagRecord, records, ofSide, allTags, tagTable, setsOfSide}
+use Rattle.tag_file.specs.Repeats.{repeatTotals}
 use Rattle.tag_file.specs.Loading.{Lists, numbersOf, endsFrom, join, filled, totalsOf, loadAnswer, LoadCall}
-use Rattle.tag_file.proofs.AnswerLaws.{accepted, call-lists}
+use Rattle.tag_file.proofs.AnswerLaws.{LoadAccepted, accepted, call-lists}
 use Rattle.tag_file.proofs.FaultFree.{file-free}
 use Rattle.tag_file.proofs.Tables.{rising-collapse}
 use Rattle.tag_round_trip.specs.Trips.{partsOf, Fills}
@@ -116,15 +118,23 @@ module _ {rs : List TagRecord} {loaded : Loaded} {got : Lists} (fills : Fills rs
 
 -- ---- after a load that is accepted
 
-module _ (file : List ℕ) {lent got : Lists} {loaded : Loaded} (loads : LoadCall file lent got (load.Loaded loaded)) where
-  -- its counts are the records'
+module _ (file : List ℕ) {lent got : Lists} {loaded : Loaded} {repeats : Repeats}
+    (loads : LoadCall file lent got (load.Loaded loaded repeats)) where
+  load-accepted : LoadAccepted file lent loaded repeats
+  load-accepted = accepted file lent loaded repeats (sym (loads .answered))
+
+  -- its counts are the records', and so are its repeats
   pub load-counts : loaded ≡ totalsOf (records file)
-  load-counts = sym (accepted file lent loaded (sym (loads .answered)) .counted)
+  load-counts = sym (load-accepted .counted)
+
+  pub load-repeats : repeats ≡ repeatTotals (records file)
+  load-repeats = sym (load-accepted .repeated)
 
   -- its lists hold what the records give
   pub load-fills : Fills (records file) loaded got
   load-fills =
-      lists-fill (records file) lent got (loadAnswer file lent) loaded (sym (loads .answered)) load-counts (call-lists loads)
+      lists-fill (records file) lent got (loadAnswer file lent) loaded repeats (sym (loads .answered)) load-counts
+      (call-lists loads)
 
   pub load-filled : partsOf loaded got ≡ filled (records file)
   load-filled = load-fills .lists
@@ -145,7 +155,7 @@ module _ (file : List ℕ) {lent got : Lists} {loaded : Loaded} (loads : LoadCal
 
   -- no number stands twice on a side, so a number tells its record
   pub load-numbers-distinct : (side : Side) → distinct (numbersOf side (records file)) ≡ true
-  load-numbers-distinct side = file-free file (accepted file lent loaded (sym (loads .answered)) .clear) .numbers side
+  load-numbers-distinct side = file-free file (load-accepted .clear) .numbers side
 
   pub load-tags-rise : ((i : ℕ) → getD file i 0 < 256) → (i j : ℕ) → i < j → j < loaded .tags
       → bytesBelow (tagIn (partsOf loaded got .tags) i) (tagIn (partsOf loaded got .tags) j) ≡ true

@@ -20,6 +20,7 @@ use Rattle.join_spec.specs.Answer.{RunCall}
 use Rattle.join_spec.proofs.PairListLaws.{pairOccurs}
 use Rattle.join_spec.proofs.Calls.{call-once}
 use Rattle.tag_file.specs.declared.Loaded.{Loaded}
+use Rattle.tag_file.specs.declared.Repeats.{Repeats}
 use Rattle.tag_file.specs.declared.LoadAnswer.the-variants as load
 use Rattle.tag_file.specs.Records.{TagRecord, records, ofSide, tagTable, itemsOf, setsOfSide}
 use Rattle.tag_file.specs.Loading.{Lists, LoadCall}
@@ -70,7 +71,8 @@ module _ {loaded : Loaded} {got : Lists} (i : Input) (over : OverLoaded loaded g
       call-once i s runs l r
       ∙ ap one (sets-tags rs l r (leftSets i) (rightSets i) (fills-left-sets fills i over) (fills-right-sets fills i over))
 
-module _ (file : List ℕ) {lent got : Lists} {loaded : Loaded} (loads : LoadCall file lent got (load.Loaded loaded))
+module _ (file : List ℕ) {lent got : Lists} {loaded : Loaded} {repeats : Repeats}
+    (loads : LoadCall file lent got (load.Loaded loaded repeats))
     (i : Input) (over : OverLoaded loaded got i) (s : Settings) {counts : Counts} {work before work′ after : List ℕ}
     (runs : RunCall i s work before work′ after (Joined counts)) where
   -- a pair of places stands in the list once where the left record has a tag and all its tags are the right one's too, else not at all

@@ -21,6 +21,7 @@ use Rattle.tag_file.specs.Reading.{marked, wholeAt, recordAt, readAt, tagsAt}
 use Rattle.tag_file.specs.Records.{onward, recordsFrom, totalLength, records}
 use Rattle.tag_file.specs.Loading.{Lists, fileFault, LoadCall}
 use Rattle.tag_file.specs.declared.Loaded.{Loaded}
+use Rattle.tag_file.specs.declared.Repeats.{Repeats}
 use Rattle.tag_file.specs.declared.LoadAnswer.the-variants as load
 use Rattle.tag_file.specs.declared.ReadAnswer.{ReadAnswer}
 use Rattle.tag_file.specs.declared.ReadAnswer.the-variants.{Record, NoMore, Refused}
@@ -159,6 +160,7 @@ module _ (file : List ℕ) (low : (i : ℕ) → getD file i 0 < 256) where
       ∙ rw (drop-length file) (append-nil (bytesOfRecords (records file))))
 
   -- the same of a load that is accepted
-  pub load-bytes : {before after : Lists} {loaded : Loaded} → LoadCall file before after (load.Loaded loaded)
-      → bytesOfRecords (records file) ≡ file
-  load-bytes {before} {after} {loaded} call = file-bytes (accepted file before loaded (sym (call .answered)) .clear)
+  pub load-bytes : {before after : Lists} {loaded : Loaded} {repeats : Repeats}
+      → LoadCall file before after (load.Loaded loaded repeats) → bytesOfRecords (records file) ≡ file
+  load-bytes {before} {after} {loaded} {repeats} call =
+      file-bytes (accepted file before loaded repeats (sym (call .answered)) .clear)

@@ -14,33 +14,40 @@ use Rattle.sets.specs.declared.Refusal.the-variants.{ShortOutput}
 use Rattle.sets.specs.declared.Tested.{Tested}
 use Rattle.sets.specs.declared.Tested.the-variants.{Passed, Failed}
 use Rattle.tag_file.specs.Records.{records}
+use Rattle.tag_file.specs.Repeats.{repeatTotals}
 use Rattle.tag_file.specs.Loading.{Lists, fileFault, filled, fits, roomFor, totalsOf, loadAnswer, listsAfter, LoadCall}
 use Rattle.tag_file.specs.declared.Loaded.{Loaded}
+use Rattle.tag_file.specs.declared.Repeats.{Repeats}
 use Rattle.tag_file.specs.declared.LoadAnswer.{LoadAnswer}
 use Rattle.tag_file.specs.declared.LoadAnswer.the-variants as load
 
--- no fault, room in every list, and the totals
-pub record LoadAccepted (file : List ℕ) (lent : Lists) (totals : Loaded) : Type 0 where
+-- no fault, room in every list, the totals, and the repeats of the file's records
+pub record LoadAccepted (file : List ℕ) (lent : Lists) (totals : Loaded) (repeats : Repeats) : Type 0 where
   pub clear : fileFault file ≡ Passed
   pub room : roomFor (filled (records file)) lent ≡ true
   pub counted : totalsOf (records file) ≡ totals
+  pub repeated : repeatTotals (records file) ≡ repeats
 
-accepted-if : (fault : Tested) (room : Bool) (given totals : Loaded)
-    → unless load.Refused fault (unless load.Refused (refuseIf (not room) ShortOutput) (load.Loaded given)) ≡ load.Loaded totals
-    → (fault ≡ Passed) × ((room ≡ true) × (given ≡ totals))
-accepted-if (Failed why) room given totals e = let z : _≡_ {A = ℕ} 0 1 = cc in absurd (omega arith)
-accepted-if Passed false given totals e = let z : _≡_ {A = ℕ} 0 1 = cc in absurd (omega arith)
-accepted-if Passed true given totals e = (refl, (refl, cc))
+accepted-if : (fault : Tested) (room : Bool) (given totals : Loaded) (found repeats : Repeats)
+    → unless load.Refused fault (unless load.Refused (refuseIf (not room) ShortOutput) (load.Loaded given found))
+    ≡ load.Loaded totals repeats
+    → (fault ≡ Passed) × (room ≡ true) × (given ≡ totals) × (found ≡ repeats)
+accepted-if (Failed why) room given totals found repeats e = let z : _≡_ {A = ℕ} 0 1 = cc in absurd (omega arith)
+accepted-if Passed false given totals found repeats e = let z : _≡_ {A = ℕ} 0 1 = cc in absurd (omega arith)
+accepted-if Passed true given totals found repeats e = (refl, refl, cc, cc)
 
 module _ (file : List ℕ) (lent : Lists) where
-  pub accepted : (totals : Loaded) → loadAnswer file lent ≡ load.Loaded totals → LoadAccepted file lent totals
+  pub accepted : (totals : Loaded) (repeats : Repeats) → loadAnswer file lent ≡ load.Loaded totals repeats
+      → LoadAccepted file lent totals repeats
   unfolding loadAnswer
-  accepted totals e =
-      let parts = accepted-if (fileFault file) (roomFor (filled (records file)) lent) (totalsOf (records file)) totals e in
-      record { clear = parts .0; room = parts .1 .0; counted = parts .1 .1 }
+  accepted totals repeats e =
+      let parts = accepted-if (fileFault file) (roomFor (filled (records file)) lent) (totalsOf (records file)) totals
+      (repeatTotals (records file)) repeats e in
+      record { clear = parts .0; room = parts .1; counted = parts .2; repeated = parts .3 }
 
   module _ (clear : fileFault file ≡ Passed) where
-    pub accepts : roomFor (filled (records file)) lent ≡ true → loadAnswer file lent ≡ load.Loaded (totalsOf (records file))
+    pub accepts : roomFor (filled (records file)) lent ≡ true
+        → loadAnswer file lent ≡ load.Loaded (totalsOf (records file)) (repeatTotals (records file))
     unfolding loadAnswer
     accepts room = rw (clear, room)
 

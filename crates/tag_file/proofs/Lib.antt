@@ -9,3 +9,4 @@ pub mod FaultFree
 pub mod AnswerLaws
 pub mod Bytes
 pub mod ItemCount
+pub mod RepeatLaws

@@ -1,16 +1,16 @@
 -- The records of a file: what a whole record that was read tells, that fuel enough gives the same records, and the walk's
 -- step and end. Tags one after the other: their number, and one more.
-use mathlib.Core.Path.{_≡_, refl, ap, _∙_}
+use mathlib.Core.Path.{_≡_, refl, ap, subst, _∙_}
 use mathlib.Core.List.{List, [], _∷_, _++_}
 use mathlib.Core.Bool.{Bool, true, false, cond}
 use Prim.Native.Nat.{ℕ, zero, suc, _+_, _-_, _<_, _≤_}
-use native.Mathlib.Nat.{add-zero}
+use native.Mathlib.Nat.{add-zero, not-suc-le-zero, le-of-suc-le-suc}
 use native.Mathlib.Omega.{arith}
-use borrow.Author.Tests.{leb-true}
+use borrow.Author.Tests.{eq-eqb, leb-true}
 use lib.Dec.{leb, eqb}
 use lib.ListN.{length, getD}
-use Rattle.lists.specs.Lists.{sum}
-use Rattle.lists.proofs.Bools.{and-right}
+use Rattle.lists.specs.Lists.{memb, sum}
+use Rattle.lists.proofs.Bools.{and-right, or-left, or-right}
 use Rattle.lists.proofs.Summing.{sum-append}
 use Rattle.sets.specs.Limits.{maxSetLength, halfWords}
 use Rattle.sets.specs.declared.Side.{Side}
@@ -19,7 +19,7 @@ use Rattle.sets.specs.declared.Refusal.{Refusal}
 use Rattle.sets.specs.declared.Refusal.the-variants.{Malformed}
 use Rattle.tag_file.specs.Format.{tagLength, headLength, recordLength, tagAt}
 use Rattle.tag_file.specs.Reading.{marked, numberAt, countAt, pastTags, wholeAt, recordAt, readAt, tagsAt}
-use Rattle.tag_file.specs.Records.{TagRecord, totalLength, onward, recordsFrom, recordsAt, sameSide}
+use Rattle.tag_file.specs.Records.{TagRecord, totalLength, onward, recordsFrom, recordsAt, records, sameSide}
 use Rattle.tag_file.specs.declared.ReadAnswer.{ReadAnswer}
 use Rattle.tag_file.specs.declared.ReadAnswer.the-variants.{Record, NoMore, Refused}
 
@@ -44,6 +44,20 @@ tagsAt-last (suc n) file at =
     let e : pastTags (at + tagLength) n ≡ pastTags at (suc n) = omega arith in
     ap (λ (l : List ℕ). tagAt file at ∷ l)
     (tagsAt-last n file (at + tagLength) ∙ ap (λ (k : ℕ). tagsAt n file (at + tagLength) ++ (tagAt file k ∷ [])) e)
+
+-- a tag of a record is among its tags
+pub memb-tagsAt : (n : ℕ) (file : List ℕ) (at k : ℕ) → k < n → memb (tagAt file (pastTags at k)) (tagsAt n file at) ≡ true
+unfolding tagsAt memb
+memb-tagsAt zero file at k h = absurd (not-suc-le-zero h)
+memb-tagsAt (suc n) file at zero h =
+    let e : pastTags at 0 ≡ at = omega arith in
+    or-left (eqb (tagAt file (pastTags at 0)) (tagAt file at)) (memb (tagAt file (pastTags at 0)) (tagsAt n file (at + tagLength)))
+    (eq-eqb (tagAt file (pastTags at 0)) (tagAt file at) (ap (tagAt file) e))
+memb-tagsAt (suc n) file at (suc k) h =
+    let rest = tagsAt n file (at + tagLength) in
+    let e : pastTags (at + tagLength) k ≡ pastTags at (suc k) = omega arith in
+    or-right (eqb (tagAt file (pastTags at (suc k))) (tagAt file at)) (memb (tagAt file (pastTags at (suc k))) rest)
+    (subst (λ (m : ℕ). memb (tagAt file m) rest ≡ true) e (memb-tagsAt n file (at + tagLength) k (le-of-suc-le-suc h)))
 
 -- ---- a whole record that was read
 
@@ -192,3 +206,20 @@ unfolding sum
 totalLength-last rs r =
     sum-append (λ (q : TagRecord). recordLength (length (q .tags))) rs (r ∷ [])
     ∙ ap (λ (k : ℕ). totalLength rs + k) (add-zero (recordLength (length (r .tags))))
+
+-- the records of a file lie within it
+records-inside : (fuel : ℕ) (file : List ℕ) (at : ℕ) → at ≤ length file → at + totalLength (recordsFrom fuel file at) ≤ length file
+unfolding recordsFrom sum
+records-inside zero file at h = omega arith
+records-inside (suc fuel) file at h = whole (λ next. records-inside fuel file next) (readAt file at) refl
+  where
+    whole : ((next : ℕ) → next ≤ length file → next + totalLength (recordsFrom fuel file next) ≤ length file)
+        → (a : ReadAnswer) → readAt file at ≡ a
+        → at + totalLength (onward a file (λ next. recordsFrom fuel file next)) ≤ length file
+    whole again (Record s n c p next) e =
+        omega (arith, again next (read-within file at e), read-length file at e, length-tagsAt c file p)
+    whole again NoMore e = omega arith
+    whole again (Refused why) e = omega arith
+
+pub totalLength-inside : (file : List ℕ) → totalLength (records file) ≤ length file
+totalLength-inside file = omega (arith, records-inside (length file) file 0 (omega arith))

@@ -1,6 +1,7 @@
--- Contents: document 01, "Tag file", in its order.
+-- Contents: document 01, "Tag file", in its order, with document 02, C-15.
 pub mod Format
 pub mod Reading
 pub mod Records
+pub mod Repeats
 pub mod Loading
 pub mod Inner

@@ -21,6 +21,7 @@ use Rattle.tag_file.specs.declared.LoadAnswer.the-variants as load
 use Rattle.tag_file.specs.Format.{tagBytes}
 use Rattle.tag_file.specs.Reading.{readAt}
 use Rattle.tag_file.specs.Records.{TagRecord, totalLength, records, sameSide, ofSide, tagTable, entriesOf, setsOfSide}
+use Rattle.tag_file.specs.Repeats.{repeatTotals}
 use Rattle.tag_file.specs.declared.ReadAnswer.{ReadAnswer}
 use Rattle.tag_file.specs.declared.ReadAnswer.the-variants.{Record, NoMore, Refused}
 
@@ -122,16 +123,16 @@ totalsOf rs =
       tags = length (tagTable rs);
     }
 
--- the loader's answer: the first record at fault by 1, 2, 3; then 4; else how much was filled
+-- the loader's answer: the first record at fault by 1, 2, 3; then 4; else how much was filled, and the repeats
 unfoldable pub loadAnswer : List ℕ → Lists → LoadAnswer
 loadAnswer file lent =
     unless load.Refused (fileFault file)
     (unless load.Refused (refuseIf (not (roomFor (filled (records file)) lent)) ShortOutput)
-    (load.Loaded (totalsOf (records file))))
+    (load.Loaded (totalsOf (records file)) (repeatTotals (records file))))
 
 -- a lent list at the end: filled from its beginning and as before beyond, or as the refusal leaves it
 abbrev pub lentAfter : LoadAnswer → List ℕ → List ℕ → List ℕ
-lentAfter (load.Loaded totals) part lent = filledOver part lent
+lentAfter (load.Loaded totals repeats) part lent = filledOver part lent
 lentAfter (load.Refused why) part lent = afterRefusal why lent
 
 -- the seven lent lists at the end, by the answer and what it fills
@@ -175,9 +176,10 @@ pub record LoadCall (file : List ℕ) (before after : Lists) (answer : LoadAnswe
   pub rightEnds : after .rightEnds ≡ listsAfter file before .rightEnds
   pub rightItems : after .rightItems ≡ listsAfter file before .rightItems
 
--- the words of an answer: left sets, right sets, left entries, right entries, tags
+-- the words of an answer: left sets, right sets, left entries, right entries, tags, left repeats, right repeats
 abbrev pub loadWords : LoadAnswer → List ℕ
-loadWords (load.Loaded loaded) =
+loadWords (load.Loaded loaded repeats) =
     acceptedWords
-    (loaded .«left_sets» ∷ loaded .«right_sets» ∷ loaded .«left_entries» ∷ loaded .«right_entries» ∷ loaded .tags ∷ [])
-loadWords (load.Refused why) = refusedWords why 5
+    (loaded .«left_sets» ∷ loaded .«right_sets» ∷ loaded .«left_entries» ∷ loaded .«right_entries» ∷ loaded .tags
+    ∷ repeats .left ∷ repeats .right ∷ [])
+loadWords (load.Refused why) = refusedWords why 7

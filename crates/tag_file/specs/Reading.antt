@@ -6,7 +6,6 @@ use mathlib.Core.Bool.{Bool, cond, _&&_}
 use lib.Dec.{eqb, leb}
 use lib.ListN.{length, getD, drop}
 use Rattle.lists.specs.Lists.{prefix}
-use Rattle.sets.specs.Refusals.{sideNumber, acceptedWords, refusedWords}
 use Rattle.sets.specs.declared.Side.{Side}
 use Rattle.sets.specs.declared.Side.the-variants.{Left, Right}
 use Rattle.sets.specs.declared.Refusal.the-variants.{Malformed}
@@ -54,10 +53,3 @@ readAt file at =
 unfoldable pub tagsAt : ℕ → List ℕ → ℕ → List ℕ
 tagsAt zero file at = []
 tagsAt (suc n) file at = tagAt file at ∷ tagsAt n file (at + tagLength)
-
--- the words of an answer: whether there is no more; then side, number, count of tags, place of the first, and next place
-abbrev pub readWords : ReadAnswer → List ℕ
-readWords (Record side number count place next) =
-    acceptedWords (0 ∷ sideNumber side ∷ number ∷ count ∷ place ∷ next ∷ [])
-readWords NoMore = acceptedWords (1 ∷ 0 ∷ 0 ∷ 0 ∷ 0 ∷ 0 ∷ [])
-readWords (Refused why) = refusedWords why 6

@@ -1,5 +1,5 @@
-// The record reader of the tag file. What a record is, and what the loader fills, is defined in specs/; the loader has crates of
-// its own.
+// A record of the tag file, read. What a record is, and what the loader fills, is defined in specs/; the record reader that counts
+// repeats and the loader have crates of their own.
 use sets::Refusal;
 use sets::Side;
 use sets::head_of;
@@ -19,9 +19,15 @@ pub struct Loaded {
     pub tags: usize,
 }
 
-// What the loader answers.
+// How many reads of each side's records were repeats: of a tag that the same record had before.
+pub struct Repeats {
+    pub left: usize,
+    pub right: usize,
+}
+
+// What the loader answers: how much it filled and how many reads were repeats, or why it did not.
 pub enum LoadAnswer {
-    Loaded(Loaded),
+    Loaded(Loaded, Repeats),
     Refused(Refusal),
 }
 
@@ -29,8 +35,9 @@ ghost use mathlib.Core.Path.{_≡_};
 ghost use Prim.Native.Nat.{_+_, _≤_, _<_};
 ghost use lib.ListN.{length};
 ghost use Rattle.tag_file.specs.Format.{headLength};
-ghost use Rattle.tag_file.specs.Reading.{readAt, recordAt, readWords};
+ghost use Rattle.tag_file.specs.Reading.{readAt, recordAt};
 ghost use Rattle.tag_file.specs.Records.{sameSide};
+ghost use Rattle.tag_file.specs.Repeats.{readWords};
 ghost use Rattle.tag_file.specs.Loading.{loadWords};
 ghost use Rattle.tag_file.specs.Inner.{ByteAt};
 
@@ -48,10 +55,17 @@ pub enum ReadAnswer {
     Refused(Refusal),
 }
 
+// The same with the repeats among a whole record's tags; 0 without one.
+pub struct RecordRead {
+    pub answer: ReadAnswer,
+    pub repeats: usize,
+}
+
 // The words of the reader's answer at the C boundary.
-pub fn read_words(answer: ReadAnswer) -> [u64; 9]
-    ensures { λ r. ⌜ r ≡ readWords answer ⌝ }
+pub fn read_words(read: RecordRead) -> [u64; 10]
+    ensures { λ r. ⌜ r ≡ readWords read ⌝ }
 {
+    let answer = read.answer;
     match answer {
         ReadAnswer::Record {
             side,
@@ -70,22 +84,23 @@ pub fn read_words(answer: ReadAnswer) -> [u64; 9]
                 count as u64,
                 tags as u64,
                 next as u64,
+                read.repeats as u64,
             ]
         }
-        ReadAnswer::NoMore => [0, 0, 0, 1, 0, 0, 0, 0, 0],
+        ReadAnswer::NoMore => [0, 0, 0, 1, 0, 0, 0, 0, 0, 0],
         ReadAnswer::Refused(why) => {
             let head = head_of(why);
-            [head.number, head.first, head.second, 0, 0, 0, 0, 0, 0]
+            [head.number, head.first, head.second, 0, 0, 0, 0, 0, 0, 0]
         }
     }
 }
 
 // The words of the loader's answer at the C boundary.
-pub fn load_words(answer: LoadAnswer) -> [u64; 8]
+pub fn load_words(answer: LoadAnswer) -> [u64; 10]
     ensures { λ r. ⌜ r ≡ loadWords answer ⌝ }
 {
     match answer {
-        LoadAnswer::Loaded(loaded) => [
+        LoadAnswer::Loaded(loaded, repeats) => [
             0,
             0,
             0,
@@ -94,10 +109,12 @@ pub fn load_words(answer: LoadAnswer) -> [u64; 8]
             loaded.left_entries as u64,
             loaded.right_entries as u64,
             loaded.tags as u64,
+            repeats.left as u64,
+            repeats.right as u64,
         ],
         LoadAnswer::Refused(why) => {
-            let head = head_of(why);
-            [head.number, head.first, head.second, 0, 0, 0, 0, 0]
+            let row = head_of(why);
+            [row.number, row.first, row.second, 0, 0, 0, 0, 0, 0, 0]
         }
     }
 }
@@ -176,7 +193,7 @@ pub fn read_at(file: &[u8], at: usize) -> ReadAnswer
 }
 
 // The record reader: the lent file and the next place. The functions over it are thin: `read_at` does the work, and
-// `read_record` is what others call.
+// `read_record` is what others call. It leaves the tags alone: who needs their repeats has `record_reader`.
 pub struct Reader<'a> {
     pub file: &'a [u8],
     pub at: usize,

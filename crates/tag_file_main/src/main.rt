@@ -30,9 +30,12 @@ fn print_counts(counts: Loaded) {
 
 fn print_answer(answer: LoadAnswer) {
     match answer {
-        LoadAnswer::Loaded(counts) => {
+        LoadAnswer::Loaded(counts, repeats) => {
             io::write_all(STDOUT, b": loaded");
             print_counts(counts);
+            io::write_all(STDOUT, b" repeats");
+            print_number(repeats.left);
+            print_number(repeats.right);
         }
         LoadAnswer::Refused(why) => {
             io::write_all(STDOUT, b": refused");
@@ -298,6 +301,24 @@ fn accepted() {
     run(b"empty sets", b"SK\x00\x01\x00SK\x00\x02\x00", 1);
 }
 
+fn repeated() {
+    run(
+        b"a kit's tag twice, a stack's three times",
+        b"KT\x00\x01\x02aaaaaaaaaaaaaaaaaaaaaaaaSK\x00\x02\x03bbbbbbbbbbbbbbbbbbbbbbbbbbbbbbbbbbbb",
+        36,
+    );
+    run(
+        b"a tag of a kit and of two stacks",
+        b"KT\x00\x01\x01aaaaaaaaaaaaSK\x00\x02\x01aaaaaaaaaaaaSK\x00\x03\x01aaaaaaaaaaaa",
+        36,
+    );
+    run(
+        b"a fault after repeats",
+        b"KT\x00\x01\x02aaaaaaaaaaaaaaaaaaaaaaaaK",
+        2,
+    );
+}
+
 fn malformed() {
     run(b"another mark", b"KS\x00\x01\x00", 2);
     run(b"one byte", b"K", 2);
@@ -365,6 +386,21 @@ fn pooled() {
         b"",
         b"KT\x00\x01\x01aaaaaaaaaaaaSK\x00\x02\x02ccccccccccccbbbbbbbbbbbb",
         24,
+    );
+}
+
+fn pooled_repeats() {
+    pool(
+        b"repeats on both pads, and of a kit on each",
+        b"KT\x00\x07\x02aaaaaaaaaaaaaaaaaaaaaaaaSK\x00\x05\x03bbbbbbbbbbbbbbbbbbbbbbbbcccccccccccc",
+        b"KT\x00\x08\x02ddddddddddddddddddddddddSK\x00\x05\x04bbbbbbbbbbbbccccccccccccccccccccccccccccccccccccSK\x00\x06\x02dddddddddddddddddddddddd",
+        48,
+    );
+    pool(
+        b"a fault of the second file after repeats",
+        b"SK\x00\x05\x02aaaaaaaaaaaaaaaaaaaaaaaa",
+        b"K",
+        2,
     );
 }
 
@@ -474,10 +510,12 @@ fn overlong() {
 
 fn main() {
     accepted();
+    repeated();
     malformed();
     used();
     short();
     pooled();
+    pooled_repeats();
     pooled_numbers();
     pooled_faults();
     pooled_short();

@@ -1,13 +1,10 @@
 -- The second pass over a side: its invariant, with its start, step and end. It says what is left: of each list what is written
 -- and what the records still to come give are together what is wanted.
-use mathlib.Core.Path.{_≡_, refl, ap, subst, _∙_}
+use mathlib.Core.Path.{_≡_, refl, ap, _∙_}
 use mathlib.Core.List.{List, [], _∷_, _++_}
 use mathlib.Core.Bool.{Bool, true, false}
-use Prim.Native.Nat.{ℕ, zero, suc, _+_, _<_, _≤_}
-use native.Mathlib.Nat.{not-suc-le-zero, le-of-suc-le-suc}
+use Prim.Native.Nat.{ℕ, _+_, _≤_}
 use native.Mathlib.Omega.{arith}
-use borrow.Author.Tests.{eq-eqb}
-use lib.Dec.{eqb}
 use lib.ListN.{length, replicate, length-append}
 use Rattle.lists.specs.Lists.{onto, keep, memb}
 use Rattle.lists.specs.Writing.{Put}
@@ -18,31 +15,17 @@ use Rattle.bit_sets.specs.BitSets.{members}
 use Rattle.sets.specs.Limits.{maxItems, maxEntries}
 use Rattle.sets.specs.Lent.{filledOver}
 use Rattle.sets.specs.declared.Side.{Side}
-use Rattle.tag_file.specs.Format.{tagLength, tagAt}
+use Rattle.tag_file.specs.Format.{tagAt}
 use Rattle.tag_file.specs.Reading.{readAt, pastTags, tagsAt}
 use Rattle.tag_file.specs.Records.{TagRecord, sameSide, recordsAt, records, ofSide, allTags, itemsOf, setsOfSide}
 use Rattle.tag_file.specs.Loading.{numbersOf, endsFrom, join}
 use Rattle.tag_file.specs.declared.ReadAnswer.the-variants.{Record}
-use Rattle.tag_file.proofs.RecordLaws.{read-past, read-within, records-next}
+use Rattle.tag_file.proofs.RecordLaws.{memb-tagsAt, read-past, read-within, records-next}
 use Rattle.tag_index.specs.Index.{tableOf, Sorted, Ranked}
 use Rattle.tag_fill.specs.Fill.{markWords, Unmarked, MarkedMore, TagsKnown, RoomForOne, OneFilled, FillReady}
 use Rattle.tag_fill.specs.declared.Filled.{Filled}
 use Rattle.tag_fill.proofs.Marks.{unmarked-zeros, more-fresh, marked-items}
 use Rattle.tag_fill.proofs.Runs.{join-one, numbers-cons, sets-cons, join-onto, ends-onto}
-
--- a tag of a record is among its tags
-pub memb-tagsAt : (n : ℕ) (file : List ℕ) (at k : ℕ) → k < n → memb (tagAt file (pastTags at k)) (tagsAt n file at) ≡ true
-unfolding tagsAt memb
-memb-tagsAt zero file at k h = absurd (not-suc-le-zero h)
-memb-tagsAt (suc n) file at zero h =
-    let e : pastTags at 0 ≡ at = omega arith in
-    or-left (eqb (tagAt file (pastTags at 0)) (tagAt file at)) (memb (tagAt file (pastTags at 0)) (tagsAt n file (at + tagLength)))
-    (eq-eqb (tagAt file (pastTags at 0)) (tagAt file at) (ap (tagAt file) e))
-memb-tagsAt (suc n) file at (suc k) h =
-    let rest = tagsAt n file (at + tagLength) in
-    let e : pastTags (at + tagLength) k ≡ pastTags at (suc k) = omega arith in
-    or-right (eqb (tagAt file (pastTags at (suc k))) (tagAt file at)) (memb (tagAt file (pastTags at (suc k))) rest)
-    (subst (λ (m : ℕ). memb (tagAt file m) rest ≡ true) e (memb-tagsAt n file (at + tagLength) k (le-of-suc-le-suc h)))
 
 pub record SideFilling (file : List ℕ) (side : Side) (table numbers₀ ends₀ items₀ : List ℕ)
     (marks numbers ends items : List ℕ) (done : Filled) (at : ℕ) : Type 0 where

@@ -1,32 +1,32 @@
--- One more tag of a set in the index: the tag is known, and is seen, or it is new, and is put where the search found its
--- position. Either way what `Adding` says holds of one tag more.
+-- One more tag in the index: it is known, or it is new and is put where the search found its position (`OneTaken`). Either way, where its
+-- id is seen among those of a set, what `Adding` says holds of one tag more.
 use mathlib.Core.Path.{_≡_, refl, sym, ap, subst, _∙_}
 use mathlib.Core.List.{List, [], _∷_, _++_, append-nil, append-assoc}
 use mathlib.Core.Bool.{Bool, true, false, not, _||_, or-false, or-comm}
 use Prim.Native.Nat.{ℕ, _+_, _<_, _≤_}
 use native.Mathlib.Numerals.{add-one}
 use native.Mathlib.Omega.{arith}
-use borrow.Author.Tests.{eq-eqb, ne-eqb, eqb-true}
-use lib.Dec.{eqb}
+use borrow.Author.Tests.{eq-eqb, ne-eqb, eqb-true, ltb-true, ltb-false}
+use lib.Dec.{eqb, ltb}
 use lib.ListN.{length, getD, replicate, length-set, length-replicate}
 use Rattle.lists.specs.Lists.{one, memb, rising}
-use Rattle.lists.proofs.Bools.{true-false, refuted, same-test, or-left, or-right}
+use Rattle.lists.proofs.Bools.{true-false, by-test, refuted, same-test}
 use Rattle.lists.proofs.Membership.{memb-append, memb-place}
-use Rattle.lists.proofs.Rising.{rising-below}
 use Rattle.bit_sets.specs.BitSets.{member}
 use Rattle.bit_sets.proofs.Members.{no-member}
 use Rattle.tag_file.specs.Format.{tagAt}
 use Rattle.tag_file.specs.Reading.{tagsAt, pastTags}
 use Rattle.tag_file.specs.Records.{insert, insertAll, collapse}
 use Rattle.tag_file.proofs.Tables.{three-ways, memb-insert, rising-insert, length-insert, insert-known, insert-new}
-use Rattle.tag_file.proofs.Tables.{insertAll-append, insertAll-last, length-insertAll-bound, rising-collapse, memb-collapse}
+use Rattle.tag_file.proofs.Tables.{insertAll-append, insertAll-last, length-insertAll-bound, collapse-last}
 use Rattle.tag_file.proofs.RecordLaws.{length-tagsAt, tagsAt-last}
 use Rattle.tag_words.specs.Words.{tagValue}
-use Rattle.tag_index.specs.Index.{indexRoom, seenWords, tagOfId, tableOf, Sorted, Lower, Seen, NewTag, Adding}
-use Rattle.tag_index.specs.Index.{OneMore, AllAdded}
+use Rattle.tag_index.specs.Index.{indexRoom, seenWords, tagOfId, tableOf, Sorted, Lower, Seen, NewTag, OneTaken, Adding}
+use Rattle.tag_index.specs.Index.{AllAdded}
+use Rattle.tag_index.specs.declared.Found.{Found}
 use Rattle.tag_words.specs.declared.Tag.{Tag}
 use Rattle.tag_index.proofs.Ids.{id-position, sorted-size, sorted-at, sorted-lower, same-id}
-use Rattle.tag_index.proofs.Ids.{last-id, listed-put, tag-other, tag-this, table-put}
+use Rattle.tag_index.proofs.Ids.{listed-put, tag-other, tag-this, table-put}
 
 -- ---- one more tag at the end of a list of tags
 
@@ -38,11 +38,75 @@ memb-last : (y : ℕ) (xs : List ℕ) (x : ℕ) → memb y (xs ++ (x ∷ [])) �
 unfolding memb
 memb-last y xs x = memb-append y xs (x ∷ []) ∙ ap (λ (b : Bool). memb y xs || b) (or-false (eqb y x))
 
--- the distinct ones of one tag more
-fresh-last : (xs : List ℕ) (x : ℕ) → length (collapse (xs ++ (x ∷ []))) ≡ length (collapse xs) + one (not (memb x xs))
-fresh-last xs x =
-    ap length (insertAll-last [] xs x) ∙ length-insert x (collapse xs) (rising-collapse xs)
-    ∙ ap (λ (b : Bool). length (collapse xs) + one (not b)) (memb-collapse x xs)
+-- ---- the tag x in the index
+
+module _ {heads tails : List ℕ} {tags : ℕ} {order : List ℕ} (s : Sorted heads tails tags order) (x : ℕ) where
+  abbrev table : List ℕ
+  table = tableOf heads tails tags order
+
+  -- it was there: nothing changes
+  pub taken-known : (r : Found) → r .tags ≡ tags → r .id < tags → tagOfId heads tails (r .id) ≡ x
+      → OneTaken x tags heads tails order r heads tails order
+  taken-known r same h e =
+      record {
+        sorted = subst (λ (n : ℕ). Sorted heads tails n order) (sym same) s;
+        table = ap (λ (n : ℕ). tableOf heads tails n order) same ∙ sym kept;
+        within = omega arith;
+        is = e;
+        others = λ j g. refl;
+      }
+    where
+      kept : insert x table ≡ table
+      kept =
+          let p = id-position (s .listed) (r .id) h in
+          let here : tagOfId heads tails (getD order (p .at) 0) ≡ x = ap (tagOfId heads tails) (p .here) ∙ e in
+          insert-known x table (p .at) (omega (arith, p .below, sorted-size s)) (sorted-lower s (p .at) x (p .below) here .below)
+          (sorted-at s (p .at) (p .below) ∙ here)
+
+  -- it was not, and is put where the search found its position
+  module _ (at : ℕ) (low : Lower table x at) (free : tags < indexRoom)
+      (missing : at < tags → tagOfId heads tails (getD order at 0) ≡ x → ⊥) where
+    pub taken-new : {tag : Tag} {now-heads now-tails now-order : List ℕ} → tagValue tag ≡ x
+        → NewTag heads tails order tags at tag now-heads now-tails now-order
+        → OneTaken x tags heads tails order (record { tags = tags + 1; id = tags }) now-heads now-tails now-order
+    taken-new {tag} {now-heads} {now-tails} {now-order} value p =
+        record {
+          sorted = record {
+            kept = record {
+              heads-full = ap length (p .heads-to) ∙ length-set heads tags (tag .hi) ∙ s .kept .heads-full;
+              tails-full = ap length (p .tails-to) ∙ length-set tails tags (tag .lo) ∙ s .kept .tails-full;
+              room = omega arith;
+            };
+            listed = listed-put (s .listed) free within (p .order-to);
+            rises = ap rising wider ∙ rising-insert x table (s .rises);
+          };
+          table = wider;
+          within = omega arith;
+          is = tag-this p heads-room tails-room ∙ value;
+          others = tag-other p;
+        }
+      where
+        within : at ≤ tags
+        within = omega (arith, low .within, sorted-size s)
+
+        heads-room : tags < length heads
+        heads-room = omega (arith, s .kept .heads-full)
+
+        tails-room : tags < length tails
+        tails-room = omega (arith, s .kept .tails-full)
+
+        above : at < length table → x < getD table at 0
+        above h =
+            let inner : at < tags = omega (arith, sorted-size s) in
+            three-ways x (getD table at 0) (λ l. l) (λ e. absurd (missing inner (sym (e ∙ sorted-at s at inner))))
+            (λ u. absurd (omega (arith, low .reached h)))
+
+        wider : tableOf now-heads now-tails (tags + 1) now-order ≡ insert x table
+        wider =
+            table-put p (s .listed) within heads-room tails-room
+            ∙ rw value (sym (insert-new x table at (low .within) (low .below) above))
+
+-- ---- and among those of a set
 
 -- a set starts without tags: none is seen
 pub adding-start : {heads tails order : List ℕ} {n : ℕ} → Sorted heads tails n order
@@ -53,139 +117,74 @@ adding-start s =
       sorted = s;
       wide = length-replicate {A = ℕ} seenWords 0;
       marks = λ id h. no-member seenWords id;
+      unmarked = λ id h. no-member seenWords id;
       held = λ y m. true-false m refl;
       counted = refl;
     }
 
--- ---- the tag x
-
+-- the tag x was taken into the index, and its id is seen
 module _ {done heads tails : List ℕ} {tags fresh : ℕ} {order seen : List ℕ} (a : Adding done heads tails tags fresh order seen)
-    (x : ℕ) where
-  abbrev table : List ℕ
-  table = tableOf heads tails tags order
-
+    {x : ℕ} {found : Found} {now-heads now-tails now-order : List ℕ}
+    (o : OneTaken x tags heads tails order found now-heads now-tails now-order) where
   abbrev next : List ℕ
   next = done ++ (x ∷ [])
 
-  -- whether a tag y is seen after x, where it is told before, and whether it is x
-  mark-next : {now was this : Bool} (y : ℕ) → now ≡ (this || was) → was ≡ memb y done → this ≡ eqb y x → now ≡ memb y next
-  mark-next {now} {was} {this} y n w t = n ∙ rw (w, t) (or-comm (eqb y x) (memb y done)) ∙ sym (memb-last y done x)
+  abbrev was : List ℕ
+  was = tableOf heads tails tags order
 
-  counted-next : {f : ℕ} → f ≡ fresh + one (not (memb x done)) → f ≡ length (collapse next)
-  counted-next e = e ∙ ap (λ (m : ℕ). m + one (not (memb x done))) (a .counted) ∙ sym (fresh-last done x)
+  -- the index has as many tags as before, or one more
+  now-more : tags ≤ found .tags
+  now-more =
+      omega (arith, sorted-size (o .sorted), ap length (o .table), length-insert x was (a .sorted .rises), sorted-size (a .sorted))
 
-  held-next : (new : List ℕ) → new ≡ insert x table → (y : ℕ) → memb y next ≡ true → memb y new ≡ true
-  held-next new e y m = ap (memb y) e ∙ memb-insert y x table ∙ here (eqb y x) refl
-    where
-      here : (b : Bool) → eqb y x ≡ b → (b || memb y table) ≡ true
-      here true t = refl
-      here false f =
-          a .held y (sym (or-false (memb y done)) ∙ ap (λ (b : Bool). memb y done || b) (sym f) ∙ sym (memb-last y done x) ∙ m)
+  -- a new id has a tag that the index had not, and so the set has not
+  new-absent : (j : ℕ) → tags ≤ j → j < found .tags → memb (tagOfId now-heads now-tails j) done ≡ false
+  new-absent j low high =
+      let y = tagOfId now-heads now-tails j in
+      refuted (memb y done) (λ m.
+      let q = memb-place y was (a .held y m) in
+      let at-low : q .at < tags = omega (arith, q .below, sorted-size (a .sorted)) in
+      let id-low = a .sorted .listed .ids (q .at) at-low in
+      let same : getD order (q .at) 0 ≡ j =
+      same-id (o .sorted) (getD order (q .at) 0) j (omega (arith, id-low, now-more)) high
+      (o .others (getD order (q .at) 0) id-low ∙ sym (sorted-at (a .sorted) (q .at) at-low) ∙ q .here) in
+      omega (arith, id-low))
 
-  pub adding-known : (id : ℕ) → id < tags → tagOfId heads tails id ≡ x → {r : ℕ} {is : List ℕ} → Seen seen id r is
-      → OneMore done x tags heads tails order tags (fresh + r) heads tails order is
-  adding-known id h e {r} {is} s =
+  -- what was seen before, by the ids of now
+  was-marked : (j : ℕ) → j < found .tags → member seen j ≡ memb (tagOfId now-heads now-tails j) done
+  was-marked j h =
+      by-test (ltb j tags)
+      (λ t. a .marks j (ltb-true j tags t) ∙ ap (λ (y : ℕ). memb y done) (sym (o .others j (ltb-true j tags t))))
+      (λ f. a .unmarked j (ltb-false j tags f) ∙ sym (new-absent j (ltb-false j tags f) h))
+
+  pub adding-step : {r : ℕ} {is : List ℕ} → Seen seen (found .id) r is
+      → Adding next now-heads now-tails (found .tags) (fresh + r) now-order is
+  adding-step {r} {is} s =
       record {
-        adding = record {
-          sorted = a .sorted;
-          wide = s .marked .size ∙ a .wide;
-          marks = λ j g. mark-next (tagOfId heads tails j) (s .marked .holds j) (a .marks j g) (this j g);
-          held = held-next table (sym kept);
-          counted = counted-next (ap (λ (k : ℕ). fresh + k)
-              (s .counted ∙ ap (λ (b : Bool). one (not b)) (a .marks id h ∙ ap (λ (y : ℕ). memb y done) e)));
-        };
-        table = sym kept;
+        sorted = o .sorted;
+        wide = s .marked .size ∙ a .wide;
+        marks = λ j g. s .marked .holds j ∙ rw (was-marked j g, this j g) (or-comm (eqb (tagOfId now-heads now-tails j) x) (memb (tagOfId now-heads now-tails j) done))
+            ∙ sym (memb-last (tagOfId now-heads now-tails j) done x);
+        unmarked = λ j g. s .marked .holds j ∙ rw (ne-eqb j (found .id) (λ e. omega (arith, o .within)), a .unmarked j (omega (arith, now-more)));
+        held = held-next;
+        counted = ap (λ (k : ℕ). fresh + k) (s .counted ∙ ap (λ (b : Bool). one (not b)) (was-marked (found .id) (o .within) ∙ ap (λ (y : ℕ). memb y done) (o .is)))
+            ∙ ap (λ (m : ℕ). m + one (not (memb x done))) (a .counted) ∙ sym (collapse-last done x);
       }
     where
-      this : (j : ℕ) → j < tags → eqb j id ≡ eqb (tagOfId heads tails j) x
+      this : (j : ℕ) → j < found .tags → eqb j (found .id) ≡ eqb (tagOfId now-heads now-tails j) x
       this j g =
-          same-test (eqb j id) (eqb (tagOfId heads tails j) x)
-          (λ t. eq-eqb (tagOfId heads tails j) x (ap (tagOfId heads tails) (eqb-true j id t) ∙ e))
-          (λ t. eq-eqb j id (same-id (a .sorted) j id g h (eqb-true (tagOfId heads tails j) x t ∙ sym e)))
+          same-test (eqb j (found .id)) (eqb (tagOfId now-heads now-tails j) x)
+          (λ t. eq-eqb (tagOfId now-heads now-tails j) x (ap (tagOfId now-heads now-tails) (eqb-true j (found .id) t) ∙ o .is))
+          (λ t. eq-eqb j (found .id)
+          (same-id (o .sorted) j (found .id) g (o .within) (eqb-true (tagOfId now-heads now-tails j) x t ∙ sym (o .is))))
 
-      kept : insert x table ≡ table
-      kept =
-          let p = id-position (a .sorted .listed) id h in
-          let here : tagOfId heads tails (getD order (p .at) 0) ≡ x = ap (tagOfId heads tails) (p .here) ∙ e in
-          insert-known x table (p .at) (omega (arith, p .below, sorted-size (a .sorted)))
-          (sorted-lower (a .sorted) (p .at) x (p .below) here .below)
-          (sorted-at (a .sorted) (p .at) (p .below) ∙ here)
-
-  module _ (at : ℕ) (low : Lower table x at) (free : tags < indexRoom)
-      (missing : at < tags → tagOfId heads tails (getD order at 0) ≡ x → ⊥) where
-    pub adding-new : {tag : Tag} {now-heads now-tails now-order now-seen : List ℕ} → tagValue tag ≡ x
-        → NewTag heads tails order seen tags at tag now-heads now-tails now-order now-seen
-        → OneMore done x tags heads tails order (tags + 1) (fresh + 1) now-heads now-tails now-order now-seen
-    adding-new {tag} {now-heads} {now-tails} {now-order} {now-seen} value p =
-        record {
-          adding = record {
-            sorted = record {
-              kept = record {
-                heads-full = ap length (p .heads-to) ∙ length-set heads tags (tag .hi) ∙ a .sorted .kept .heads-full;
-                tails-full = ap length (p .tails-to) ∙ length-set tails tags (tag .lo) ∙ a .sorted .kept .tails-full;
-                room = omega arith;
-              };
-              listed = listed-put (a .sorted .listed) free within (p .order-to);
-              rises = ap rising wider ∙ rising-insert x table (a .sorted .rises);
-            };
-            wide = p .marked .size ∙ a .wide;
-            marks = last-id (λ j. member now-seen j ≡ memb (tagOfId now-heads now-tails j) next) tags this other;
-            held = held-next (tableOf now-heads now-tails (tags + 1) now-order) wider;
-            counted = counted-next (ap (λ (b : Bool). fresh + one (not b)) (sym absent));
-          };
-          table = wider;
-        }
-      where
-        within : at ≤ tags
-        within = omega (arith, low .within, sorted-size (a .sorted))
-
-        heads-room : tags < length heads
-        heads-room = omega (arith, a .sorted .kept .heads-full)
-
-        tails-room : tags < length tails
-        tails-room = omega (arith, a .sorted .kept .tails-full)
-
-        above : at < length table → x < getD table at 0
-        above h =
-            let inner : at < tags = omega (arith, sorted-size (a .sorted)) in
-            three-ways x (getD table at 0) (λ l. l) (λ e. absurd (missing inner (sym (e ∙ sorted-at (a .sorted) at inner))))
-            (λ u. absurd (omega (arith, low .reached h)))
-
-        wider : tableOf now-heads now-tails (tags + 1) now-order ≡ insert x table
-        wider =
-            table-put p (a .sorted .listed) within heads-room tails-room
-            ∙ rw value (sym (insert-new x table at (low .within) (low .below) above))
-
-        apart : (j : ℕ) → j < tags → getD table j 0 ≡ x → ⊥
-        apart j g q =
-            let size = sorted-size (a .sorted) in
-            three-ways j at (λ l. omega (arith, low .below j l))
-            (λ e. missing (subst (λ (m : ℕ). m < tags) e g)
-            (subst (λ (m : ℕ). tagOfId heads tails (getD order m 0) ≡ x) e (sym (sorted-at (a .sorted) j g) ∙ q)))
-            (λ u. omega (arith, rising-below table (a .sorted .rises) at j u (omega (arith, size)), above (omega (arith, size))))
-
-        differs : (id : ℕ) → id < tags → tagOfId heads tails id ≡ x → ⊥
-        differs id g q =
-            let at-id = id-position (a .sorted .listed) id g in
-            apart (at-id .at) (at-id .below)
-            (sorted-at (a .sorted) (at-id .at) (at-id .below) ∙ ap (tagOfId heads tails) (at-id .here) ∙ q)
-
-        absent : memb x done ≡ false
-        absent =
-            refuted (memb x done) (λ m. let q = memb-place x table (a .held x m) in
-            apart (q .at) (omega (arith, q .below, sorted-size (a .sorted))) (q .here))
-
-        this : member now-seen tags ≡ memb (tagOfId now-heads now-tails tags) next
-        this =
-            p .marked .holds tags ∙ or-left (eqb tags tags) (member seen tags) (eq-eqb tags tags refl)
-            ∙ sym (ap (λ (y : ℕ). memb y next) (tag-this p heads-room tails-room ∙ value) ∙ memb-last x done x
-            ∙ or-right (memb x done) (eqb x x) (eq-eqb x x refl))
-
-        other : (j : ℕ) → j < tags → member now-seen j ≡ memb (tagOfId now-heads now-tails j) next
-        other j g =
-            mark-next (tagOfId heads tails j) (p .marked .holds j) (a .marks j g)
-            (ne-eqb j tags (λ e. omega arith) ∙ sym (ne-eqb (tagOfId heads tails j) x (differs j g)))
-            ∙ sym (ap (λ (y : ℕ). memb y next) (tag-other p j g))
+      held-next : (y : ℕ) → memb y next ≡ true → memb y (tableOf now-heads now-tails (found .tags) now-order) ≡ true
+      held-next y m = ap (memb y) (o .table) ∙ memb-insert y x (tableOf heads tails tags order) ∙ here (eqb y x) refl
+        where
+          here : (b : Bool) → eqb y x ≡ b → (b || memb y (tableOf heads tails tags order)) ≡ true
+          here true t = refl
+          here false f =
+              a .held y (sym (or-false (memb y done)) ∙ ap (λ (b : Bool). memb y done || b) (sym f) ∙ sym (memb-last y done x) ∙ m)
 
 -- ---- how many more there are with some tags more
 
@@ -242,18 +241,19 @@ module _ {done file : List ℕ} {start count n old : ℕ} {was-heads was-tails w
     pub going-fresh : fresh ≤ old + k
     going-fresh = omega (arith, fresh-most a (tagsAt k file start) (g .adding), length-tagsAt k file start)
 
-    pub going-step : {now-tags now-fresh : ℕ} {now-heads now-tails now-order now-seen : List ℕ} → k < count
-        → OneMore (done ++ tagsAt k file start) (tagAt file (pastTags start k)) tags heads tails order now-tags now-fresh
+    pub going-step : {found : Found} {r : ℕ} {now-heads now-tails now-order now-seen : List ℕ} → k < count
+        → OneTaken (tagAt file (pastTags start k)) tags heads tails order found now-heads now-tails now-order
+        → Seen seen (found .id) r now-seen
+        → Going done file start count n was-heads was-tails was-order (k + 1) (found .tags) (fresh + r)
         now-heads now-tails now-order now-seen
-        → Going done file start count n was-heads was-tails was-order (k + 1) now-tags now-fresh
-        now-heads now-tails now-order now-seen
-    going-step {now-tags} {now-fresh} {now-heads} {now-tails} {now-order} {now-seen} h o =
+    going-step {found} {r} {now-heads} {now-tails} {now-order} {now-seen} h o s =
         let x = tagAt file (pastTags start k) in
         let more : (done ++ tagsAt k file start) ++ (x ∷ []) ≡ done ++ tagsAt (k + 1) file start =
         append-assoc done (tagsAt k file start) (x ∷ []) ∙ ap (λ (l : List ℕ). done ++ l) (sym (tagsAt-next k file start))
         in
         record {
-          adding = subst (λ (l : List ℕ). Adding l now-heads now-tails now-tags now-fresh now-order now-seen) more (o .adding);
+          adding = subst (λ (l : List ℕ). Adding l now-heads now-tails (found .tags) (fresh + r) now-order now-seen) more
+              (adding-step (g .adding) o s);
           table = o .table ∙ ap (insert x) (g .table)
               ∙ sym (insertAll-last (tableOf was-heads was-tails n was-order) (tagsAt k file start) x)
               ∙ sym (ap (insertAll (tableOf was-heads was-tails n was-order)) (tagsAt-next k file start));

@@ -1,5 +1,5 @@
 -- A call of the loader by its three ends: a fault of the file, lists that are too short, and what was filled.
-use mathlib.Core.Path.{_≡_, refl, sym, ap, subst, _∙_}
+use mathlib.Core.Path.{_≡_, refl, sym, ap, ap₂, subst, _∙_}
 use mathlib.Core.List.{List}
 use mathlib.Core.Bool.{Bool, true, false, not}
 use Prim.Native.Nat.{ℕ}
@@ -12,9 +12,11 @@ use Rattle.sets.specs.declared.Refusal.the-variants.{ShortOutput}
 use Rattle.sets.specs.declared.Tested.{Tested}
 use Rattle.sets.specs.declared.Tested.the-variants.{Passed, Failed}
 use Rattle.tag_file.specs.declared.Loaded.{Loaded}
+use Rattle.tag_file.specs.declared.Repeats.{Repeats}
 use Rattle.tag_file.specs.declared.LoadAnswer.{LoadAnswer}
 use Rattle.tag_file.specs.declared.LoadAnswer.the-variants as load
 use Rattle.tag_file.specs.Records.{records}
+use Rattle.tag_file.specs.Repeats.{repeatTotals}
 use Rattle.tag_file.specs.Loading.{Lists, fileFault, totalsOf, filled, roomFor, loadAnswer, LoadCall}
 use Rattle.tag_file.proofs.FaultLaws.{fault-clears}
 use Rattle.tag_file.proofs.AnswerLaws.{accepts, refuses-short, refuses-fault}
@@ -39,34 +41,37 @@ call-refused why is zeros e z =
       rightItems = rw (is, zeros) (z .right .items-zero);
     }
 
-refused-fault : (t : Tested) (x : Loaded) (why : Refusal) → unless load.Refused t (load.Loaded x) ≡ load.Refused why
-    → t ≡ Failed why
-refused-fault Passed x why e = let z : _≡_ {A = ℕ} 0 1 = cc in absurd (omega arith)
-refused-fault (Failed w) x why e = ap Failed cc
+refused-fault : (t : Tested) (x : Loaded) (y : Repeats) (why : Refusal)
+    → unless load.Refused t (load.Loaded x y) ≡ load.Refused why → t ≡ Failed why
+refused-fault Passed x y why e = let z : _≡_ {A = ℕ} 0 1 = cc in absurd (omega arith)
+refused-fault (Failed w) x y why e = ap Failed cc
 
 -- a file at fault: the refusal of the first pass is the answer
 pub call-fault : {file heads tails order : List ℕ} {before after : Lists} {r : LoadAnswer} (why : Refusal)
     → Scanned file heads tails order r → r ≡ load.Refused why → AllCleared before after → LoadCall file before after r
 call-fault {file} {heads} {tails} {order} {before} {after} {r} why s e z =
-    let fault = refused-fault (fileFault file) (totalsOf (records file)) why (sym (s .answer) ∙ e) in
+    let fault =
+    refused-fault (fileFault file) (totalsOf (records file)) (repeatTotals (records file)) why (sym (s .answer) ∙ e) in
     call-refused why (refuses-fault file before why fault) (fault-clears file why fault) e z
 
--- no fault: the totals are the file's
-pub record Sound (file : List ℕ) (total : Loaded) : Type 0 where
+-- no fault: the totals and the repeats are the file's
+pub record Sound (file : List ℕ) (total : Loaded) (repeats : Repeats) : Type 0 where
   pub clean : fileFault file ≡ Passed
   pub counts : total ≡ totalsOf (records file)
+  pub repeated : repeats ≡ repeatTotals (records file)
 
-loaded-sound : (t : Tested) (x total : Loaded) → unless load.Refused t (load.Loaded x) ≡ load.Loaded total
-    → (t ≡ Passed) × (total ≡ x)
-loaded-sound Passed x total e = (refl, cc)
-loaded-sound (Failed w) x total e = let z : _≡_ {A = ℕ} 0 1 = cc in absurd (omega arith)
+loaded-sound : (t : Tested) (x total : Loaded) (y repeats : Repeats)
+    → unless load.Refused t (load.Loaded x y) ≡ load.Loaded total repeats → (t ≡ Passed) × (total ≡ x) × (repeats ≡ y)
+loaded-sound Passed x total y repeats e = (refl, cc, cc)
+loaded-sound (Failed w) x total y repeats e = let z : _≡_ {A = ℕ} 0 1 = cc in absurd (omega arith)
 
-module _ {file heads tails order : List ℕ} {r : LoadAnswer} {total : Loaded} (s : Scanned file heads tails order r)
-    (e : r ≡ load.Loaded total) where
-  sound : Sound file total
+module _ {file heads tails order : List ℕ} {r : LoadAnswer} {total : Loaded} {repeats : Repeats}
+    (s : Scanned file heads tails order r) (e : r ≡ load.Loaded total repeats) where
+  sound : Sound file total repeats
   sound =
-      let both = loaded-sound (fileFault file) (totalsOf (records file)) total (sym (s .answer) ∙ e) in
-      record { clean = both .0; counts = both .1 }
+      let all =
+      loaded-sound (fileFault file) (totalsOf (records file)) total (repeatTotals (records file)) repeats (sym (s .answer) ∙ e) in
+      record { clean = all .0; counts = all .1; repeated = all .2 }
 
   pub sound-limited : Limited total
   sound-limited = subst (λ (t : Loaded). Limited t) (sym (sound .counts)) (s .taken (sound .clean) .limited)
@@ -99,11 +104,11 @@ module _ {file heads tails order : List ℕ} {r : LoadAnswer} {total : Loaded} (
             room = room-here;
           }
 
-      pub call-loaded : {after : Lists} → AllFilled (records file) lent after → LoadCall file lent after (load.Loaded total)
+      pub call-loaded : {after : Lists} → AllFilled (records file) lent after → LoadCall file lent after (load.Loaded total repeats)
       call-loaded z =
           let accepted = accepts file lent (sound .clean) room-here in
           record {
-            answered = ap load.Loaded (sound .counts) ∙ sym accepted;
+            answered = ap₂ load.Loaded (sound .counts) (sound .repeated) ∙ sym accepted;
             tags = rw accepted (z .tags-filled);
             leftNumbers = rw accepted (z .leftNumbers-filled);
             leftEnds = rw accepted (z .leftEnds-filled);

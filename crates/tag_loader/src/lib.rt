@@ -100,7 +100,7 @@ pub fn load(
     let mut order = [0u16; INDEX_ROOM];
     let mut hints = [NO_ID; HINT_SLOTS];
     let answer = scan(file, &mut heads, &mut tails, &mut order, &mut hints);
-    let LoadAnswer::Loaded(total) = answer else {
+    let LoadAnswer::Loaded(total, _) = answer else {
         clear_lists(
             tags,
             left_numbers,

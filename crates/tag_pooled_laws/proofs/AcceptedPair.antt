@@ -13,6 +13,7 @@ use Rattle.sets.specs.Lent.{filledOver}
 use Rattle.sets.specs.declared.Side.{Side}
 use Rattle.sets.specs.declared.Side.the-variants.{Right}
 use Rattle.tag_file.specs.declared.Loaded.{Loaded}
+use Rattle.tag_file.specs.declared.Repeats.{Repeats}
 use Rattle.tag_file.specs.declared.LoadAnswer.{LoadAnswer}
 use Rattle.tag_file.specs.declared.LoadAnswer.the-variants as load
 use Rattle.tag_file.specs.Records.{totalLength, records}
@@ -45,13 +46,13 @@ pub record FilledLists (part before after : Lists) : Type 0 where
   pub rightEnds : after .rightEnds ≡ filledOver (part .rightEnds) (before .rightEnds)
   pub rightItems : after .rightItems ≡ filledOver (part .rightItems) (before .rightItems)
 
-module _ (first second : List ℕ) {before after : Lists} {totals : Loaded}
-    (call : PooledCall first second before after (load.Loaded totals)) where
-  answer-is : pooledAnswer first second before ≡ load.Loaded totals
+module _ (first second : List ℕ) {before after : Lists} {totals : Loaded} {repeats : Repeats}
+    (call : PooledCall first second before after (load.Loaded totals repeats)) where
+  answer-is : pooledAnswer first second before ≡ load.Loaded totals repeats
   answer-is = sym (call .answered)
 
-  pub pair-accepted : Accepted first second before totals
-  pair-accepted = answer-accepted first second before totals answer-is
+  pub pair-accepted : Accepted first second before totals repeats
+  pair-accepted = answer-accepted first second before totals repeats answer-is
 
   pub pair-filled : FilledLists (filled (pooledRecords first second)) before after
   pair-filled =
@@ -71,7 +72,7 @@ module _ (first second : List ℕ) {before after : Lists} {totals : Loaded}
   -- the filled parts hold what the pooled records give
   pub pair-fills : Fills (pooledRecords first second) totals after
   pair-fills =
-      lists-fill (pooledRecords first second) before after (pooledAnswer first second before) totals answer-is
+      lists-fill (pooledRecords first second) before after (pooledAnswer first second before) totals repeats answer-is
       (sym (pair-accepted .counts)) (pooled-lists call)
 
   -- ---- the pooled records

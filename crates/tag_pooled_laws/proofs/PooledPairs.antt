@@ -19,6 +19,7 @@ use Rattle.join_spec.specs.Query.{Settings}
 use Rattle.join_spec.specs.Answer.{RunCall}
 use Rattle.join_spec.proofs.PairListLaws.{pairOccurs}
 use Rattle.tag_file.specs.declared.Loaded.{Loaded}
+use Rattle.tag_file.specs.declared.Repeats.{Repeats}
 use Rattle.tag_file.specs.declared.LoadAnswer.the-variants as load
 use Rattle.tag_file.specs.Records.{TagRecord, records, ofSide}
 use Rattle.tag_file.specs.Loading.{Lists, numbersOf}
@@ -57,8 +58,8 @@ contained-pooled first second once once-more l r =
     ap (contained (recordOf Left first l .tags))
     (tags-pooled first second once once-more r (ltb-true r (length (ofSide Right (pooled first second))) within)))))
 
-module _ (first second : List ℕ) {lent got : Lists} {loaded : Loaded}
-    (pools : PooledCall first second lent got (load.Loaded loaded)) where
+module _ (first second : List ℕ) {lent got : Lists} {loaded : Loaded} {repeats : Repeats}
+    (pools : PooledCall first second lent got (load.Loaded loaded repeats)) where
   -- the numbers at a place: the first file's left record's, and the borrower's
   pub pair-left-number : (l : ℕ) → l < loaded .«left_sets» → getD (got .leftNumbers) l 0 ≡ recordOf Left (records first) l .number
   pair-left-number l within =

@@ -4,15 +4,17 @@ use mathlib.Core.Path.{_≡_, refl, ap, sym, _∙_}
 use mathlib.Core.Bool.{true}
 use Prim.Native.Nat.{ℕ}
 use mathlib.Core.List.{List, [], _∷_}
+use native.Mathlib.Nat.{add-zero}
 use lib.ListN.{length}
 use Rattle.lists.specs.Lists.{keep, sum, any}
-use Rattle.sets.specs.declared.Side.the-variants.{Right}
+use Rattle.sets.specs.declared.Side.the-variants.{Left, Right}
 use Rattle.sets.specs.declared.Tested.the-variants.{Passed}
 use Rattle.tag_file.specs.declared.LoadAnswer.{LoadAnswer}
 use Rattle.tag_file.specs.Records.{TagRecord, recordsFrom, records, ofSide}
+use Rattle.tag_file.specs.Repeats.{repeatsOf, repeatTotals}
 use Rattle.tag_file.specs.Loading.{Lists, loadAnswer, listsAfter, LoadCall}
 use Rattle.tag_pooling.specs.Pooling.{pooled, secondFault, firstSecondFault, firstOverlong}
-use Rattle.tag_pooling.specs.Pooling.{pooledRecords, pooledAnswer, pooledLists, PooledCall}
+use Rattle.tag_pooling.specs.Pooling.{pooledRecords, pooledRepeats, pooledAnswer, pooledLists, PooledCall}
 use Rattle.tag_pooling.proofs.OneMore.{pooled-none}
 
 -- ---- an empty second file
@@ -27,6 +29,11 @@ module _ (rs : List TagRecord) (base : ℕ) where
   unfolding firstOverlong recordsFrom
   firstOverlong-nil = refl
 
+-- nor does it add repeats
+pub pooledRepeats-nil : (rs : List TagRecord) → pooledRepeats rs (records []) ≡ repeatTotals rs
+unfolding recordsFrom keep sum
+pooledRepeats-nil rs = ap (λ (n : ℕ). record { left = repeatsOf Left rs; right = n }) (add-zero (repeatsOf Right rs))
+
 module _ (first : List ℕ) where
   pub pooledRecords-nil : pooledRecords first [] ≡ records first
   unfolding recordsFrom
@@ -39,6 +46,7 @@ module _ (first : List ℕ) where
         secondFault-nil (records first) (length first),
         firstOverlong-nil (records first) (length first),
         pooledRecords-nil,
+        pooledRepeats-nil (records first),
       )
 
   pooledLists-nil : (lent : Lists) → pooledLists first [] lent ≡ listsAfter first lent

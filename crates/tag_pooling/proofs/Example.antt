@@ -13,6 +13,7 @@ use Rattle.tag_file.specs.declared.LoadAnswer.the-variants as load
 use Rattle.tag_file.specs.Format.{valueFrom, bytesOf, tagBytes, mark}
 use Rattle.tag_file.specs.Reading.{readAt, tagsAt}
 use Rattle.tag_file.specs.Records.{TagRecord, recordsFrom, insert, insertAll, allTags, itemsOf}
+use Rattle.tag_file.specs.Repeats.{repeatsIn}
 use Rattle.tag_file.specs.Loading.{Lists, listsOf, fileFault, firstFault, faultOf, tooMany, endsFrom, join, roomFor}
 use Rattle.tag_pooling.specs.Pooling.{pooled, secondFaultOf, firstSecondFault, secondFault, firstOverlong}
 use Rattle.tag_pooling.specs.Pooling.{pooledAnswer, pooledLists}
@@ -29,11 +30,12 @@ head side number count = mark side ++ (0 ∷ number ∷ count ∷ [])
 first : List ℕ
 first = head Left 7 2 ++ (tag 1 ++ tag 2) ++ (head Right 9 1 ++ tag 1) ++ (head Right 5 1 ++ tag 3)
 
--- left set 7 twice, with tag 8 and without tags, which adds nothing and is no fault; right set 6 with tag 4; right set 9 with tags
--- 2, 1, 2
+-- left set 7 twice, with tags 8, 8 and without tags, which adds nothing, no repeat either, and is no fault; right set 6 with tag 4;
+-- right set 9 with tags 2, 1, 2
 second : List ℕ
 second =
-    (head Left 7 1 ++ tag 8) ++ head Left 7 0 ++ (head Right 6 1 ++ tag 4) ++ head Right 9 3 ++ (tag 2 ++ (tag 1 ++ tag 2))
+    (head Left 7 2 ++ (tag 8 ++ tag 8)) ++ head Left 7 0 ++ (head Right 6 1 ++ tag 4) ++ head Right 9 3
+    ++ (tag 2 ++ (tag 1 ++ tag 2))
 
 -- lists that are just long enough, but for one place more of items
 lent : Lists
@@ -41,11 +43,13 @@ lent =
     listsOf (replicate 48 99) (99 ∷ []) (99 ∷ []) (99 ∷ 99 ∷ 99 ∷ []) (99 ∷ 99 ∷ 99 ∷ []) (99 ∷ 99 ∷ 99 ∷ [])
     (99 ∷ 99 ∷ 99 ∷ 99 ∷ 99 ∷ [])
 
+-- one repeat, of right set 9 in the second file; its tag 1, read on both pads, is none
 example-answer : pooledAnswer first second lent
     ≡ load.Loaded (record { «left_sets» = 1; «right_sets» = 3; «left_entries» = 2; «right_entries» = 4; tags = 4 })
+    (record { left = 0; right = 1 })
 unfolding first second lent head tag pooledAnswer fileFault firstFault faultOf tooMany secondFault firstSecondFault secondFaultOf
     firstOverlong pooled roomFor readAt tagsAt recordsFrom valueFrom insert insertAll allTags itemsOf keep memb sum any prefix
-    range endsFrom join tagBytes bytesOf
+    range endsFrom join tagBytes bytesOf repeatsIn
 example-answer = refl
 
 -- right sets 9 and 5 of the first file, then 6 of the second; set 9 has tags 1 and 2, read one on each pad

@@ -8,7 +8,7 @@ pub mod Growing
 pub mod SecondFaults
 -- the left sets of pooled records, and the right sets
 pub mod Sides
--- the answer by its tests: zeros with a refusal, all passed without
+-- the answer by its tests: zeros with a refusal, all passed without, and then the repeats
 pub mod Answers
 -- a call, with the answer as it is defined
 pub mod Calls

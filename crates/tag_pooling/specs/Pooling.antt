@@ -14,9 +14,11 @@ use Rattle.sets.specs.declared.Side.the-variants.{Left, Right}
 use Rattle.sets.specs.declared.Refusal.the-variants.{Malformed, NumberUsed, TooMany, ShortOutput, Overlong}
 use Rattle.sets.specs.declared.Tested.{Tested}
 use Rattle.sets.specs.declared.Tested.the-variants.{Passed, Failed}
+use Rattle.tag_file.specs.declared.Repeats.{Repeats}
 use Rattle.tag_file.specs.declared.LoadAnswer.{LoadAnswer}
 use Rattle.tag_file.specs.declared.LoadAnswer.the-variants as load
 use Rattle.tag_file.specs.Records.{TagRecord, totalLength, records, sameSide, ofSide, allTags, collapse}
+use Rattle.tag_file.specs.Repeats.{repeatsOf}
 use Rattle.tag_file.specs.Loading.{numberUsed, tooMany, fileFault, Lists, filled, roomFor, totalsOf, listsBy}
 
 -- ---- the records of both files
@@ -79,20 +81,28 @@ firstOverlong first base seen (r ∷ rs) =
     unless Failed (refuseIf (isOverlong first r) (Overlong (placeAfter base (totalLength seen))))
     (firstOverlong first base (seen ++ (r ∷ [])) rs)
 
+-- ---- repeats
+
+-- the repeats of both files, each record by itself (C-15): a tag that both have is none, and the second file's left sets add none
+abbrev pub pooledRepeats : List TagRecord → List TagRecord → Repeats
+pooledRepeats first second =
+    record { left = repeatsOf Left first; right = repeatsOf Right first + repeatsOf Right second }
+
 -- ---- the answer, and the lists
 
 -- the pooled records of two files
 abbrev pub pooledRecords : List ℕ → List ℕ → List TagRecord
 pooledRecords first second = pooled (records first) (records second)
 
--- the answer: the first file's first fault; the second's; then 4 over the pooled records; then 10; else how much was filled
+-- the answer: the first file's first fault; the second's; then 4 over the pooled records; then 10; else how much was filled, and the
+-- repeats
 unfoldable pub pooledAnswer : List ℕ → List ℕ → Lists → LoadAnswer
 pooledAnswer first second lent =
     unless load.Refused (fileFault first)
     (unless load.Refused (secondFault (records first) (length first) second)
     (unless load.Refused (refuseIf (not (roomFor (filled (pooledRecords first second)) lent)) ShortOutput)
     (unless load.Refused (firstOverlong (records first) (length first) [] (records second))
-    (load.Loaded (totalsOf (pooledRecords first second))))))
+    (load.Loaded (totalsOf (pooledRecords first second)) (pooledRepeats (records first) (records second))))))
 
 -- the seven lent lists at the end
 abbrev pub pooledLists : List ℕ → List ℕ → Lists → Lists

@@ -6,6 +6,7 @@ use lib.ListN.{length, take, drop}
 use lib.Seq.{take-at}
 use Rattle.sets.specs.declared.Side.the-variants.{Left, Right}
 use Rattle.tag_file.specs.declared.Loaded.{Loaded}
+use Rattle.tag_file.specs.declared.Repeats.{Repeats}
 use Rattle.tag_file.specs.declared.LoadAnswer.{LoadAnswer}
 use Rattle.tag_file.specs.declared.LoadAnswer.the-variants as load
 use Rattle.tag_file.specs.Format.{tagBytes}
@@ -23,34 +24,35 @@ lists-same : {a b c d e f g a′ b′ c′ d′ e′ f′ g′ : List ℕ} → a
 lists-same p q r s t u v = rw (p, q, r, s, t, u, v)
 
 -- the filled part of a lent list
-part-filled : (answer : LoadAnswer) (counts : Loaded) (part lent : List ℕ) (n : ℕ) → answer ≡ load.Loaded counts → length part ≡ n
-    → take n (lentAfter answer part lent) ≡ part
-part-filled answer counts part lent n e long =
+part-filled : (answer : LoadAnswer) (counts : Loaded) (repeats : Repeats) (part lent : List ℕ) (n : ℕ)
+    → answer ≡ load.Loaded counts repeats → length part ≡ n → take n (lentAfter answer part lent) ≡ part
+part-filled answer counts repeats part lent n e long =
     ap (λ (a : LoadAnswer). take n (lentAfter a part lent)) e ∙ take-at part (drop (length part) lent) n long
 
 -- the filled parts of the lists are what the records give, after any answer that accepts
-parts-by : (rs : List TagRecord) (lent : Lists) (answer : LoadAnswer) (counts : Loaded) → answer ≡ load.Loaded counts
-    → partsOf (totalsOf rs) (listsBy answer (filled rs) lent) ≡ filled rs
-parts-by rs lent answer counts e =
+parts-by : (rs : List TagRecord) (lent : Lists) (answer : LoadAnswer) (counts : Loaded) (repeats : Repeats)
+    → answer ≡ load.Loaded counts repeats → partsOf (totalsOf rs) (listsBy answer (filled rs) lent) ≡ filled rs
+parts-by rs lent answer counts repeats e =
     lists-same
-    (part-filled _ _ (tagBytes (tagTable rs)) (lent .tags) _ e (length-tagBytes (tagTable rs)))
-    (part-filled _ _ (numbersOf Left rs) (lent .leftNumbers) _ e (length-numbersOf Left rs))
-    (part-filled _ _ (endsOf Left rs) (lent .leftEnds) _ e (length-endsOf Left rs))
-    (part-filled _ _ (joinedItems Left rs) (lent .leftItems) _ e (length-joinedItems Left rs))
-    (part-filled _ _ (numbersOf Right rs) (lent .rightNumbers) _ e (length-numbersOf Right rs))
-    (part-filled _ _ (endsOf Right rs) (lent .rightEnds) _ e (length-endsOf Right rs))
-    (part-filled _ _ (joinedItems Right rs) (lent .rightItems) _ e (length-joinedItems Right rs))
+    (part-filled _ _ _ (tagBytes (tagTable rs)) (lent .tags) _ e (length-tagBytes (tagTable rs)))
+    (part-filled _ _ _ (numbersOf Left rs) (lent .leftNumbers) _ e (length-numbersOf Left rs))
+    (part-filled _ _ _ (endsOf Left rs) (lent .leftEnds) _ e (length-endsOf Left rs))
+    (part-filled _ _ _ (joinedItems Left rs) (lent .leftItems) _ e (length-joinedItems Left rs))
+    (part-filled _ _ _ (numbersOf Right rs) (lent .rightNumbers) _ e (length-numbersOf Right rs))
+    (part-filled _ _ _ (endsOf Right rs) (lent .rightEnds) _ e (length-endsOf Right rs))
+    (part-filled _ _ _ (joinedItems Right rs) (lent .rightItems) _ e (length-joinedItems Right rs))
 
-pub lists-fill : (rs : List TagRecord) (lent got : Lists) (answer : LoadAnswer) (counts : Loaded) → answer ≡ load.Loaded counts
-    → counts ≡ totalsOf rs → got ≡ listsBy answer (filled rs) lent → Fills rs counts got
-lists-fill rs lent got answer counts e counted after =
+pub lists-fill : (rs : List TagRecord) (lent got : Lists) (answer : LoadAnswer) (counts : Loaded) (repeats : Repeats)
+    → answer ≡ load.Loaded counts repeats → counts ≡ totalsOf rs → got ≡ listsBy answer (filled rs) lent → Fills rs counts got
+lists-fill rs lent got answer counts repeats e counted after =
     record {
       counted = counted;
       lists =
-          ap (λ (c : Loaded). partsOf c got) counted ∙ ap (partsOf (totalsOf rs)) after ∙ parts-by rs lent answer counts e;
+          ap (λ (c : Loaded). partsOf c got) counted ∙ ap (partsOf (totalsOf rs)) after ∙ parts-by rs lent answer counts repeats e;
     }
 
 -- of a load
-pub parts-filled : (file : List ℕ) (lent : Lists) → loadAnswer file lent ≡ load.Loaded (totalsOf (records file))
+pub parts-filled : (file : List ℕ) (lent : Lists) (repeats : Repeats)
+    → loadAnswer file lent ≡ load.Loaded (totalsOf (records file)) repeats
     → loadedFrom file lent (totalsOf (records file)) ≡ filled (records file)
-parts-filled file lent e = parts-by (records file) lent (loadAnswer file lent) (totalsOf (records file)) e
+parts-filled file lent repeats e = parts-by (records file) lent (loadAnswer file lent) (totalsOf (records file)) repeats e

@@ -1,5 +1,6 @@
 -- Document 01's example file of kitlist with its records the other way round, computed: it is accepted, and the file that is
--- written from what was loaded has the left set's record first and each tag once.
+-- written from what was loaded has the left set's record first and each tag once. One read of the first is a repeat, none of the
+-- second.
 use mathlib.Core.Path.{_≡_, refl}
 use Prim.Native.Nat.{ℕ}
 use mathlib.Core.List.{List, [], _∷_, _++_}
@@ -9,6 +10,7 @@ use Rattle.sets.specs.declared.Tested.the-variants.{Passed}
 use Rattle.tag_file.specs.Format.{valueFrom, bytesOf, tagBytes}
 use Rattle.tag_file.specs.Reading.{readAt, tagsAt}
 use Rattle.tag_file.specs.Records.{records, recordsFrom, insert, insertAll, allTags, itemsOf}
+use Rattle.tag_file.specs.Repeats.{repeatsIn, repeatTotals, noRepeats}
 use Rattle.tag_file.specs.Loading.{filled, fileFault, firstFault, faultOf, tooMany, endsFrom, join}
 use Rattle.writer_spec.specs.Writer.{recordsOf, fileBytes}
 
@@ -33,3 +35,12 @@ example-written : fileBytes (filled (records file)) ≡ rewritten-file
 unfolding file tag rewritten-file readAt tagsAt recordsFrom valueFrom insert insertAll allTags itemsOf
     keep memb range prefix endsFrom join setsFrom tagBytes bytesOf recordsOf fileBytes
 example-written = refl
+
+-- tag 1 stands twice in right set 9
+example-repeats : repeatTotals (records file) ≡ record { left = 0; right = 1 }
+unfolding file tag readAt tagsAt recordsFrom valueFrom insert insertAll keep sum prefix repeatsIn
+example-repeats = refl
+
+example-no-repeats : repeatTotals (records rewritten-file) ≡ noRepeats
+unfolding rewritten-file tag readAt tagsAt recordsFrom valueFrom insert insertAll keep sum prefix repeatsIn
+example-no-repeats = refl

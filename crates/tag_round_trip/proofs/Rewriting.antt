@@ -1,8 +1,10 @@
--- The records that a loaded file becomes: each side's, the tag table, the sets, numbers, entries and counts are as they were.
+-- The records that a loaded file becomes: each side's, the tag table, the sets, numbers, entries and counts are as they were, and
+-- there are no repeats.
 use mathlib.Core.Path.{_≡_, refl, sym, ap, _∙_}
 use Prim.Native.Nat.{ℕ}
 use mathlib.Core.List.{List, [], _∷_, map, append-nil}
 use mathlib.Core.Bool.{Bool, true, false, _||_, or-assoc}
+use native.Mathlib.Omega.{arith}
 use lib.ListN.{length, length-map}
 use Rattle.lists.specs.Lists.{keep, onto, memb, any, sum}
 use Rattle.lists.proofs.Bools.{or-swap}
@@ -13,8 +15,10 @@ use Rattle.lists.proofs.Rising.{rising-same}
 use Rattle.sets.specs.declared.Side.{Side}
 use Rattle.sets.specs.declared.Side.the-variants.{Left, Right}
 use Rattle.tag_file.specs.Records.{TagRecord, sameSide, ofSide, collapse, allTags, tagTable, itemsOf, entriesOf, setsOfSide}
+use Rattle.tag_file.specs.Repeats.{repeatsIn, repeatsOf, repeatTotals, noRepeats}
 use Rattle.tag_file.specs.Loading.{numbersOf, filled, totalsOf}
 use Rattle.tag_file.proofs.Tables.{rising-collapse, memb-collapse}
+use Rattle.tag_file.proofs.RepeatLaws.{rising-repeats}
 use Rattle.tag_round_trip.specs.Rewritten.{collapsed, collapsedSide, rewritten}
 use Rattle.tag_round_trip.proofs.Items.{items-collapse}
 use Rattle.tag_round_trip.proofs.Sorted.{collapse-collapse}
@@ -101,6 +105,20 @@ module _ (side : Side) (rs : List TagRecord) where
 
   pub places-rewritten : length (ofSide side (rewritten rs)) ≡ length (ofSide side rs)
   places-rewritten = ap length (side-rewritten side rs) ∙ length-map (ofSide side rs) collapsed
+
+-- ---- repeats: collapsed tags rise strictly, so there are none
+
+collapsed-repeats : (rs : List TagRecord) → sum (λ r. repeatsIn (r .tags)) (map collapsed rs) ≡ 0
+unfolding sum
+collapsed-repeats [] = refl
+collapsed-repeats (r ∷ rs) =
+    omega (arith, rising-repeats (collapse (r .tags)) (rising-collapse (r .tags)), collapsed-repeats rs)
+
+pub repeats-rewritten : (rs : List TagRecord) → repeatTotals (rewritten rs) ≡ noRepeats
+repeats-rewritten rs = rw (none Left, none Right)
+  where
+    none : (side : Side) → repeatsOf side (rewritten rs) ≡ 0
+    none side = ap (sum (λ r. repeatsIn (r .tags))) (side-rewritten side rs) ∙ collapsed-repeats (ofSide side rs)
 
 -- ---- the tag table
 

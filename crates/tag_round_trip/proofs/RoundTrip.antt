@@ -1,8 +1,8 @@
 -- The round trip: whatever file the loader accepts, the writer accepts what it filled, and loading the file so written, with
--- lists that are long enough, gives the same counts, tag table, record numbers, ends and items. The hypotheses and conclusions
--- are what the contracts of the loader and the writer say of three calls one after the other. It is shown of any lists that
--- hold what records give.
-use mathlib.Core.Path.{_≡_, refl, sym, ap, subst, _∙_}
+-- lists that are long enough, gives the same counts, tag table, record numbers, ends and items, and no repeats. The hypotheses and
+-- conclusions are what the contracts of the loader and the writer say of three calls one after the other. It is shown of any lists
+-- that hold what records give.
+use mathlib.Core.Path.{_≡_, refl, sym, ap, ap₂, subst, _∙_}
 use Prim.Native.Nat.{ℕ, _≤_, _<_}
 use mathlib.Core.List.{List, [], _++_}
 use mathlib.Core.Bool.{true}
@@ -14,11 +14,13 @@ use Rattle.sets.specs.Refusals.{unless}
 use Rattle.sets.specs.declared.Tested.{Tested}
 use Rattle.sets.specs.declared.Tested.the-variants.{Passed, Failed}
 use Rattle.tag_file.specs.declared.Loaded.{Loaded}
+use Rattle.tag_file.specs.declared.Repeats.{Repeats}
 use Rattle.tag_file.specs.declared.LoadAnswer.{LoadAnswer}
 use Rattle.tag_file.specs.declared.LoadAnswer.the-variants as load
 use Rattle.writer_spec.specs.declared.WriteAnswer.{WriteAnswer}
 use Rattle.writer_spec.specs.declared.WriteAnswer.the-variants as write
 use Rattle.tag_file.specs.Records.{TagRecord, records, tagTable}
+use Rattle.tag_file.specs.Repeats.{repeatTotals, noRepeats}
 use Rattle.tag_file.specs.Loading.{Lists, filled, totalsOf, fileFault, firstFault, refusalOf, roomFor, loadAnswer, listsAfter}
 use Rattle.tag_file.specs.Loading.{LoadCall}
 use Rattle.tag_file.specs.declared.ReadAnswer.{ReadAnswer}
@@ -33,7 +35,7 @@ use Rattle.tag_round_trip.proofs.Accepted.{lists-fill, parts-filled}
 use Rattle.tag_round_trip.proofs.Faults.{free-none, free-rewritten}
 use Rattle.tag_round_trip.proofs.FileRecords.{table-fit, Loadable, file-loadable}
 use Rattle.tag_round_trip.proofs.Refilled.{side-good, lists-records}
-use Rattle.tag_round_trip.proofs.Rewriting.{filled-rewritten, counts-rewritten}
+use Rattle.tag_round_trip.proofs.Rewriting.{filled-rewritten, counts-rewritten, repeats-rewritten}
 use Rattle.tag_round_trip.proofs.Values.{tagBytes-low}
 use Rattle.tag_round_trip.proofs.Written.{written-records, written-end}
 
@@ -86,6 +88,9 @@ module _ (rs : List TagRecord) (so : Loadable rs) where
   counts-again : totalsOf (records (fileBytes (filled rs))) ≡ totalsOf rs
   counts-again = ap totalsOf reads ∙ counts-rewritten rs
 
+  repeats-again : repeatTotals (records (fileBytes (filled rs))) ≡ noRepeats
+  repeats-again = ap repeatTotals reads ∙ repeats-rewritten rs
+
   -- what the output list holds is the file
   written-bytes : (out : List ℕ) → length (fileBytes (filled rs)) ≤ length out
       → writtenTo (length (tagTable rs)) (filled rs) out ≡ fileBytes (filled rs)
@@ -96,15 +101,16 @@ module _ (rs : List TagRecord) (so : Loadable rs) where
 
   -- a load of that file
   loads-again : (lent : Lists) → roomFor (filled rs) lent ≡ true
-      → Loads (fileBytes (filled rs)) lent (totalsOf rs) (filled rs)
+      → Loads (fileBytes (filled rs)) lent (totalsOf rs) noRepeats (filled rs)
   loads-again lent room =
       let bytes = fileBytes (filled rs) in
-      let answer : loadAnswer bytes lent ≡ load.Loaded (totalsOf (records bytes)) =
+      let answer : loadAnswer bytes lent ≡ load.Loaded (totalsOf (records bytes)) (repeatTotals (records bytes)) =
       accepts bytes lent clear-again (rw filled-again room) in
       record {
-        answer = answer ∙ ap (λ (c : Loaded). load.Loaded c) counts-again;
+        answer = answer ∙ ap₂ (λ (c : Loaded) (q : Repeats). load.Loaded c q) counts-again repeats-again;
         lists =
-            ap (λ (c : Loaded). loadedFrom bytes lent c) (sym counts-again) ∙ parts-filled bytes lent answer ∙ filled-again;
+            ap (λ (c : Loaded). loadedFrom bytes lent c) (sym counts-again)
+            ∙ parts-filled bytes lent (repeatTotals (records bytes)) answer ∙ filled-again;
       }
 
   trip-filled : (out : List ℕ) → length (fileBytes (filled rs)) ≤ length out
@@ -130,7 +136,7 @@ module _ (rs : List TagRecord) (so : Loadable rs) (counts : Loaded) (got : Lists
   pub fills-again : (out wrote : List ℕ) (n : ℕ) (again more : Lists) (answer : LoadAnswer)
       → WriteCall (counts .tags) (partsOf counts got) out wrote (write.Written n)
       → LoadCall (take n wrote) again more answer → roomFor (partsOf counts got) again ≡ true
-      → (answer ≡ load.Loaded counts) × (partsOf counts more ≡ partsOf counts got)
+      → (answer ≡ load.Loaded counts noRepeats) × (partsOf counts more ≡ partsOf counts got)
   fills-again out wrote n again more answer second third room =
       let bytes = fileBytes (filled rs) in
       let same = fills .lists in
@@ -146,34 +152,47 @@ module _ (rs : List TagRecord) (so : Loadable rs) (counts : Loaded) (got : Lists
       ∙ take-at bytes (drop (length bytes) out) n (parts .1) in
       let loads = loads-again rs so again (ap (λ (l : Lists). roomFor l again) (sym same) ∙ room) in (
         third .answered ∙ ap (λ (f : List ℕ). loadAnswer f again) output ∙ loads .answer
-            ∙ ap (λ (c : Loaded). load.Loaded c) counted,
+            ∙ ap (λ (c : Loaded). load.Loaded c noRepeats) counted,
         ap (partsOf counts) (call-lists third) ∙ ap (λ (f : List ℕ). partsOf counts (listsAfter f again)) output
             ∙ ap (loadedFrom bytes again) (sym counted) ∙ loads .lists ∙ sym same,
       )
 
--- of a file that the loader accepts
-load-fill : (file : List ℕ) (lent got : Lists) (counts : Loaded) → loadAnswer file lent ≡ load.Loaded counts
-    → got ≡ listsAfter file lent → Fills (records file) counts got
-load-fill file lent got counts e after =
-    lists-fill (records file) lent got (loadAnswer file lent) counts e (sym (accepted file lent counts e .counted)) after
+  -- the records of the file that is written have no repeats
+  pub fills-repeats : repeatTotals (records (fileBytes (partsOf counts got))) ≡ noRepeats
+  fills-repeats = ap (λ (l : Lists). repeatTotals (records (fileBytes l))) (fills .lists) ∙ repeats-again rs so
 
-pub round-trip : (file : List ℕ) (lent : Lists) (counts : Loaded) → ((i : ℕ) → getD file i 0 < 256)
-    → loadAnswer file lent ≡ load.Loaded counts
+-- of a file that the loader accepts, whatever repeats it has
+load-fill : (file : List ℕ) (lent got : Lists) (counts : Loaded) (repeats : Repeats)
+    → loadAnswer file lent ≡ load.Loaded counts repeats → got ≡ listsAfter file lent → Fills (records file) counts got
+load-fill file lent got counts repeats e after =
+    lists-fill (records file) lent got (loadAnswer file lent) counts repeats e
+    (sym (accepted file lent counts repeats e .counted)) after
+
+pub round-trip : (file : List ℕ) (lent : Lists) (counts : Loaded) (repeats : Repeats) → ((i : ℕ) → getD file i 0 < 256)
+    → loadAnswer file lent ≡ load.Loaded counts repeats
     → (out : List ℕ) → length (fileBytes (loadedFrom file lent counts)) ≤ length out
     → Trip counts (loadedFrom file lent counts) out
-round-trip file lent counts low e out enough =
-    fills-trip (records file) (file-loadable file low (accepted file lent counts e .clear)) counts (listsAfter file lent)
-    (load-fill file lent (listsAfter file lent) counts e refl) out enough
+round-trip file lent counts repeats low e out enough =
+    fills-trip (records file) (file-loadable file low (accepted file lent counts repeats e .clear)) counts (listsAfter file lent)
+    (load-fill file lent (listsAfter file lent) counts repeats e refl) out enough
 
--- the same of three calls: a load that is accepted, a write of what it filled that is accepted, and a load of what was written
+-- the file that the writer writes from what was loaded has no repeats: a record has each of its tags once
+pub written-repeats : (file : List ℕ) (lent : Lists) (counts : Loaded) (repeats : Repeats) → ((i : ℕ) → getD file i 0 < 256)
+    → loadAnswer file lent ≡ load.Loaded counts repeats
+    → repeatTotals (records (fileBytes (loadedFrom file lent counts))) ≡ noRepeats
+written-repeats file lent counts repeats low e =
+    fills-repeats (records file) (file-loadable file low (accepted file lent counts repeats e .clear)) counts (listsAfter file lent)
+    (load-fill file lent (listsAfter file lent) counts repeats e refl)
+
+-- the round trip of three calls: a load that is accepted, a write of what it filled that is accepted, and a load of what was written
 -- into lists that are long enough
-pub calls-round-trip : (file : List ℕ) (lent got : Lists) (counts : Loaded) (out wrote : List ℕ) (n : ℕ) (again more : Lists)
-    (answer : LoadAnswer) → ((i : ℕ) → getD file i 0 < 256)
-    → LoadCall file lent got (load.Loaded counts)
+pub calls-round-trip : (file : List ℕ) (lent got : Lists) (counts : Loaded) (repeats : Repeats) (out wrote : List ℕ) (n : ℕ)
+    (again more : Lists) (answer : LoadAnswer) → ((i : ℕ) → getD file i 0 < 256)
+    → LoadCall file lent got (load.Loaded counts repeats)
     → WriteCall (counts .tags) (partsOf counts got) out wrote (write.Written n)
     → LoadCall (take n wrote) again more answer → roomFor (partsOf counts got) again ≡ true
-    → (answer ≡ load.Loaded counts) × (partsOf counts more ≡ partsOf counts got)
-calls-round-trip file lent got counts out wrote n again more answer low first second third room =
-    let e : loadAnswer file lent ≡ load.Loaded counts = sym (first .answered) in
-    fills-again (records file) (file-loadable file low (accepted file lent counts e .clear)) counts got
-    (load-fill file lent got counts e (call-lists first)) out wrote n again more answer second third room
+    → (answer ≡ load.Loaded counts noRepeats) × (partsOf counts more ≡ partsOf counts got)
+calls-round-trip file lent got counts repeats out wrote n again more answer low first second third room =
+    let e : loadAnswer file lent ≡ load.Loaded counts repeats = sym (first .answered) in
+    fills-again (records file) (file-loadable file low (accepted file lent counts repeats e .clear)) counts got
+    (load-fill file lent got counts repeats e (call-lists first)) out wrote n again more answer second third room

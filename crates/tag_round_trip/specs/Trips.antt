@@ -6,10 +6,12 @@ use mathlib.Core.List.{List}
 use mathlib.Core.Bool.{true}
 use lib.ListN.{length, take}
 use Rattle.tag_file.specs.declared.Loaded.{Loaded}
+use Rattle.tag_file.specs.declared.Repeats.{Repeats}
 use Rattle.tag_file.specs.declared.LoadAnswer.the-variants as load
 use Rattle.writer_spec.specs.declared.WriteAnswer.the-variants as write
 use Rattle.tag_file.specs.Format.{tagLength}
 use Rattle.tag_file.specs.Records.{TagRecord}
+use Rattle.tag_file.specs.Repeats.{noRepeats}
 use Rattle.tag_file.specs.Loading.{Lists, filled, totalsOf, roomFor, loadAnswer, listsAfter}
 use Rattle.writer_spec.specs.Writer.{fileBytes, writeAnswer, writtenFile}
 
@@ -39,13 +41,13 @@ loadedFrom file lent counts = partsOf counts (listsAfter file lent)
 abbrev pub writtenTo : ℕ → Lists → List ℕ → List ℕ
 writtenTo T l out = take (length (fileBytes l)) (writtenFile T l out)
 
--- a load of a file into lent lists is accepted with these counts, and fills these lists
-pub record Loads (file : List ℕ) (lent : Lists) (counts : Loaded) (got : Lists) : Type 0 where
-  pub answer : loadAnswer file lent ≡ load.Loaded counts
+-- a load of a file into lent lists is accepted with these counts and repeats, and fills these lists
+pub record Loads (file : List ℕ) (lent : Lists) (counts : Loaded) (repeats : Repeats) (got : Lists) : Type 0 where
+  pub answer : loadAnswer file lent ≡ load.Loaded counts repeats
   pub lists : loadedFrom file lent counts ≡ got
 
 -- the round trip from lists that were loaded, through an output list: the writer writes the file, and every load of it into lists
--- that are long enough is accepted with the same counts and fills the same lists
+-- that are long enough is accepted with the same counts and no repeats, and fills the same lists
 pub record Trip (counts : Loaded) (got : Lists) (out : List ℕ) : Type 0 where
   pub written : writeAnswer (counts .tags) got (length out) ≡ write.Written (length (fileBytes got))
-  pub again : (lent : Lists) → roomFor got lent ≡ true → Loads (writtenTo (counts .tags) got out) lent counts got
+  pub again : (lent : Lists) → roomFor got lent ≡ true → Loads (writtenTo (counts .tags) got out) lent counts noRepeats got

@@ -7,9 +7,8 @@ use native.Mathlib.Nat.{add-zero}
 use borrow.Author.Tests.{ltb-false}
 use lib.Dec.{ltb}
 use lib.ListN.{length, length-append}
-use Rattle.lists.specs.Lists.{keep, sum}
+use Rattle.lists.specs.Lists.{sum}
 use Rattle.lists.proofs.Bools.{or-left-false, or-right-false}
-use Rattle.lists.proofs.Filtering.{keep-append}
 use Rattle.lists.proofs.Summing.{sum-append}
 use Rattle.sets.specs.Limits.{maxItems, maxSets, maxEntries}
 use Rattle.sets.specs.declared.Side.{Side}
@@ -17,8 +16,10 @@ use Rattle.sets.specs.declared.Side.the-variants.{Left, Right}
 use Rattle.tag_file.specs.declared.Loaded.{Loaded}
 use Rattle.tag_file.specs.Records.{TagRecord, sameSide, ofSide, insertAll, collapse, allTags, tagTable, entriesOf}
 use Rattle.tag_file.specs.Loading.{tooMany, totalsOf}
+use Rattle.tag_file.specs.Repeats.{repeatsIn, repeatTotals}
 use Rattle.tag_file.proofs.Tables.{insertAll-append}
-use Rattle.tag_scan.specs.Scan.{grownBy, isOver, Limited}
+use Rattle.tag_file.proofs.RepeatLaws.{ofSide-same, ofSide-other, repeats-same, repeats-other}
+use Rattle.tag_scan.specs.Scan.{grownBy, isOver, Limited, repeatedBy}
 
 allTags-last : (rs : List TagRecord) (r : TagRecord) → allTags (rs ++ (r ∷ [])) ≡ allTags rs ++ r .tags
 unfolding allTags
@@ -30,25 +31,14 @@ pub tagTable-last : (rs : List TagRecord) (r : TagRecord) → tagTable (rs ++ (r
 tagTable-last rs r = ap (insertAll []) (allTags-last rs r) ∙ insertAll-append [] (allTags rs) (r .tags)
 
 module _ (side : Side) (rs : List TagRecord) (r : TagRecord) where
-  ofSide-last : ofSide side (rs ++ (r ∷ [])) ≡ ofSide side rs ++ ofSide side (r ∷ [])
-  ofSide-last = keep-append (λ r. sameSide side (r .side)) rs (r ∷ [])
-
-  ofSide-same : sameSide side (r .side) ≡ true → ofSide side (rs ++ (r ∷ [])) ≡ ofSide side rs ++ (r ∷ [])
-  unfolding keep
-  ofSide-same e = ofSide-last ∙ rw e
-
-  ofSide-other : sameSide side (r .side) ≡ false → ofSide side (rs ++ (r ∷ [])) ≡ ofSide side rs
-  unfolding keep
-  ofSide-other e = ofSide-last ∙ rw (e, append-nil)
-
   sets-same : sameSide side (r .side) ≡ true → length (ofSide side (rs ++ (r ∷ []))) ≡ length (ofSide side rs) + 1
-  sets-same e = ap length (ofSide-same e) ∙ length-append (ofSide side rs) (r ∷ [])
+  sets-same e = ap length (ofSide-same side rs r e) ∙ length-append (ofSide side rs) (r ∷ [])
 
   entries-same : sameSide side (r .side) ≡ true
       → entriesOf side (rs ++ (r ∷ [])) ≡ entriesOf side rs + length (collapse (r .tags))
   unfolding sum
   entries-same e =
-      ap (sum (λ r. length (collapse (r .tags)))) (ofSide-same e)
+      ap (sum (λ r. length (collapse (r .tags)))) (ofSide-same side rs r e)
       ∙ sum-append (λ (r : TagRecord). length (collapse (r .tags))) (ofSide side rs) (r ∷ [])
       ∙ ap (λ (k : ℕ). entriesOf side rs + k) (add-zero (length (collapse (r .tags))))
 
@@ -75,6 +65,17 @@ grown-counts rs r tags fresh et ef = by-side (r .side) refl
           et,
           ef,
         )
+
+-- and the repeats by its own
+pub grown-repeats : (rs : List TagRecord) (r : TagRecord) (more : ℕ) → more ≡ repeatsIn (r .tags)
+    → repeatedBy (repeatTotals rs) (r .side) more ≡ repeatTotals (rs ++ (r ∷ []))
+grown-repeats rs r more em = by-side (r .side) refl
+  where
+    by-side : (s : Side) → r .side ≡ s → repeatedBy (repeatTotals rs) s more ≡ repeatTotals (rs ++ (r ∷ []))
+    by-side Left e =
+        rw (repeats-same Left rs r (ap (sameSide Left) e), repeats-other Right rs r (ap (sameSide Right) e), em)
+    by-side Right e =
+        rw (repeats-same Right rs r (ap (sameSide Right) e), repeats-other Left rs r (ap (sameSide Left) e), em)
 
 pub grown-tags : (t : Loaded) (side : Side) (tags fresh : ℕ) → grownBy t side tags fresh .tags ≡ tags
 grown-tags t Left tags fresh = refl

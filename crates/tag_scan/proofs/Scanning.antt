@@ -1,19 +1,23 @@
 -- The first pass over a file: its invariant over the records seen so far, with its start, its three ends and its step.
-use mathlib.Core.Path.{_≡_, refl, sym, ap, subst, _∙_}
+use mathlib.Core.Path.{_≡_, refl, sym, ap, ap₂, subst, _∙_}
 use mathlib.Core.List.{List, [], _∷_, _++_, append-nil, append-assoc}
 use mathlib.Core.Bool.{true, false}
-use Prim.Native.Nat.{ℕ, _<_, _≤_}
+use Prim.Native.Nat.{ℕ, _-_, _<_, _≤_}
 use native.Mathlib.Omega.{arith}
-use Rattle.lists.specs.Lists.{sum}
+use lib.ListN.{length}
+use Rattle.lists.specs.Lists.{keep, sum}
 use Rattle.bit_sets.specs.BitSets.{member, Inserted}
 use Rattle.sets.specs.Limits.{maxSetLength, halfWords}
 use Rattle.sets.specs.Refusals.{unless}
 use Rattle.sets.specs.declared.Side.{Side}
+use Rattle.sets.specs.declared.Side.the-variants.{Left, Right}
 use Rattle.sets.specs.declared.Refusal.{Refusal}
 use Rattle.sets.specs.declared.Refusal.the-variants.{NumberUsed, TooMany}
 use Rattle.sets.specs.declared.Tested.{Tested}
 use Rattle.sets.specs.declared.Tested.the-variants.{Passed, Failed}
 use Rattle.tag_file.specs.declared.Loaded.{Loaded}
+use Rattle.tag_file.specs.declared.Repeats.{Repeats}
+use Rattle.tag_file.specs.Repeats.{repeatsIn, repeatTotals, noRepeats}
 use Rattle.tag_file.specs.declared.LoadAnswer.the-variants as load
 use Rattle.tag_file.specs.Reading.{readAt, tagsAt}
 use Rattle.tag_file.specs.Records.{TagRecord, totalLength, recordsAt, records}
@@ -23,29 +27,32 @@ use Rattle.tag_file.specs.declared.ReadAnswer.the-variants.{Record}
 use Rattle.tag_file.proofs.RecordLaws.{length-tagsAt, read-past, read-within, read-length}
 use Rattle.tag_file.proofs.RecordLaws.{records-next, totalLength-last}
 use Rattle.tag_file.proofs.FaultLaws.{fault-used, fault-none}
+use Rattle.tag_file.proofs.RepeatLaws.{repeats-are, repeats-bound}
 use Rattle.tag_index.specs.Index.{Adding, RoomToAdd, AllAdded}
 use Rattle.tag_index.proofs.AddLaws.{added-fresh}
-use Rattle.tag_scan.specs.Scan.{keyOf, grownBy, isOver, Taken, Scanned}
+use Rattle.tag_scan.specs.Scan.{keyOf, grownBy, isOver, Taken, Scanned, repeatedBy, RepeatsRoom}
 use Rattle.tag_scan.proofs.Numbers.{Noted, noted-step, noted-tells}
+use Rattle.tag_scan.proofs.Counting.{grown-repeats}
 use Rattle.tag_scan.proofs.Taking.{taken-over, taken-next}
 
 -- what the reading of a file ends with
 abbrev lastRefusal : List ℕ → Tested
 lastRefusal file = refusalOf (readAt file (totalLength (records file)))
 
-pub record Scanning (file used heads tails order : List ℕ) (total : Loaded) (at : ℕ) : Type 0 where
+pub record Scanning (file used heads tails order : List ℕ) (total : Loaded) (repeats : Repeats) (at : ℕ) : Type 0 where
   pub seen : List TagRecord
   pub split : records file ≡ seen ++ recordsAt file at
   pub place : at ≡ totalLength seen
   pub fault : fileFault file ≡ firstFault seen (recordsAt file at) (lastRefusal file)
   pub noted : Noted used seen
   pub taken : Taken seen total heads tails order
+  pub repeated : repeats ≡ repeatTotals seen
 
 pub scanning-start : (file used heads tails order : List ℕ) {total : Loaded} → Taken [] total heads tails order → Noted used []
-    → Scanning file used heads tails order total 0
-unfolding fileFault sum
+    → Scanning file used heads tails order total noRepeats 0
+unfolding fileFault sum keep
 scanning-start file used heads tails order {total} taken noted =
-    record { seen = []; split = refl; place = refl; fault = refl; noted = noted; taken = taken }
+    record { seen = []; split = refl; place = refl; fault = refl; noted = noted; taken = taken; repeated = refl }
 
 -- a record that passes a limit
 fault-past : (seen : List TagRecord) (r : TagRecord) → numberUsed seen r ≡ false → tooMany (r .side) (seen ++ (r ∷ [])) ≡ true
@@ -61,16 +68,17 @@ scanning-refused {file} why e = record { answer = rw e; taken = λ n. never (sym
     never : {A : Type 0} {w : Refusal} → Failed w ≡ Passed → A
     never e = let z : _≡_ {A = ℕ} 0 1 = cc in absurd (omega arith)
 
-module _ {file used heads tails order : List ℕ} {total : Loaded} {at : ℕ}
-    (s : Scanning file used heads tails order total at) where
+module _ {file used heads tails order : List ℕ} {total : Loaded} {repeats : Repeats} {at : ℕ}
+    (s : Scanning file used heads tails order total repeats at) where
   -- the reading ended: there are no records from here on
   pub scanning-stop : (a : ReadAnswer) → readAt file at ≡ a → recordsAt file at ≡ []
-      → Scanned file heads tails order (unless load.Refused (refusalOf a) (load.Loaded total))
+      → Scanned file heads tails order (unless load.Refused (refusalOf a) (load.Loaded total repeats))
   unfolding firstFault
   scanning-stop a e stop =
       record {
-        answer = ap (λ (t : Tested). unless load.Refused t (load.Loaded total)) (sym ends)
-            ∙ ap (λ (t : Loaded). unless load.Refused (fileFault file) (load.Loaded t)) (s .taken .counts ∙ ap totalsOf (sym all));
+        answer = ap (λ (t : Tested). unless load.Refused t (load.Loaded total repeats)) (sym ends)
+            ∙ ap₂ (λ (t : Loaded) (q : Repeats). unless load.Refused (fileFault file) (load.Loaded t q))
+            (s .taken .counts ∙ ap totalsOf (sym all)) (s .repeated ∙ ap repeatTotals (sym all));
         taken = λ n. subst (λ (rs : List TagRecord). Taken rs (totalsOf rs) heads tails order) (sym all)
             (subst (λ (t : Loaded). Taken (s .seen) t heads tails order) (s .taken .counts) (s .taken));
       }
@@ -118,6 +126,34 @@ module _ {file used heads tails order : List ℕ} {total : Loaded} {at : ℕ}
           → fresh ≤ maxSetLength
       fresh-few a few = omega (arith, added-fresh a added)
 
+      -- its repeats are those of its tags that are not distinct
+      here-repeats : c - fresh ≡ repeatsIn (tagsAt c file p)
+      here-repeats = repeats-are (tagsAt c file p) c fresh (length-tagsAt c file p) (added .adding .counted)
+
+      -- they lie in the file with those before
+      pub repeats-room : length file < 18446744073709551616 → RepeatsRoom repeats (c - fresh)
+      repeats-room fits =
+          record {
+            left = omega (
+              arith,
+              fits,
+              repeats-bound Left (s .seen),
+              ap (λ (q : Repeats). q .left) (s .repeated),
+              s .place,
+              read-length file at e,
+              read-within file at e,
+            );
+            right = omega (
+              arith,
+              fits,
+              repeats-bound Right (s .seen),
+              ap (λ (q : Repeats). q .right) (s .repeated),
+              s .place,
+              read-length file at e,
+              read-within file at e,
+            );
+          }
+
       module _ (small : n < halfWords) (free : member used (keyOf side n) ≡ false) {now-total : Loaded}
           (grew : now-total ≡ grownBy total side tags fresh) where
         -- what the limits say of it
@@ -132,9 +168,10 @@ module _ {file used heads tails order : List ℕ} {total : Loaded} {at : ℕ}
             scanning-refused (TooMany at)
             (here ∙ rw (fault-past (s .seen) this (tells small ∙ free) (sym limit ∙ t), ← s .place))
 
-        pub scanning-next : {now-used : List ℕ} → Inserted used (keyOf side n) now-used → isOver now-total side ≡ false
-            → Scanning file now-used now-heads now-tails now-order now-total next
-        scanning-next noted few =
+        pub scanning-next : {now-used : List ℕ} {now-repeats : Repeats} → Inserted used (keyOf side n) now-used
+            → isOver now-total side ≡ false → now-repeats ≡ repeatedBy repeats side (c - fresh)
+            → Scanning file now-used now-heads now-tails now-order now-total now-repeats next
+        scanning-next noted few rose =
             record {
               seen = s .seen ++ (this ∷ []);
               split = s .split ∙ ap (λ (l : List TagRecord). s .seen ++ l) (records-next file at side n c p next e)
@@ -144,4 +181,6 @@ module _ {file used heads tails order : List ℕ} {total : Loaded} {at : ℕ}
               noted = noted-step this small (s .noted) noted;
               taken = taken-next (s .taken) this (added .adding .sorted) (added .table) (added .adding .counted) grew
                   (sym (ap (λ (t : Loaded). isOver t side) grew) ∙ few);
+              repeated = rose ∙ ap (λ (q : Repeats). repeatedBy q side (c - fresh)) (s .repeated)
+                  ∙ grown-repeats (s .seen) this (c - fresh) here-repeats;
             }

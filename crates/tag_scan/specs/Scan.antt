@@ -1,6 +1,6 @@
 -- Inner: the loader's first pass, what its functions ask and promise. Its state is the counts of the records that were taken in,
 -- and the index of their tags.
-use Prim.Native.Nat.{ℕ, _+_, _*_, _/_, _≤_}
+use Prim.Native.Nat.{ℕ, _+_, _*_, _/_, _<_, _≤_}
 use mathlib.Core.Path.{_≡_}
 use mathlib.Core.List.{List}
 use mathlib.Core.Bool.{Bool, _||_}
@@ -12,9 +12,11 @@ use Rattle.sets.specs.declared.Side.{Side}
 use Rattle.sets.specs.declared.Side.the-variants.{Left, Right}
 use Rattle.sets.specs.declared.Tested.the-variants.{Passed}
 use Rattle.tag_file.specs.declared.Loaded.{Loaded}
+use Rattle.tag_file.specs.declared.Repeats.{Repeats}
 use Rattle.tag_file.specs.declared.LoadAnswer.{LoadAnswer}
 use Rattle.tag_file.specs.declared.LoadAnswer.the-variants as load
 use Rattle.tag_file.specs.Records.{TagRecord, records, tagTable}
+use Rattle.tag_file.specs.Repeats.{repeatTotals}
 use Rattle.tag_file.specs.Loading.{fileFault, totalsOf}
 use Rattle.tag_index.specs.Index.{indexRoom, tableOf, Sorted}
 
@@ -67,6 +69,18 @@ pub record Limited (t : Loaded) : Type 0 where
   pub right-entries : t .«right_entries» ≤ maxEntries
   pub tags : t .tags ≤ maxItems
 
+-- ---- repeats
+
+-- with those of one more record of a side
+abbrev pub repeatedBy : Repeats → Side → ℕ → Repeats
+repeatedBy t Left more = record { left = t .left + more; right = t .right }
+repeatedBy t Right more = record { left = t .left; right = t .right + more }
+
+-- so many more fit a word of 64 bits
+pub record RepeatsRoom (t : Repeats) (more : ℕ) : Type 0 where
+  pub left : t .left + more < 18446744073709551616
+  pub right : t .right + more < 18446744073709551616
+
 -- ---- the state: records that were taken in
 
 -- the lengths of the index's arrays
@@ -82,7 +96,7 @@ pub record Taken (rs : List TagRecord) (total : Loaded) (heads tails order : Lis
   pub sorted : Sorted heads tails (total .tags) order
   pub table : tableOf heads tails (total .tags) order ≡ tagTable rs
 
--- ---- what the pass promises: the first fault of the file, or the counts of its records; and then they are taken in
+-- ---- what the pass promises: the first fault of the file, or the counts and the repeats of its records; and then they are taken in
 pub record Scanned (file heads tails order : List ℕ) (r : LoadAnswer) : Type 0 where
-  pub answer : r ≡ unless load.Refused (fileFault file) (load.Loaded (totalsOf (records file)))
+  pub answer : r ≡ unless load.Refused (fileFault file) (load.Loaded (totalsOf (records file)) (repeatTotals (records file)))
   pub taken : fileFault file ≡ Passed → Taken (records file) (totalsOf (records file)) heads tails order

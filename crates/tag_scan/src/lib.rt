@@ -1,4 +1,5 @@
-// The loader's first pass over a tag file: the first record at fault, or the counts of the file and the index of its tags.
+// The loader's first pass over a tag file: the first record at fault, or the counts and the repeats of the file and the index of its
+// tags. The index tells how many distinct tags a record has, and so how many are repeats.
 use sets::MAX_ENTRIES;
 use sets::MAX_ITEMS;
 use sets::MAX_SETS;
@@ -7,6 +8,7 @@ use sets::Side;
 use tag_file::LoadAnswer;
 use tag_file::Loaded;
 use tag_file::ReadAnswer;
+use tag_file::Repeats;
 use tag_file::read_record;
 use tag_index::Added;
 use tag_index::HINT_SLOTS;
@@ -22,6 +24,7 @@ ghost use Rattle.sets.specs.Refusals.{unless};
 ghost use Rattle.tag_file.specs.declared.LoadAnswer.the-variants.{Loaded as Accepted, Refused as Rejected};
 ghost use Rattle.tag_file.specs.Loading.{refusalOf};
 ghost use Rattle.tag_scan.specs.Scan.{usedWords, keyOf, grownBy, passes, isOver, Limited, Lengths, Scanned};
+ghost use Rattle.tag_scan.specs.Scan.{repeatedBy, RepeatsRoom};
 
 // The greatest number of distinct tags.
 const MAX_TAGS: usize = MAX_ITEMS as usize;
@@ -73,6 +76,23 @@ pub fn grown(total: Loaded, side: Side, added: Added) -> Loaded
     }
 }
 
+// The repeats with those of one more record of a side.
+fn repeated(repeats: Repeats, side: Side, more: usize) -> Repeats
+    requires { ⌜ RepeatsRoom repeats more ⌝ }
+    ensures { λ r. ⌜ r ≡ repeatedBy repeats side more ⌝ }
+{
+    match side {
+        Side::Left => Repeats {
+            left: repeats.left + more,
+            right: repeats.right,
+        },
+        Side::Right => Repeats {
+            left: repeats.left,
+            right: repeats.right + more,
+        },
+    }
+}
+
 // Whether counts pass a limit.
 pub fn is_past(sets: usize, entries: usize, tags: usize) -> bool
     ensures { λ r. ⌜ r ≡ passes sets entries tags ⌝ }
@@ -90,20 +110,20 @@ pub fn is_over(total: Loaded, side: Side) -> bool
     }
 }
 
-// What the first pass answers where the reading ended: the reader's refusal, or the counts.
-fn stopped(answer: ReadAnswer, total: Loaded) -> LoadAnswer
-    ensures { λ r. ⌜ r ≡ unless Rejected (refusalOf answer) (Accepted total) ⌝ }
+// What the first pass answers where the reading ended: the reader's refusal, or the counts and the repeats.
+fn stopped(answer: ReadAnswer, total: Loaded, repeats: Repeats) -> LoadAnswer
+    ensures { λ r. ⌜ r ≡ unless Rejected (refusalOf answer) (Accepted total repeats) ⌝ }
 {
     match answer {
         ReadAnswer::Refused(why) => LoadAnswer::Refused(why),
-        ReadAnswer::NoMore => LoadAnswer::Loaded(total),
+        ReadAnswer::NoMore => LoadAnswer::Loaded(total, repeats),
         ReadAnswer::Record {
             side: _,
             number: _,
             count: _,
             tags: _,
             next: _,
-        } => LoadAnswer::Loaded(total),
+        } => LoadAnswer::Loaded(total, repeats),
     }
 }
 
@@ -127,6 +147,7 @@ pub fn scan_records(
         right_entries: 0,
         tags: 0,
     };
+    let mut repeats = Repeats { left: 0, right: 0 };
     let mut at = 0;
     loop {
         let answer = read_record(file, at);
@@ -138,7 +159,7 @@ pub fn scan_records(
             next,
         } = answer
         else {
-            return stopped(answer, total);
+            return stopped(answer, total, repeats);
         };
         if claim(used, side, number) {
             return LoadAnswer::Refused(Refusal::NumberUsed(at));
@@ -163,6 +184,7 @@ pub fn scan_records(
         if is_over(total, side) {
             return LoadAnswer::Refused(Refusal::TooMany(at));
         }
+        repeats = repeated(repeats, side, count - added.fresh);
         at = next;
     }
 }

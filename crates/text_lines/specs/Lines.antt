@@ -1,5 +1,6 @@
 -- The lines that the program kitlist prints, as bytes. Document 01, "The program kitlist": "A refusal prints `refused`, number,
--- detail"; the line of the six counts; "Then come kit number and stack number, a line per pair, decimal".
+-- detail"; the line of the six counts; "Then come kit number and stack number, a line per pair, decimal". Document 02, C-15: "a
+-- line `repeats`, kit total, stack total, after the line of counts".
 use Prim.Native.Nat.{ℕ, zero, suc, _+_, _/_, _%_}
 use Prim.Native.String.{String, len, charAt}
 use Prim.Native.Char.{code}
@@ -10,6 +11,7 @@ use lib.ListN.{getD}
 use Rattle.sets.specs.declared.Refusal.{Refusal}
 use Rattle.sets.specs.Refusals.{rowOf}
 use Rattle.join_spec.specs.declared.Counts.{Counts}
+use Rattle.tag_file.specs.declared.Repeats.{Repeats}
 
 -- n characters of a text from a place on, by their codes
 abbrev pub codesFrom : ℕ → ℕ → String → List ℕ
@@ -54,6 +56,10 @@ countsLine counts =
     ++ (labelled (ascii " checks ") (counts .checks)
     ++ (labelled (ascii " dropped ") (counts .dropped)
     ++ (labelled (ascii " false ") (counts .«false_drops») ++ ascii "\n")))))
+
+-- the repeats of each side: the left total and the right one
+unfoldable pub repeatsLine : Repeats → List ℕ
+repeatsLine repeats = labelled (ascii "repeats ") (repeats .left) ++ (labelled (ascii " ") (repeats .right) ++ ascii "\n")
 
 -- a pair of records: the left one's number and the right one's
 unfoldable pub pairLine : ℕ → ℕ → List ℕ

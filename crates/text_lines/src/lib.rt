@@ -1,13 +1,15 @@
-// The lines of the program kitlist, written into a lent list of bytes: words, numbers in decimal, a refusal, the six counts,
-// pairs of record numbers. What each line is is defined in specs/. Each function returns the place after what it wrote.
+// The lines of the program kitlist, written into a lent list of bytes: words, numbers in decimal, a refusal, the six counts, the
+// repeats, pairs of record numbers. What each line is is defined in specs/. Each function returns the place after what it wrote.
 use join_spec::Counts;
 use sets::Refusal;
 use sets::head_of;
+use tag_file::Repeats;
 ghost use Prim.Native.Nat.{_+_, _*_, _≤_};
 ghost use lib.ListN.{length};
 ghost use Rattle.lists.specs.Writing.{Room, Put};
-ghost use Rattle.text_lines.specs.Lines.{decimal, labelled, refusedLine, refusalLine, countsLine, pairLine, pairLines};
-ghost use Rattle.text_lines.specs.Room.{countRoom, lineRoom, pairRoom, PairsRoom};
+ghost use Rattle.text_lines.specs.Lines.{decimal, labelled, refusedLine, refusalLine, countsLine};
+ghost use Rattle.text_lines.specs.Lines.{repeatsLine, pairLine, pairLines};
+ghost use Rattle.text_lines.specs.Room.{countRoom, lineRoom, twoNumbers, numbersRoom, repeatsRoom, pairRoom, PairsRoom};
 
 // A word.
 fn put_word(text: &mut [u8], at: usize, word: &[u8]) -> usize
@@ -43,15 +45,24 @@ fn put_labelled(text: &mut [u8], at: usize, word: &[u8], number: u64) -> usize
     put_number(text, n, number)
 }
 
+// A line of two numbers behind a word.
+fn put_numbers(text: &mut [u8], at: usize, word: &[u8], first: u64, second: u64) -> usize
+    requires { ⌜ at + (length (now word) + numbersRoom) ≤ length (now text) ⌝ }
+    ensures { λ r. ⌜ Put (now (text .entry)) at (twoNumbers (now (word .entry)) first second) r (now (text .exit)) ⌝ }
+    ensures { λ r. ⌜ r ≤ at + (length (now (word .entry)) + numbersRoom) ⌝ }
+{
+    let n = put_labelled(text, at, word, first);
+    let m = put_labelled(text, n, b" ", second);
+    put_word(text, m, b"\n")
+}
+
 // The line of a refusal with this number and detail, at the beginning.
 fn put_refused(text: &mut [u8], number: u64, detail: u64) -> usize
     requires { ⌜ lineRoom ≤ length (now text) ⌝ }
     ensures { λ r. ⌜ Put (now (text .entry)) 0 (refusedLine number detail) r (now (text .exit)) ⌝ }
     ensures { λ r. ⌜ r ≤ lineRoom ⌝ }
 {
-    let n = put_labelled(text, 0, b"refused ", number);
-    let m = put_labelled(text, n, b" ", detail);
-    put_word(text, m, b"\n")
+    put_numbers(text, 0, b"refused ", number, detail)
 }
 
 // The line of a refusal, at the beginning.
@@ -86,6 +97,17 @@ pub fn put_counts(text: &mut [u8], counts: Counts) -> usize
     let e = put_count(text, d, b" dropped ", counts.dropped);
     let f = put_count(text, e, b" false ", counts.false_drops);
     put_word(text, f, b"\n")
+}
+
+// The line of the repeats: the left total, then the right one.
+pub fn put_repeats(text: &mut [u8], at: usize, repeats: Repeats) -> usize
+    requires { ⌜ at + repeatsRoom ≤ length (now text) ⌝ }
+    ensures { λ r. ⌜ Put (now (text .entry)) at (repeatsLine repeats) r (now (text .exit)) ⌝ }
+    ensures { λ r. ⌜ r ≤ at + repeatsRoom ⌝ }
+{
+    let left = repeats.left as u64;
+    let right = repeats.right as u64;
+    put_numbers(text, at, b"repeats ", left, right)
 }
 
 // The line of a pair: the numbers of its two records.

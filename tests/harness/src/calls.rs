@@ -165,18 +165,18 @@ pub fn order(random: &mut Random, q: &OrderQuery) -> Result<(), String> {
 }
 
 /// Reads one record.
-pub fn read(file: &[u8], at: usize) -> Result<(), String> {
-    let mut answer = unanswered::<9>();
-    // SAFETY: the pointer comes from a list of the length that follows it.
-    unsafe { ffi::kitfinder_read_record(file.as_ptr(), file.len(), at, &mut answer) };
+pub fn read(random: &mut Random, file: &[u8], at: usize) -> Result<(), String> {
+    let mut answer = Lent::<u64>::new(random, 10);
+    // SAFETY: the pointer comes from a list of the length that follows it, and the answer has ten words.
+    unsafe { ffi::kitfinder_read_record(file.as_ptr(), file.len(), at, answer.pointer().cast()) };
     let should = match read_record(file, at) {
-        Read::Record { right, number, count, tags, next } => {
-            words::<9>(None, &[0, right as u64, number as u64, count as u64, tags as u64, next as u64])
+        Read::Record { right, number, count, tags, next, repeats } => {
+            words::<10>(None, &[0, right as u64, number as u64, count as u64, tags as u64, next as u64, repeats as u64])
         }
-        Read::NoMore => words::<9>(None, &[1, 0, 0, 0, 0, 0]),
-        Read::Fault => words::<9>(Some(Refusal(1, at as u64, 0)), &[]),
+        Read::NoMore => words::<10>(None, &[1, 0, 0, 0, 0, 0, 0]),
+        Read::Fault => words::<10>(Some(Refusal(1, at as u64, 0)), &[]),
     };
-    same_words(&answer, &should).map_err(|message| format!("at {at}: {message}"))
+    same_words(answer.now(), &should).and(answer.is_free("answer")).map_err(|message| format!("at {at}: {message}"))
 }
 
 /// The lengths of the seven lists that a loaded file needs.
@@ -216,9 +216,10 @@ impl Seven {
     }
 
     /// The answer and the lists are those of a refusal, or of a load that gives `loaded`.
-    fn answers(&self, answer: &[u64; 8], refusal: Option<Refusal>, loaded: Option<&LoadedFile>) -> Result<(), String> {
+    fn answers(&self, answer: &Lent<u64>, refusal: Option<Refusal>, loaded: Option<&LoadedFile>) -> Result<(), String> {
+        answer.is_free("answer")?;
         if refusal.is_some() {
-            same_words(answer, &words::<8>(refusal, &[]))?;
+            same_words(answer.now(), &words::<10>(refusal, &[]))?;
             self.tags.is_zero("tags")?;
             self.left_numbers.is_zero("left numbers")?;
             self.left_ends.is_zero("left ends")?;
@@ -229,8 +230,9 @@ impl Seven {
         }
         let loaded = loaded.expect("what is not refused was loaded");
         let needed = lengths_needed(loaded);
-        let counts = [needed[1], needed[4], needed[3], needed[6], loaded.tags.len()].map(|n| n as u64);
-        same_words(answer, &words::<8>(None, &counts))?;
+        let [kit_repeats, stack_repeats] = loaded.repeats;
+        let counts = [needed[1], needed[4], needed[3], needed[6], loaded.tags.len(), kit_repeats, stack_repeats].map(|n| n as u64);
+        same_words(answer.now(), &words::<10>(None, &counts))?;
         let (left, right) = (loaded.collection(0), loaded.collection(1));
         self.tags.holds("tags", &loaded.tags.concat())?;
         self.left_numbers.holds("left numbers", &loaded.sides[0].numbers)?;
@@ -242,11 +244,19 @@ impl Seven {
     }
 }
 
+/// The refusal of a load into lists of these lengths, or none.
+pub fn load_refusal(lengths: [usize; 7], loaded: &Result<LoadedFile, Refusal>) -> Option<Refusal> {
+    match loaded {
+        Err(refusal) => Some(*refusal),
+        Ok(loaded) => is_short(lengths, lengths_needed(loaded)).then_some(Refusal(4, 0, 0)),
+    }
+}
+
 /// Loads a file once into lists of these lengths. `loaded` is what the oracle says of the file.
 pub fn load_into(random: &mut Random, file: &[u8], lengths: [usize; 7], loaded: &Result<LoadedFile, Refusal>) -> Result<(), String> {
     let mut lists = Seven::new(random, lengths);
-    let mut answer = unanswered::<8>();
-    // SAFETY: each pointer comes from a list of the length that follows it.
+    let mut answer = Lent::<u64>::new(random, 10);
+    // SAFETY: each pointer comes from a list of the length that follows it, and the answer has ten words.
     unsafe {
         ffi::kitfinder_load(
             file.as_ptr(),
@@ -265,14 +275,10 @@ pub fn load_into(random: &mut Random, file: &[u8], lengths: [usize; 7], loaded: 
             lists.right_ends.length(),
             lists.right_items.pointer(),
             lists.right_items.length(),
-            &mut answer,
+            answer.pointer().cast(),
         );
     }
-    let refusal = match loaded {
-        Err(refusal) => Some(*refusal),
-        Ok(loaded) => is_short(lengths, lengths_needed(loaded)).then_some(Refusal(4, 0, 0)),
-    };
-    lists.answers(&answer, refusal, loaded.as_ref().ok())
+    lists.answers(&answer, load_refusal(lengths, loaded), loaded.as_ref().ok())
 }
 
 /// The refusal of a pooled load into lists of these lengths, or none.
@@ -291,8 +297,8 @@ pub fn load_pooled_into(
     pooled: &Result<Pooled, Refusal>,
 ) -> Result<(), String> {
     let mut lists = Seven::new(random, lengths);
-    let mut answer = unanswered::<8>();
-    // SAFETY: each pointer comes from a list of the length that follows it.
+    let mut answer = Lent::<u64>::new(random, 10);
+    // SAFETY: each pointer comes from a list of the length that follows it, and the answer has ten words.
     unsafe {
         ffi::kitfinder_load_pooled(
             first.as_ptr(),
@@ -313,7 +319,7 @@ pub fn load_pooled_into(
             lists.right_ends.length(),
             lists.right_items.pointer(),
             lists.right_items.length(),
-            &mut answer,
+            answer.pointer().cast(),
         );
     }
     lists.answers(&answer, pooled_refusal(lengths, pooled), pooled.as_ref().ok().map(|pooled| &pooled.loaded))

@@ -3,6 +3,7 @@
 use crate::joins;
 use crate::oracle::*;
 use crate::random::Random;
+use std::collections::BTreeSet;
 
 /// Bytes whose order differs where they are taken as signed.
 const BYTES: [u8; 6] = [0x00, 0x01, 0x7F, 0x80, 0xFE, 0xFF];
@@ -19,10 +20,12 @@ fn tag(random: &mut Random) -> Tag {
     tag
 }
 
-/// Tags a step apart in their first bytes, more of them than the loader's hints look at where all begin at one slot (step 16,361).
+/// Tags a step apart in their first bytes, more of them than the loader's hints look at where all begin at one slot (step 16,361), or in
+/// one bucket of the reader (step 251); now and then more than a record holds.
 fn steps(random: &mut Random) -> Vec<Tag> {
-    let step = random.pick(&[1u64, 256, 16361, 1 << 40]);
-    (0..random.within(1, 60) as u64)
+    let step = random.pick(&[1u64, 251, 256, 16361, 1 << 40]);
+    let many = if random.one_in(3) { 300 } else { random.within(1, 60) };
+    (0..many as u64)
         .map(|k| {
             let mut tag = [0; 12];
             tag[..8].copy_from_slice(&(k * step).to_be_bytes());
@@ -54,10 +57,50 @@ fn numbers(random: &mut Random) -> Vec<u16> {
     numbers
 }
 
-/// So many whole records with tags of one pool, in any order and with repeats. Some have none, and now and then no kit has one. Their
-/// numbers are the first of the list; they seldom repeat.
+/// How often a record reads its tags: as the draw falls, each once, or each so many times.
+#[derive(Clone, Copy)]
+enum Reads {
+    Any,
+    Once,
+    Times,
+}
+
+/// So many reads of a pool's tags, or all of these once where they are fewer.
+fn reads(random: &mut Random, pool: &[Tag], count: usize, how: Reads) -> Vec<Tag> {
+    let mut tags = Vec::new();
+    match how {
+        Reads::Any => {
+            tags.extend((0..count).map(|_| random.pick(pool)));
+            if random.one_in(3) && count > 1 {
+                tags[0] = tags[count - 1];
+            }
+        }
+        Reads::Once => {
+            tags.extend(BTreeSet::from_iter(pool));
+            random.shuffle(&mut tags);
+            tags.truncate(count);
+        }
+        Reads::Times => {
+            let same = random.one_in(3).then(|| random.within(2, 3));
+            while tags.len() < count {
+                let times = same.unwrap_or_else(|| random.pick(&[1, 1, 2, 2, 3, 4, 7, 255]));
+                let tag = random.pick(pool);
+                tags.extend(vec![tag; times.min(count - tags.len())]);
+            }
+            if random.one_in(2) {
+                random.shuffle(&mut tags);
+            }
+        }
+    }
+    tags
+}
+
+/// So many whole records with tags of one pool, in any order and with repeats or without. Some have none, and now and then no kit has
+/// one. Their numbers are the first of the list; they seldom repeat.
 fn records(random: &mut Random, pool: &[Tag], numbers: &[u16], many: usize) -> Vec<u8> {
     let empty_kits = random.one_in(8);
+    let mixed = [Reads::Any, Reads::Once, Reads::Times];
+    let of_file = random.one_in(2).then(|| random.pick(&mixed));
     let mut file = Vec::new();
     for k in 0..many {
         let right = random.one_in(2);
@@ -68,10 +111,8 @@ fn records(random: &mut Random, pool: &[Tag], numbers: &[u16], many: usize) -> V
             2..=4 => 0,
             _ => random.within(0, 9),
         };
-        let mut tags: Vec<Tag> = (0..count).map(|_| random.pick(pool)).collect();
-        if random.one_in(3) && count > 1 {
-            tags[0] = tags[count - 1];
-        }
+        let how = of_file.unwrap_or_else(|| random.pick(&mixed));
+        let tags = reads(random, pool, count, how);
         let number = if random.one_in(60) { numbers[0] } else { numbers[k] };
         file.extend(record(right, number, &tags));
     }

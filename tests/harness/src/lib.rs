@@ -10,5 +10,6 @@ pub mod lent;
 pub mod oracle;
 pub mod pads;
 pub mod random;
+pub mod records;
 pub mod run;
 pub mod whole;

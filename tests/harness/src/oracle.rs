@@ -360,10 +360,21 @@ pub fn order_refusal(q: &OrderQuery) -> Option<Refusal> {
 /// A tag, compared as unsigned bytes.
 pub type Tag = [u8; 12];
 
+/// The tags that these bytes are.
+pub fn tags_of(bytes: &[u8]) -> Vec<Tag> {
+    bytes.chunks(12).map(|tag| tag.try_into().expect("12 bytes")).collect()
+}
+
+/// How many reads of a record were repeats: its count less its distinct tags.
+pub fn repeats_of(tags: &[Tag]) -> usize {
+    let distinct: HashSet<&Tag> = tags.iter().collect();
+    tags.len() - distinct.len()
+}
+
 /// What a place of a tag file has: a record, its end, or a fault.
 #[derive(Clone, Copy, Debug, PartialEq)]
 pub enum Read {
-    Record { right: bool, number: u16, count: usize, tags: usize, next: usize },
+    Record { right: bool, number: u16, count: usize, tags: usize, next: usize, repeats: usize },
     NoMore,
     Fault,
 }
@@ -384,7 +395,8 @@ pub fn read_record(file: &[u8], at: usize) -> Read {
     if next > file.len() {
         return Read::Fault;
     }
-    Read::Record { right, number: u16::from_be_bytes([high, low]), count, tags: at + 5, next }
+    let repeats = repeats_of(&tags_of(&file[at + 5..next]));
+    Read::Record { right, number: u16::from_be_bytes([high, low]), count, tags: at + 5, next, repeats }
 }
 
 /// One side of a tag file: the record numbers and each record's distinct tags, rising.
@@ -394,14 +406,20 @@ pub struct LoadedSide {
     pub sets: Vec<Vec<Tag>>,
 }
 
-/// What a tag file holds.
+/// What a tag file holds, and how many reads of its kits and of its stacks were repeats.
 #[derive(Clone, Debug, Default, PartialEq)]
 pub struct LoadedFile {
     pub tags: Vec<Tag>,
     pub sides: [LoadedSide; 2],
+    pub repeats: [usize; 2],
 }
 
 impl LoadedFile {
+    /// The same once it was written: no record has a tag twice.
+    pub fn without_repeats(&self) -> LoadedFile {
+        LoadedFile { repeats: [0; 2], ..self.clone() }
+    }
+
     /// A side as a collection over the tag table.
     pub fn collection(&self, side: usize) -> Collection {
         let item = |tag: &Tag| self.tags.binary_search(tag).expect("a tag of a set is in the table") as u16;
@@ -425,21 +443,22 @@ pub fn load(file: &[u8]) -> Result<LoadedFile, Refusal> {
     let mut entries = [0, 0];
     let mut at = 0;
     loop {
-        let (side, number, first, next) = match read_record(file, at) {
+        let (side, number, first, next, repeats) = match read_record(file, at) {
             Read::NoMore => break,
             Read::Fault => return Err(Refusal(1, at as u64, 0)),
-            Read::Record { right, number, tags, next, .. } => (right as usize, number, tags, next),
+            Read::Record { right, number, tags, next, repeats, .. } => (right as usize, number, tags, next, repeats),
         };
         if loaded.sides[side].numbers.contains(&number) {
             return Err(Refusal(2, at as u64, 0));
         }
-        let mut set: Vec<Tag> = file[first..next].chunks(12).map(|tag| tag.try_into().expect("12 bytes")).collect();
+        let mut set = tags_of(&file[first..next]);
         set.sort_unstable();
         set.dedup();
         tags.extend(set.iter().copied());
         entries[side] += set.len();
         loaded.sides[side].numbers.push(number);
         loaded.sides[side].sets.push(set);
+        loaded.repeats[side] += repeats;
         if loaded.sides[side].sets.len() > 4096 || entries[side] > 65535 || tags.len() > 4096 {
             return Err(Refusal(3, at as u64, 0));
         }
@@ -489,7 +508,7 @@ impl Pooled {
 }
 
 /// Pools two files, or gives the refusal of the first file. Stacks are sets of tags by number. A record of the second file whose number
-/// was used there adds nothing.
+/// was used there adds nothing. Repeats are those of each record by itself; the second file's kits add none.
 pub fn pool(first: &[u8], second: &[u8]) -> Result<Pooled, Refusal> {
     let mut loaded = load(first)?;
     let [kits, stacks] = &loaded.sides;
@@ -503,7 +522,7 @@ pub fn pool(first: &[u8], second: &[u8]) -> Result<Pooled, Refusal> {
     let mut at = 0;
     loop {
         let place = (first.len() + at) as u64;
-        let (number, read) = match read_record(second, at) {
+        let (number, read, repeats) = match read_record(second, at) {
             Read::NoMore => break,
             Read::Fault => {
                 causes.push((place, Cause::Malformed));
@@ -513,10 +532,9 @@ pub fn pool(first: &[u8], second: &[u8]) -> Result<Pooled, Refusal> {
                 at = next;
                 continue;
             }
-            Read::Record { right: true, number, tags, next, .. } => {
+            Read::Record { right: true, number, tags, next, repeats, .. } => {
                 at = next;
-                let read: BTreeSet<Tag> = second[tags..next].chunks(12).map(|tag| tag.try_into().expect("12 bytes")).collect();
-                (number, read)
+                (number, BTreeSet::from_iter(tags_of(&second[tags..next])), repeats)
             }
         };
         let used = !met.insert(number);
@@ -539,6 +557,7 @@ pub fn pool(first: &[u8], second: &[u8]) -> Result<Pooled, Refusal> {
         entries += union.len() - known.len();
         tags.extend(read);
         sets.insert(number, union);
+        loaded.repeats[1] += repeats;
     }
     loaded.tags = tags.into_iter().collect();
     loaded.sides[1].sets = places.iter().map(|number| sets[number].iter().copied().collect()).collect();

@@ -20,6 +20,18 @@ fn tags(random: &mut Random, start: usize, count: usize) -> Vec<Tag> {
     tags
 }
 
+/// Now and then some of a record's tags are read again, in the order that falls; seldom so many that it is full.
+fn repeat(random: &mut Random, tags: &mut Vec<Tag>) {
+    let room = 255 - tags.len();
+    if !tags.is_empty() && room > 0 && random.one_in(4) {
+        let many = if random.one_in(20) { room } else { random.pick(&[1, 2, 2, 5]).min(room) };
+        for _ in 0..many {
+            tags.push(random.pick(tags));
+        }
+        random.shuffle(tags);
+    }
+}
+
 /// The k-th record number of a file. All are different.
 fn number(k: usize) -> u16 {
     (k as u16).wrapping_mul(15).wrapping_add(65000)
@@ -39,9 +51,7 @@ impl Shared {
         let count = self.of[file]?;
         let start = if file == 0 { self.start } else { self.start + self.union - count };
         let mut tags = tags(random, start, count);
-        if count > 0 && count < 250 && random.one_in(4) {
-            tags.extend([tags[0], tags[count - 1]]);
-        }
+        repeat(random, &mut tags);
         Some(record(true, self.number, &tags))
     }
 }
@@ -52,7 +62,9 @@ fn put_together(random: &mut Random, mut records: Vec<Vec<u8>>, file: usize) -> 
     for k in 0..random.within(0, 3) {
         let (kit, start) = (if file == 0 { k } else { random.below(3) }, if file == 0 { 0 } else { random.pick(&[0, 60000]) });
         let count = random.within(0, 4);
-        let kit = record(false, number(kit), &tags(random, start, count));
+        let mut tags = tags(random, start, count);
+        repeat(random, &mut tags);
+        let kit = record(false, number(kit), &tags);
         let at = random.below(records.len() + 1);
         records.insert(at, kit);
     }

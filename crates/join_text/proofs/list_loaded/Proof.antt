@@ -47,7 +47,7 @@ returns c =
     let p = c .before .before .before .before .before .before .before .before .before in
     let a = start p .args in
     fills-same
-    (ap (λ (ranks : List ℕ). joinText (a .left-numbers .now) (a .right-numbers .now) (input p) (settingsUnder ranks))
+    (ap (λ (ranks : List ℕ). joinText (a .repeats) (a .left-numbers .now) (a .right-numbers .now) (input p) (settingsUnder ranks))
     (ordered-ranks (input p) (p .order .ensures) (c .before .before .before .before .before .enum-told .given .1)))
     (c .before .before .list-ordered .ensures)
 
@@ -63,8 +63,8 @@ returns-2 c =
     let a = start p .args in
     let line = c .before .before .put-refusal in
     fills-same
-    (refused-order (input p) (p .order .ensures) (c .before .before .before .before .before .answer .given .1) (start p .pre .1) (a .left-numbers .now)
-    (a .right-numbers .now))
+    (refused-order (input p) (p .order .ensures) (c .before .before .before .before .before .answer .given .1) (start p .pre .1)
+    (a .repeats) (a .left-numbers .now) (a .right-numbers .now))
     (put-fills (line .ensures .0) (omega (arith, line .ensures .1, start p .pre .0 .room)))
 
 pub list-loaded-spec : {M : Type 1} → statement M

@@ -45,6 +45,9 @@ enum-known-answer c = search needs
 put-counts-requires : tie.Need-put-counts-requires
 put-counts-requires c κs = search needs
 
+put-repeats-requires : tie.Need-put-repeats-requires
+put-repeats-requires c κs = search needs
+
 cast-places : tie.Need-cast-places
 cast-places c = search needs
 
@@ -53,28 +56,35 @@ mul-places c = search needs
 
 array-share-prefix-pairs : tie.Need-array-share-prefix-pairs
 array-share-prefix-pairs c =
-    let told = c .before .before .before .before .before .before .before in
+    let told = c .before .before .before .before .before .before .before .before .before .before .before in
     let p = told .before .before .before .before in
-    pairs-fit (input p) (asked p) (p .run .ensures) (p .before .before .before .before .new-work .ensures) (p .before .before .before .new-pairs .ensures) (start p .args .left-numbers .now)
+    pairs-fit (input p) (asked p) (p .run .ensures) (p .before .before .before .before .new-work .ensures)
+    (p .before .before .before .new-pairs .ensures) (start p .args .repeats) (start p .args .left-numbers .now)
     (start p .args .right-numbers .now) (told .answer .given .1)
     (p .run .kept .1 .1 .1 .1 .1 .1 .1 .1 .1 .1 .0)
 
 slice-aggregate-put-pairs : tie.Need-slice-aggregate-put-pairs
 slice-aggregate-put-pairs c =
-    let told = c .before .before .before .before .before .before .before .before in
+    let told = c .before .before .before .before .before .before .before .before .before .before .before .before in
     let p = told .before .before .before .before in
-    sym (length-take-le _ _ (pairs-fit (input p) (asked p) (p .run .ensures) (p .before .before .before .before .new-work .ensures) (p .before .before .before .new-pairs .ensures) (start p .args .left-numbers .now)
+    sym (length-take-le _ _ (pairs-fit (input p) (asked p) (p .run .ensures) (p .before .before .before .before .new-work .ensures)
+    (p .before .before .before .new-pairs .ensures) (start p .args .repeats) (start p .args .left-numbers .now)
     (start p .args .right-numbers .now) (told .answer .given .1)
     (p .run .kept .1 .1 .1 .1 .1 .1 .1 .1 .1 .1 .0)))
 
 put-pairs-requires : tie.Need-put-pairs-requires
 put-pairs-requires c κs =
-    let told = c .before .before .before .before .before .before .before .before in
+    let later = c .before .before .before .before .before in
+    let earlier = later .before .before .before .before in
+    let told = earlier .before .before .before in
     let p = told .before .before .before .before in
-    let counts = c .before .before .before .before .before .put-counts in
-    pairs-room (input p) (asked p) (p .run .ensures) (p .before .before .before .before .new-work .ensures) (p .before .before .before .new-pairs .ensures) (start p .args .left-numbers .now)
+    let repeats = later .put-repeats in
+    let counts = earlier .put-counts in
+    pairs-room (input p) (asked p) (p .run .ensures) (p .before .before .before .before .new-work .ensures)
+    (p .before .before .before .new-pairs .ensures) (start p .args .repeats) (start p .args .left-numbers .now)
     (start p .args .right-numbers .now) (told .answer .given .1)
-    _ (counts .result) (p .run .kept .1 .1 .1 .1 .1 .1 .1 .1 .1 .1 .0) (counts .ensures .1) (omega (arith, counts .kept .0, start p .pre .room))
+    _ _ (p .run .kept .1 .1 .1 .1 .1 .1 .1 .1 .1 .1 .0)
+    (omega (arith, counts .ensures .1, repeats .ensures .1)) (omega (arith, repeats .kept .0, counts .kept .0, start p .pre .room))
     (start p .pre .lefts) (start p .pre .rights)
 
 enum-known-answer-2 : tie.Need-enum-known-answer-2
@@ -88,18 +98,25 @@ same-length c = search needs
 
 returns : tie.Need-returns
 returns c =
-    let told = c .before .before .before .before .before .before .before .before .before .before .before in
+    let later = c .before .before .before .before .before .before .before .before in
+    let earlier = later .before .before .before .before in
+    let told = earlier .before .before .before in
     let p = told .before .before .before .before in
-    let counts = c .before .before .before .before .before .before .before .before .put-counts in
+    let repeats = later .put-repeats in
+    let counts = earlier .put-counts in
     let pairs = c .before .before .put-pairs in
     let room =
-    pairs-room (input p) (asked p) (p .run .ensures) (p .before .before .before .before .new-work .ensures) (p .before .before .before .new-pairs .ensures) (start p .args .left-numbers .now)
+    pairs-room (input p) (asked p) (p .run .ensures) (p .before .before .before .before .new-work .ensures)
+    (p .before .before .before .new-pairs .ensures) (start p .args .repeats) (start p .args .left-numbers .now)
     (start p .args .right-numbers .now) (told .answer .given .1)
-    (start p .args .text .now) (counts .result) (p .run .kept .1 .1 .1 .1 .1 .1 .1 .1 .1 .1 .0) (counts .ensures .1) (start p .pre .room)
+    (start p .args .text .now) (repeats .result) (p .run .kept .1 .1 .1 .1 .1 .1 .1 .1 .1 .1 .0)
+    (omega (arith, counts .ensures .1, repeats .ensures .1)) (start p .pre .room)
     (start p .pre .lefts) (start p .pre .rights) in
-    fills-same (joined-text (input p) (asked p) (p .run .ensures) (p .before .before .before .before .new-work .ensures) (p .before .before .before .new-pairs .ensures) (start p .args .left-numbers .now)
+    fills-same (joined-text (input p) (asked p) (p .run .ensures) (p .before .before .before .before .new-work .ensures)
+    (p .before .before .before .new-pairs .ensures) (start p .args .repeats) (start p .args .left-numbers .now)
     (start p .args .right-numbers .now) (told .answer .given .1))
-    (put-fills (put-append (counts .ensures .0) (pairs .ensures .0)) (omega (arith, pairs .ensures .1, room .room)))
+    (put-fills (put-append (counts .ensures .0) (put-append (repeats .ensures .0) (pairs .ensures .0)))
+    (omega (arith, pairs .ensures .1, room .room)))
 
 same-length-2 : tie.Need-same-length-2
 same-length-2 c = search needs
@@ -109,7 +126,8 @@ returns-2 c =
     let told = c .before .before .before .before .before in
     let p = told .before .before .before .before in
     let line = c .before .before .put-refusal in
-    fills-same (refused-text (input p) (asked p) (p .run .ensures) (p .before .before .before .before .new-work .ensures) (p .before .before .before .new-pairs .ensures) (start p .args .left-numbers .now)
+    fills-same (refused-text (input p) (asked p) (p .run .ensures) (p .before .before .before .before .new-work .ensures)
+    (p .before .before .before .new-pairs .ensures) (start p .args .repeats) (start p .args .left-numbers .now)
     (start p .args .right-numbers .now) (told .answer2 .given .1))
     (put-fills (line .ensures .0) (omega (arith, line .ensures .1, start p .pre .room)))
 
@@ -124,6 +142,7 @@ list-ordered-spec =
     run-requires
     enum-known-answer
     put-counts-requires
+    put-repeats-requires
     cast-places
     mul-places
     array-share-prefix-pairs

@@ -1,18 +1,18 @@
 -- `kitfinder_read_record` meets its contract: the words of what the reader answers.
 use mathlib.Core.Path.{ap, _∙_}
-use Rattle.tag_file.specs.Reading.{readWords}
+use Rattle.tag_file.specs.Repeats.{readWords}
 use borrow.Author.Needs.{needs}
 use Rattle.kitfinder.proofs.kitfinder_read_record.Statement.{statement}
 use Rattle.kitfinder.proofs.kitfinder_read_record.Tie as tie
 
-read-record-requires : tie.Need-read-record-requires
-read-record-requires c κs = search needs
+read-requires : tie.Need-read-requires
+read-requires c κs = search needs
 
 read-words-requires : tie.Need-read-words-requires
 read-words-requires c κs = search needs
 
 returns : tie.Need-returns
-returns c = c .read-words .ensures ∙ ap readWords (c .before .read-record .ensures)
+returns c = c .read-words .ensures ∙ ap readWords (c .before .read .ensures)
 
 pub kitfinder-read-record-spec : {M : Type 1} → statement M
-kitfinder-read-record-spec = tie.close (tie.spec read-record-requires read-words-requires returns)
+kitfinder-read-record-spec = tie.close (tie.spec read-requires read-words-requires returns)

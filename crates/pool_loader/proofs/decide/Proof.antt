@@ -15,7 +15,7 @@ returns c = search needs
 
 has-room-requires : tie.Need-has-room-requires
 has-room-requires c κs =
-    c .before .before .before .pre _ (c .before .answer .given .1)
+    c .before .before .before .pre _ _ (c .before .answer .given .1)
 
 returns-2 : tie.Need-returns-2
 returns-2 c =

@@ -63,32 +63,32 @@ returns c =
 pool-second-requires : tie.Need-pool-second-requires
 pool-second-requires c κs =
     let s = c .before .before .before .before .before .before .before .before .before .before .before .before .before .before .before .before .before .before .before .before .before .before .before .before .before .before .before .before in
-    first-taken (s .args .first .now) (s .args .second .now) (lent s) _ (c .before .before .before .before .before .before .before .before .before .before .before .before .before .before .scan-first .ensures) (c .before .before .before .before .before .before .before .before .before .before .before .before .answer .given .1)
+    first-taken (s .args .first .now) (s .args .second .now) (lent s) _ _ (c .before .before .before .before .before .before .before .before .before .before .before .before .before .before .scan-first .ensures) (c .before .before .before .before .before .before .before .before .before .before .before .before .answer .given .1)
 
 -- where `pool_second` has come back
 abbrev pooled : tie.After-slice-known21 → tie.After-pool-second
 pooled c = c .before .before .before .before .before .before .before .before .before .before .before .before .before .before
 
 same-length-8 : tie.Need-same-length-8
-same-length-8 c = pooled c .pool-second .kept .1 .1 .1 .1 .1 .1 .1 .0
+same-length-8 c = pooled c .pool-second .kept .1 .1 .1 .1 .1 .1 .1 .1 .0
 
 same-length-9 : tie.Need-same-length-9
-same-length-9 c = pooled c .pool-second .kept .1 .1 .1 .1 .1 .1 .1 .1 .0
+same-length-9 c = pooled c .pool-second .kept .1 .1 .1 .1 .1 .1 .1 .1 .1 .0
 
 same-length-10 : tie.Need-same-length-10
-same-length-10 c = pooled c .pool-second .kept .1 .1 .1 .1 .1 .1 .1 .1 .1 .0
+same-length-10 c = pooled c .pool-second .kept .1 .1 .1 .1 .1 .1 .1 .1 .1 .1 .0
 
 same-length-11 : tie.Need-same-length-11
-same-length-11 c = pooled c .pool-second .kept .1 .1 .1 .1 .1 .1 .1 .1 .1 .1 .0
+same-length-11 c = pooled c .pool-second .kept .1 .1 .1 .1 .1 .1 .1 .1 .1 .1 .1 .0
 
 same-length-12 : tie.Need-same-length-12
-same-length-12 c = pooled c .pool-second .kept .1 .1 .1 .1 .1 .1 .1 .1 .1 .1 .1 .0
+same-length-12 c = pooled c .pool-second .kept .1 .1 .1 .1 .1 .1 .1 .1 .1 .1 .1 .1 .0
 
 same-length-13 : tie.Need-same-length-13
-same-length-13 c = pooled c .pool-second .kept .1 .1 .1 .1 .1 .1 .1 .1 .1 .1 .1 .1 .0
+same-length-13 c = pooled c .pool-second .kept .1 .1 .1 .1 .1 .1 .1 .1 .1 .1 .1 .1 .1 .0
 
 same-length-14 : tie.Need-same-length-14
-same-length-14 c = pooled c .pool-second .kept .1 .1 .1 .1 .1 .1 .1 .1 .1 .1 .1 .1 .1 .0
+same-length-14 c = pooled c .pool-second .kept .1 .1 .1 .1 .1 .1 .1 .1 .1 .1 .1 .1 .1 .1 .0
 
 returns-2 : tie.Need-returns-2
 returns-2 c = pooled c .pool-second .ensures

@@ -54,6 +54,7 @@ scan-second-requires c κs =
     let p = c .before .before .before .before .before .before .before .before .before .before .before .before .before .before .before .before .before .before .before .before .before .before .before .pre in
     record {
       taken = p .taken;
+      repeated = p .repeated;
       slottable = slottable (c .before .before .before .before .before .before .before .before .before .before .before .before .before .before .before .before .before .before .before .before .before .before .before .args .first .now) (p .clean) (λ i. c .before .before .before .before .before .before .before .before .before .before .before .before .before .before .before .before .before .before .before .before .before .before .shared-slice-known .given i .fits);
       slotted = c .before .before .before .before .before .before .before .before .before .before .index-right .ensures;
     }
@@ -80,8 +81,8 @@ write-lists-requires c κs =
     ∙ decided-is (s .args .first .now) (s .args .second .now) (lent s) (s .pre .clean) (c .before .before .before .before .before .before .before .before .before .before .before .before .before .before .before .before .scan-second .ensures) in
     record {
       answered = is;
-      fillable = λ total e.
-          pool-fillable (s .args .first .now) (s .args .second .now) (lent s) (s .pre .clean) (c .before .before .before .before .before .before .before .before .before .before .before .before .before .before .before .before .scan-second .ensures) total
+      fillable = λ total repeats e.
+          pool-fillable (s .args .first .now) (s .args .second .now) (lent s) (s .pre .clean) (c .before .before .before .before .before .before .before .before .before .before .before .before .before .before .before .before .scan-second .ensures) total repeats
           (i .noted) (i .counted) (sym is ∙ e);
     }
 

@@ -57,7 +57,7 @@ returns c =
 
 fill-pooled-requires : tie.Need-fill-pooled-requires
 fill-pooled-requires c κs =
-    c .before .before .before .before .before .before .before .before .before .before .before .before .before .before .before .before .before .before .before .before .before .before .before .pre .fillable _ (c .before .before .before .before .before .before .before .before .before .answer .given .1)
+    c .before .before .before .before .before .before .before .before .before .before .before .before .before .before .before .before .before .before .before .before .before .before .before .pre .fillable _ _ (c .before .before .before .before .before .before .before .before .before .answer .given .1)
 
 -- where `fill_pooled` has come back
 abbrev filled : tie.After-slice-known23 → tie.After-fill-pooled
@@ -91,7 +91,7 @@ returns-2 : tie.Need-returns-2
 returns-2 c =
     let at-answer = filled c .before .before .before .before .before .before .before .before .before .before in
     let s = at-answer .before .before .before .before .before .before .before .before .before .before .before .before .before .before in
-    call-filled (s .args .first .now) (s .args .second .now) (lent s) _ (s .pre .answered) (at-answer .answer .given .1)
+    call-filled (s .args .first .now) (s .args .second .now) (lent s) _ _ (s .pre .answered) (at-answer .answer .given .1)
     (filled c .fill-pooled .ensures)
 
 pub write-lists-spec : {M : Type 1} → statement M

@@ -1,9 +1,9 @@
--- `pool_scan::scan_second` meets its contract. The invariant: what the counts, the index, the slots and the noted numbers say of the
+-- `pool_scan::scan_second` meets its contract. The invariant: what the counts, the repeats, the index, the slots and the noted numbers say of the
 -- records seen, and that the first fault and the first set too long of the others are the file's (`Passing`). The measure is how
 -- many bytes are left.
 use mathlib.Core.Path.{_≡_, refl, sym, ap, _∙_}
 use mathlib.Core.Bool.{true, false}
-use Prim.Native.Nat.{ℕ, _-_, _<_, _≤_}
+use Prim.Native.Nat.{ℕ, _+_, _-_, _<_, _≤_}
 use native.Mathlib.Omega.{arith}
 use lib.Dec.{ltb}
 use lib.ListN.{length, getD}
@@ -21,18 +21,18 @@ use Rattle.tag_file.proofs.Ended.{no-records}
 use Rattle.tag_file.proofs.RecordLaws.{read-less, read-number, read-count}
 use Rattle.tag_pooling.specs.Pooling.{placeAfter}
 use Rattle.pool_scan.proofs.Passing.{Passing, passing-start, passing-whole, passing-cut, passing-left, passing-used}
-use Rattle.pool_scan.proofs.Passing.{passing-past, passing-next}
+use Rattle.pool_scan.proofs.Passing.{passing-repeats, passing-past, passing-next}
 use Rattle.pool_scan.proofs.Step.{step-ready, step-bounds, stepped}
 use Rattle.pool_scan.proofs.Words.{noted-start}
 use Rattle.pool_scan.proofs.scan_second.Statement.{statement}
 use Rattle.pool_scan.proofs.scan_second.Tie as tie
 
 abbrev Inv-loop : tie.InvT-loop
-Inv-loop first second used counts slots₀ heads₀ tails₀ order₀ hints₀ noted₀ total₀ long₀ at₀ slots heads tails order hints noted total long at =
-    Passing first second noted used heads tails order slots total long at
+Inv-loop first second found used counts slots₀ heads₀ tails₀ order₀ hints₀ noted₀ total₀ repeats₀ long₀ at₀ slots heads tails order hints noted total repeats long at =
+    Passing first second noted used heads tails order slots total repeats long at
 
 abbrev μ-loop : tie.MeasureT-loop
-μ-loop first second used counts slots₀ heads₀ tails₀ order₀ hints₀ noted₀ total₀ long₀ at₀ slots heads tails order hints noted total long at =
+μ-loop first second found used counts slots₀ heads₀ tails₀ order₀ hints₀ noted₀ total₀ repeats₀ long₀ at₀ slots heads tails order hints noted total repeats long at =
     length second - at
 
 -- the record that was read
@@ -96,7 +96,7 @@ returns c =
     let l = c .before .before .before .before .loop in
     let read = c .before .before .before .read-record in
     let stop = no-records second (l .at) (read .result) (sym (read .ensures)) (c .before .match .keys2) in
-    passing-whole (l .inv) stop (c .if1 .taken) refl refl
+    passing-whole (l .inv) stop (c .if1 .taken) (c .before .before .before .before .before .before .before .before .before .before .pre .repeated) refl refl
 
 same-length-2 : tie.Need-same-length-2 Inv-loop μ-loop
 same-length-2 c =
@@ -169,24 +169,44 @@ returns-4 c =
     passing-past inv (read a) (right (e .before .before .before .before)) (small a) (free e) (s .one) (s .size) (sym (c .before .is-past .ensures) ∙ c .if4 .taken)
     (ap (λ (k : ℕ). load.Refused (TooMany k)) (a .before .before .wrapping-add-usize .ensures))
 
+-- the repeats of the record here are no more than its tags, and fit with those before
+more-repeats : (g : tie.After-struct-known Inv-loop μ-loop)
+    → let fresh = g .before .before .before .before .before .before .unite .result .fresh in
+    let count = answered (g .before .before .before .before .before .before .before .before .before .before .before .before) .answer .given .0 .1 .1 .0 in
+    (fresh ≤ count) × (turn (g .before .before .before .before .before .before .before .before .before .before .before .before) .loop .repeats + (count - fresh) < 18446744073709551616)
+more-repeats g =
+    let e = g .before .before .before .before .before .before .before .before .before .before .before .before in
+    let a = answered e in
+    let inv = turn e .loop .inv in
+    let s = stepped (called e .pre) (bytes e) inv (read a) (right (e .before .before .before .before)) (small a) (free e) (g .before .before .before .before .before .before .unite .ensures) (g .before .before .before .grown-by .ensures) in
+    passing-repeats inv (read a) (s .distinct) (omega (arith, called e .good .0)) (omega (arith, called e .good .1 .0))
+
+sub-repeats : tie.Need-sub-repeats Inv-loop μ-loop
+sub-repeats c =
+    omega (arith, more-repeats c .0)
+
+add-repeats : tie.Need-add-repeats Inv-loop μ-loop
+add-repeats c =
+    omega (arith, more-repeats c .1)
+
 first-long-requires : tie.Need-first-long-requires Inv-loop μ-loop
 first-long-requires c κs =
     tt
 
 loop-less : tie.Need-loop-less Inv-loop μ-loop
 loop-less c =
-    read-less _ _ (read (answered (c .before .before .before .before .before .before .before .before .before .before .before .before)))
+    read-less _ _ (read (answered (c .before .before .before .before .before .before .before .before .before .before .before .before .before)))
 
 loop-again : tie.Need-loop-again Inv-loop μ-loop
 loop-again c =
-    let e = c .before .before .before .before .before .before .before .before .before .before .before .before in
+    let e = c .before .before .before .before .before .before .before .before .before .before .before .before .before in
     let a = answered e in
     let inv = turn e .loop .inv in
-    let s = stepped (called e .pre) (bytes e) inv (read a) (right (e .before .before .before .before)) (small a) (free e) (c .before .before .before .before .before .before .unite .ensures) (c .before .before .before .grown-by .ensures) in
-    passing-next inv (read a) (right (e .before .before .before .before)) (small a) (free e) (s .one) (s .size) (sym (c .before .before .is-past .ensures) ∙ c .before .if4 .left)
-    (e .before .before .claim .ensures .noted) (s .words) (s .is) (s .counted)
+    let s = stepped (called e .pre) (bytes e) inv (read a) (right (e .before .before .before .before)) (small a) (free e) (c .before .before .before .before .before .before .before .unite .ensures) (c .before .before .before .before .grown-by .ensures) in
+    passing-next inv (read a) (right (e .before .before .before .before)) (small a) (free e) (s .one) (s .size) (sym (c .before .before .before .is-past .ensures) ∙ c .before .before .if4 .left)
+    (e .before .before .claim .ensures .noted) (s .distinct) refl (s .words) (s .is) (s .counted)
     (c .first-long .ensures
-    ∙ ap (λ (k : ℕ). unless Failed (turn e .loop .long) (refuseIf (ltb maxSetLength (c .before .before .before .before .before .before .unite .result .all)) (Overlong k)))
+    ∙ ap (λ (k : ℕ). unless Failed (turn e .loop .long) (refuseIf (ltb maxSetLength (c .before .before .before .before .before .before .before .unite .result .all)) (Overlong k)))
     (a .before .before .wrapping-add-usize .ensures))
 
 loop-less-2 : tie.Need-loop-less-2 Inv-loop μ-loop
@@ -221,6 +241,8 @@ scan-second-spec =
     is-past-requires
     same-length-4
     returns-4
+    sub-repeats
+    add-repeats
     first-long-requires
     loop-less
     loop-again

@@ -19,7 +19,7 @@ returns : tie.Need-returns
 returns c =
     let p = c .before .before .before .before .before .before .before .before .pre in
     record {
-      taken = taken-alone (p .0) (c .before .add-tags .ensures [] (start-adding (p .0) refl)) (p .1 .few) refl refl refl;
+      taken = taken-alone (p .0) (c .before .add-tags .ensures [] (start-adding (p .0) refl)) (p .1 .few) refl refl refl refl;
       told = refl;
     }
 

@@ -14,11 +14,11 @@ slice-aggregate-add-first c = search needs
 add-first-requires : tie.Need-add-first-requires
 add-first-requires c κs = search needs
 
-slice-aggregate-add-tags : tie.Need-slice-aggregate-add-tags
-slice-aggregate-add-tags c = search needs
+slice-aggregate-add-beside : tie.Need-slice-aggregate-add-beside
+slice-aggregate-add-beside c = search needs
 
-add-tags-requires : tie.Need-add-tags-requires
-add-tags-requires c κs =
+add-beside-requires : tie.Need-add-beside-requires
+add-beside-requires c κs =
     let p = c .before .before .before .before .before .before .before .before .before .before .before .before .before .before .pre in
     let a = c .before .before .before .before .before .before .before .before .before .before .before .before .before .before .args in
     let k = p .1 .1 in
@@ -39,10 +39,10 @@ returns c =
       taken = λ count tags there.
           let own = c .before .before .before .before .before .before .before .before .add-first .ensures count tags there in
           taken-both (p .0) own (read-count first (a .at) (there .read) (λ i. c .before .before .before .before .before .before .before .before .before .before .before .before .before .before .before .shared-slice-known .given i .fits)) (known-read k there)
-          (c .before .add-tags .ensures (tagsAt count first tags) (own .adding)) (p .1 .0 .few) refl refl refl;
+          (c .before .add-beside .ensures .0 (tagsAt count first tags) (own .adding)) (p .1 .0 .few) refl refl (c .before .add-beside .ensures .1) refl;
       told = refl;
       few = both-few (p .0) here (read-count first (a .at) (k .there .read) (λ i. c .before .before .before .before .before .before .before .before .before .before .before .before .before .before .before .shared-slice-known .given i .fits)) (k .known)
-          (c .before .add-tags .ensures (tagsAt (k .count) first (k .tags)) (here .adding)) (p .1 .0 .few);
+          (c .before .add-beside .ensures .0 (tagsAt (k .count) first (k .tags)) (here .adding)) (p .1 .0 .few);
     }
 
 pub add-both-spec : {M : Type 1} → statement M
@@ -51,6 +51,6 @@ add-both-spec =
     (tie.spec
     slice-aggregate-add-first
     add-first-requires
-    slice-aggregate-add-tags
-    add-tags-requires
+    slice-aggregate-add-beside
+    add-beside-requires
     returns)

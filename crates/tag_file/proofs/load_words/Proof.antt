@@ -22,7 +22,7 @@ returns-2 : tie.Need-returns-2
 returns-2 c =
     let a = c .before .before .answer2 .given in
     let e = c .head-of .ensures in
-    refused-words (a .0 .0) 5 (e .0) (e .1) (e .2) ∙ sym (ap loadWords (a .1))
+    refused-words (a .0 .0) 7 (e .0) (e .1) (e .2) ∙ sym (ap loadWords (a .1))
 
 pub load-words-spec : {M : Type 1} → statement M
 load-words-spec =

@@ -1,6 +1,6 @@
 -- `read_words` meets its contract: a case for each variant.
 use mathlib.Core.Path.{sym, ap, _∙_}
-use Rattle.tag_file.specs.Reading.{readWords}
+use Rattle.tag_file.specs.Repeats.{wordsRead}
 use Rattle.sets.proofs.Words.{refused-words, side-words}
 use borrow.Author.Needs.{needs}
 use Rattle.tag_file.proofs.read_words.Statement.{statement}
@@ -12,8 +12,8 @@ enum-known-answer c = search needs
 side-word-requires : tie.Need-side-word-requires
 side-word-requires c κs = search needs
 
-cast-t11 : tie.Need-cast-t11
-cast-t11 c = search needs
+cast-t12 : tie.Need-cast-t12
+cast-t12 c = search needs
 
 enum-told : tie.Need-enum-told
 enum-told c = search needs
@@ -26,16 +26,20 @@ head-of-requires c κs = search needs
 
 returns : tie.Need-returns
 returns c =
-    side-words (c .side-word .ensures) ∙ sym (ap readWords (c .before .before .answer .given .1))
+    let told = c .before .before in
+    side-words (c .side-word .ensures)
+    ∙ sym (ap (λ a. wordsRead a (told .before .before .args .read .repeats)) (told .answer .given .1))
 
 returns-2 : tie.Need-returns-2
 returns-2 c = search needs
 
 returns-3 : tie.Need-returns-3
 returns-3 c =
-    let a = c .before .before .answer2 .given in
+    let told = c .before .before in
+    let why = told .answer2 .given .0 .0 in
     let e = c .head-of .ensures in
-    refused-words (a .0 .0) 6 (e .0) (e .1) (e .2) ∙ sym (ap readWords (a .1))
+    refused-words why 7 (e .0) (e .1) (e .2)
+    ∙ sym (ap (λ a. wordsRead a (told .before .before .args .read .repeats)) (told .answer2 .given .1))
 
 pub read-words-spec : {M : Type 1} → statement M
 read-words-spec =
@@ -43,7 +47,7 @@ read-words-spec =
     (tie.spec
     enum-known-answer
     side-word-requires
-    cast-t11
+    cast-t12
     enum-told
     enum-known-answer-2
     head-of-requires

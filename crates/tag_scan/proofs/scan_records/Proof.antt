@@ -1,10 +1,13 @@
--- `tag_scan::scan_records` meets its contract. The invariant: what the counts, the index and the noted numbers say of the records
--- seen, and that the first fault of the others is the file's (`Scanning`). The measure is how many bytes are left.
+-- `tag_scan::scan_records` meets its contract. The invariant: what the counts, the repeats, the index and the noted numbers say of the
+-- records seen, and that the first fault of the others is the file's (`Scanning`). The measure is how many bytes are left.
 use mathlib.Core.Path.{_≡_, refl, sym, ap, subst, _∙_}
 use mathlib.Core.List.{List, []}
+use mathlib.Core.Bool.{false}
 use Prim.Native.Nat.{ℕ, _-_, _<_, _≤_}
+use native.Mathlib.Omega.{arith}
 use lib.ListN.{length, replicate, length-replicate}
 use Rattle.lists.specs.Lists.{keep, sum}
+use Rattle.bit_sets.specs.BitSets.{member}
 use Rattle.sets.specs.Limits.{maxSetLength, halfWords}
 use Rattle.tag_file.specs.declared.LoadAnswer.{LoadAnswer}
 use Rattle.tag_file.specs.declared.ReadAnswer.the-variants.{Record}
@@ -13,21 +16,21 @@ use Rattle.tag_file.specs.Records.{insertAll, allTags}
 use Rattle.tag_file.proofs.Ended.{no-records}
 use Rattle.tag_file.proofs.RecordLaws.{read-less, read-number, read-count}
 use Rattle.tag_index.specs.Index.{seenWords, Adding}
-use Rattle.tag_index.proofs.AddLaws.{adding-start}
-use Rattle.tag_scan.specs.Scan.{usedWords, Scanned}
+use Rattle.tag_index.proofs.AddLaws.{adding-start, added-fresh}
+use Rattle.tag_scan.specs.Scan.{usedWords, keyOf, Scanned}
 use Rattle.tag_scan.proofs.Numbers.{Noted, noted-start}
 use Rattle.tag_scan.proofs.Taking.{taken-start}
 use Rattle.tag_scan.proofs.Scanning.{Scanning, scanning-start, scanning-stop, scanning-used, scanning-room}
-use Rattle.tag_scan.proofs.Scanning.{fresh-few, scanning-past, scanning-next}
+use Rattle.tag_scan.proofs.Scanning.{fresh-few, repeats-room, scanning-past, scanning-next}
 use Rattle.tag_scan.proofs.scan_records.Statement.{statement}
 use Rattle.tag_scan.proofs.scan_records.Tie as tie
 
 abbrev Inv-loop : tie.InvT-loop
-Inv-loop file used₀ heads₀ tails₀ order₀ hints₀ total₀ at₀ used heads tails order hints total at =
-    Scanning file used heads tails order total at
+Inv-loop file used₀ heads₀ tails₀ order₀ hints₀ total₀ repeats₀ at₀ used heads tails order hints total repeats at =
+    Scanning file used heads tails order total repeats at
 
 abbrev μ-loop : tie.MeasureT-loop
-μ-loop file used₀ heads₀ tails₀ order₀ hints₀ total₀ at₀ used heads tails order hints total at =
+μ-loop file used₀ heads₀ tails₀ order₀ hints₀ total₀ repeats₀ at₀ used heads tails order hints total repeats at =
     length file - at
 
 -- the record that was read
@@ -47,6 +50,18 @@ few a = read-count _ _ (read a) (λ i. a .before .before .before .before .before
 none-added : (l : tie.At-loop Inv-loop μ-loop)
     → Adding [] (l .loop .heads) (l .loop .tails) (l .loop .total .tags) 0 (l .loop .order) (replicate seenWords 0)
 none-added l = adding-start (l .loop .inv .taken .sorted)
+
+-- once its tags are added: the record, the turn of the loop, and what its number was before
+abbrev answered : tie.After-add-tags Inv-loop μ-loop → tie.After-answer Inv-loop μ-loop
+answered g = g .before .before .before .before .before .before .before .before .before .before .before .before
+
+abbrev turn : tie.After-add-tags Inv-loop μ-loop → tie.At-loop Inv-loop μ-loop
+turn g = g .before .before .before .before .before .before .before .before .before .before .before .before .before .before .before
+
+free : (g : tie.After-add-tags Inv-loop μ-loop)
+    → let r = answered g .answer .given .0 in
+    member (turn g .loop .used) (keyOf (r .0) (r .1 .0)) ≡ false
+free g = sym (g .before .before .before .before .before .before .before .before .before .claim .ensures .before) ∙ g .before .before .before .before .before .before .if1 .left
 
 -- the lent bit set keeps its length
 as-long : (s : tie.Start Inv-loop μ-loop) {k : ℕ} → k ≡ usedWords → k ≡ length (s .args .used .now)
@@ -94,8 +109,7 @@ same-length-2 c =
 
 returns-2 : tie.Need-returns-2 Inv-loop μ-loop
 returns-2 c =
-    let at-answer = c .before .before .before .before .before .before in
-    scanning-used (c .before .before .before .before .before .before .before .before .before .loop .inv) (read at-answer) (small at-answer) (sym (c .before .before .before .claim .ensures .before) ∙ c .if1 .taken)
+    scanning-used (c .before .before .before .before .before .before .before .before .before .loop .inv) (read (c .before .before .before .before .before .before)) (small (c .before .before .before .before .before .before)) (sym (c .before .before .before .claim .ensures .before) ∙ c .if1 .taken)
 
 slice-aggregate-add-tags : tie.Need-slice-aggregate-add-tags Inv-loop μ-loop
 slice-aggregate-add-tags c =
@@ -107,9 +121,9 @@ add-tags-requires c κs =
 
 grown-requires : tie.Need-grown-requires Inv-loop μ-loop
 grown-requires c κs =
-    let s = c .before .before .before .before .before .before .before .before .before .before .before .before .before .before .before .before .loop .inv in
-    let none = none-added (c .before .before .before .before .before .before .before .before .before .before .before .before .before .before .before .before) in
-    (s .taken .limited, fresh-few s (read (c .before .before .before .before .before .before .before .before .before .before .before .before .before)) (c .before .add-tags .ensures [] none) none (few (c .before .before .before .before .before .before .before .before .before .before .before .before .before)))
+    let g = c .before in
+    let none = none-added (turn g) in
+    (turn g .loop .inv .taken .limited, fresh-few (turn g .loop .inv) (read (answered g)) (g .add-tags .ensures [] none) none (few (answered g)))
 
 is-over-requires : tie.Need-is-over-requires Inv-loop μ-loop
 is-over-requires c κs =
@@ -117,22 +131,37 @@ is-over-requires c κs =
 
 same-length-3 : tie.Need-same-length-3 Inv-loop μ-loop
 same-length-3 c =
-    as-long (c .before .before .before .before .before .before .before .before .before .before .before .before .before .before .before .before .before .before .before .before .before .before) (c .before .before .before .before .before .before .before .before .before .before .before .before .before .claim .ensures .noted .size ∙ c .before .before .before .before .before .before .before .before .before .before .before .before .before .before .before .before .before .before .before .loop .inv .noted .wide)
+    let g = c .before .before .before .before in
+    as-long (g .before .before .before .before .before .before .before .before .before .before .before .before .before .before .before .before .before .before) (g .before .before .before .before .before .before .before .before .before .claim .ensures .noted .size ∙ turn g .loop .inv .noted .wide)
 
 returns-3 : tie.Need-returns-3 Inv-loop μ-loop
 returns-3 c =
-    scanning-past (c .before .before .before .before .before .before .before .before .before .before .before .before .before .before .before .before .before .before .before .loop .inv) (read (c .before .before .before .before .before .before .before .before .before .before .before .before .before .before .before .before)) (c .before .before .before .before .add-tags .ensures [] (none-added (c .before .before .before .before .before .before .before .before .before .before .before .before .before .before .before .before .before .before .before))) (small (c .before .before .before .before .before .before .before .before .before .before .before .before .before .before .before .before))
-    (sym (c .before .before .before .before .before .before .before .before .before .before .before .before .before .claim .ensures .before) ∙ c .before .before .before .before .before .before .before .before .before .before .if1 .left) (c .before .before .grown .ensures) (sym (c .before .is-over .ensures) ∙ c .if2 .taken)
+    let g = c .before .before .before .before in
+    let a = answered g in
+    scanning-past (turn g .loop .inv) (read a) (g .add-tags .ensures [] (none-added (turn g))) (small a) (free g) (c .before .before .grown .ensures)
+    (sym (c .before .is-over .ensures) ∙ c .if2 .taken)
+
+sub-repeated : tie.Need-sub-repeated Inv-loop μ-loop
+sub-repeated c =
+    let g = c .before .before .before .before .before in
+    let none = none-added (turn g) in
+    omega (arith, added-fresh none (g .add-tags .ensures [] none))
+
+repeated-requires : tie.Need-repeated-requires Inv-loop μ-loop
+repeated-requires c κs =
+    let g = c .before .before .before .before .before in
+    repeats-room (turn g .loop .inv) (read (answered g)) (g .add-tags .ensures [] (none-added (turn g))) (omega (arith, g .before .before .before .before .before .before .before .before .before .before .before .before .before .before .before .before .before .before .good .0))
 
 loop-less : tie.Need-loop-less Inv-loop μ-loop
 loop-less c =
-    read-less _ _ (read (c .before .before .before .before .before .before .before .before .before .before .before .before .before .before .before .before))
+    read-less _ _ (read (answered (c .before .before .before .before .before .before)))
 
 loop-again : tie.Need-loop-again Inv-loop μ-loop
 loop-again c =
-    scanning-next (c .before .before .before .before .before .before .before .before .before .before .before .before .before .before .before .before .before .before .before .loop .inv) (read (c .before .before .before .before .before .before .before .before .before .before .before .before .before .before .before .before)) (c .before .before .before .before .add-tags .ensures [] (none-added (c .before .before .before .before .before .before .before .before .before .before .before .before .before .before .before .before .before .before .before))) (small (c .before .before .before .before .before .before .before .before .before .before .before .before .before .before .before .before))
-    (sym (c .before .before .before .before .before .before .before .before .before .before .before .before .before .claim .ensures .before) ∙ c .before .before .before .before .before .before .before .before .before .before .if1 .left) (c .before .before .grown .ensures)
-    (c .before .before .before .before .before .before .before .before .before .before .before .before .before .claim .ensures .noted) (sym (c .before .is-over .ensures) ∙ c .if2 .left)
+    let g = c .before .before .before .before .before .before in
+    let a = answered g in
+    scanning-next (turn g .loop .inv) (read a) (g .add-tags .ensures [] (none-added (turn g))) (small a) (free g) (c .before .before .before .before .grown .ensures)
+    (g .before .before .before .before .before .before .before .before .before .claim .ensures .noted) (sym (c .before .before .before .is-over .ensures) ∙ c .before .before .if2 .left) (c .repeated .ensures)
 
 pub scan-records-spec : {M : Type 1} → statement M
 scan-records-spec =
@@ -155,5 +184,7 @@ scan-records-spec =
     is-over-requires
     same-length-3
     returns-3
+    sub-repeated
+    repeated-requires
     loop-less
     loop-again)

@@ -50,7 +50,7 @@ fn loads(file: &[u8], should: Option<Refusal>) -> Result<(), String> {
     if !again.is_empty() {
         calls::write(random, &WriteQuery { room: again.len() - 1, ..q })?;
     }
-    calls::load_into(random, &again, needed, &loaded)
+    calls::load_into(random, &again, needed, &Ok(content.without_repeats()))
 }
 
 /// A file with its kits first and their tags rising is loaded, written as it is and loaded again, and these kits are whole, kit number and

@@ -6,12 +6,12 @@ use harness::kinds::{expect_all, Tally};
 use harness::oracle::*;
 use harness::random::Random;
 use harness::run::Plan;
-use harness::whole::{kinds_of, KINDS};
+use harness::whole::{kinds_of, Kind, KINDS};
 use std::fmt::Write as _;
 use std::io::Write as _;
 use std::process::{Command, Stdio};
 
-/// What the program prints for a file: the counts of the walk, and the pairs of records by their tags.
+/// What the program prints for a file: the counts of the walk, the repeats of both sides, and the pairs of records by their tags.
 fn listing(bytes: &[u8]) -> String {
     let refused = |Refusal(number, detail, _)| format!("refused {number} {detail}\n");
     if bytes.len() > 65536 {
@@ -38,10 +38,24 @@ fn listing(bytes: &[u8]) -> String {
         "pairs {} path {} confirmed {} checks {} dropped {} false {}\n",
         c.pairs, c.by_path, c.confirmed, c.checks, c.dropped, c.false_drops
     );
+    let [kits, stacks] = loaded.repeats;
+    writeln!(text, "repeats {kits} {stacks}").expect("a string takes every line");
     for (kit, stack) in whole {
         writeln!(text, "{kit} {stack}").expect("a string takes every line");
     }
     text
+}
+
+/// The kinds of files with whole kits, by how many reads of kits and of stacks were repeats.
+const REPEATS: [Kind; 4] = [
+    ("no repeat, and whole kits", |file| has(file, |kits, stacks| kits + stacks == 0)),
+    ("repeats of kits alone, and whole kits", |file| has(file, |kits, stacks| kits > 0 && stacks == 0)),
+    ("repeats of stacks alone, and whole kits", |file| has(file, |kits, stacks| kits == 0 && stacks > 0)),
+    ("repeats of both, not as many, and whole kits", |file| has(file, |kits, stacks| kits > 0 && stacks > 0 && kits != stacks)),
+];
+
+fn has(file: &LoadedFile, repeats: fn(usize, usize) -> bool) -> bool {
+    repeats(file.repeats[0], file.repeats[1]) && !file.whole_kits().is_empty()
 }
 
 /// What the program does print. Half of the time the file comes in several pieces.
@@ -100,6 +114,18 @@ fn named() -> Vec<(&'static str, Vec<u8>)> {
         ("empty kits between equal ones", [kits(1), empty(3), record(false, 5, &tags(0, 1)), stacks(2)].concat()),
         ("empty kits and stacks", [empty(128), stacks(64)].concat()),
         ("nothing", Vec::new()),
+        ("a tag in a kit twice", [record(false, 7, &[tag(1), tag(2), tag(1)]), record(true, 9, &tags(1, 2))].concat()),
+        ("a tag of two kits and two stacks", [kits(2), stacks(2)].concat()),
+        ("repeats of two stacks", [kits(1), record(true, 7, &[tag(0); 2]), record(true, 8, &[tag(0); 3])].concat()),
+        ("255 reads of one tag", [record(false, 7, &[tag(1); 255]), record(true, 9, &[tag(1); 255])].concat()),
+        ("repeats before a fault", [document.concat(), vec![0x4B]].concat()),
+        ("repeats and 8,256 pairs", [kits(129), stacks(63), record(true, 9, &[tag(0); 2])].concat()),
+        ("the most repeats", {
+            let many = |k: u16| if k < 21 { 255 } else { 97 };
+            let file: Vec<u8> = (0..22).flat_map(|k| record(k % 3 == 0, k, &vec![tag(1); many(k)])).collect();
+            assert!((65525..=65536).contains(&file.len()), "{} bytes leave no room for one more read", file.len());
+            file
+        }),
         ("8,192 pairs", [kits(128), stacks(64)].concat()),
         ("8,192 pairs and empty kits", [empty(9), kits(128), stacks(64)].concat()),
         ("8,193 pairs", [kits(128), stacks(63), record(true, 1, &tags(0, 2)), record(false, 999, &tags(1, 1))].concat()),
@@ -143,6 +169,7 @@ fn main() {
         println!("listings: {} named files", named().len());
     }
     let mut tally = Tally::new(&KINDS);
+    let mut repeats = Tally::new(&REPEATS);
     plan.run("listings", |random, print| {
         let mut bytes = file(random);
         if random.one_in(4) {
@@ -150,11 +177,12 @@ fn main() {
         }
         if let Ok(loaded) = load(&bytes) {
             tally.add(kinds_of(&loaded));
+            repeats.add(REPEATS.map(|(_, is_of)| is_of(&loaded)));
         }
         if print {
             println!("{bytes:02X?}\n{}", listing(&bytes));
         }
         compare(&bytes, random)
     });
-    expect_all("listings", &plan, 3_000, tally.report());
+    expect_all("listings", &plan, 3_000, tally.report() & repeats.report());
 }

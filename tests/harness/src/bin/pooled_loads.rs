@@ -7,19 +7,17 @@ use harness::files::{damage, file, lengths, pair};
 use harness::kinds::{expect_all, Tally};
 use harness::oracle::{is_contained, load, pool, read_record, Cause, LoadedFile, Pooled, Read, Refusal, Tag};
 use harness::random::Random;
+use harness::records::{have_common_across, of_side, records_of, FileRecord};
 use harness::{calls, pads, run::Plan, whole};
 use kitfinder::TagFile;
 use std::collections::{BTreeSet, HashMap};
 
-/// A whole record of the second file: its tags as a set, and how many were read.
-struct SecondRecord {
-    right: bool,
-    number: u16,
-    tags: BTreeSet<Tag>,
-    count: usize,
+/// The tags that a record reads more than once, each with the record's number.
+fn repeated(record: &FileRecord) -> Vec<(u16, Tag)> {
+    record.times().into_iter().filter(|&(_, times)| times > 1).map(|(&tag, _)| (record.number, tag)).collect()
 }
 
-/// A pair of files with its lists, and what the oracle says of it and of each file alone.
+/// A pair of files with its lists, what the oracle says of it and of each file alone, and the whole records of each.
 struct Case<'a> {
     files: [&'a [u8]; 2],
     damaged: Option<&'static str>,
@@ -28,7 +26,7 @@ struct Case<'a> {
     refusal: Option<Refusal>,
     first: Result<LoadedFile, Refusal>,
     second: Pooled,
-    records: Vec<SecondRecord>,
+    records: [Vec<FileRecord>; 2],
 }
 
 impl Case<'_> {
@@ -97,24 +95,24 @@ impl Case<'_> {
     }
 
     /// Accepted with a kit of the second file of which something holds.
-    fn has_kit(&self, holds: impl Fn(&Case, &SecondRecord, usize) -> bool) -> bool {
-        self.loaded().is_some() && self.records.iter().enumerate().any(|(k, read)| !read.right && holds(self, read, k))
+    fn has_kit(&self, holds: impl Fn(&Case, &FileRecord, usize) -> bool) -> bool {
+        self.loaded().is_some() && self.records[1].iter().enumerate().any(|(k, read)| !read.right && holds(self, read, k))
     }
 
     /// Accepted with a stack of the second file of which something holds, beside the first file's of that number.
-    fn has_stack(&self, holds: impl Fn(&SecondRecord, Option<&Vec<Tag>>) -> bool) -> bool {
+    fn has_stack(&self, holds: impl Fn(&FileRecord, Option<&Vec<Tag>>) -> bool) -> bool {
         self.loaded().is_some() && self.has_any_stack(holds)
     }
 
-    fn has_any_stack(&self, holds: impl Fn(&SecondRecord, Option<&Vec<Tag>>) -> bool) -> bool {
+    fn has_any_stack(&self, holds: impl Fn(&FileRecord, Option<&Vec<Tag>>) -> bool) -> bool {
         let Ok(first) = &self.first else { return false };
         let of = |number: u16| first.sides[1].numbers.iter().position(|&n| n == number).map(|k| &first.sides[1].sets[k]);
-        self.records.iter().any(|read| read.right && holds(read, of(read.number)))
+        self.records[1].iter().any(|read| read.right && holds(read, of(read.number)))
     }
 
     /// Whether a stack of 255 tags on each pad pools to so many.
     fn pools_to(&self, number: u64, union: usize) -> bool {
-        let pools = |read: &SecondRecord, first: Option<&Vec<Tag>>| {
+        let pools = |read: &FileRecord, first: Option<&Vec<Tag>>| {
             let Some(first) = first.filter(|first| first.len() == 255 && read.tags.len() == 255) else { return false };
             read.tags.iter().chain(first).collect::<BTreeSet<_>>().len() == union
         };
@@ -124,8 +122,8 @@ impl Case<'_> {
     /// Whether stacks that the files share are accepted in two orders.
     fn has_two_orders(&self) -> bool {
         let Ok(first) = &self.first else { return false };
-        let in_first = |read: &SecondRecord| first.sides[1].numbers.iter().position(|&number| number == read.number);
-        let places = self.records.iter().filter(|read| read.right).filter_map(in_first);
+        let in_first = |read: &FileRecord| first.sides[1].numbers.iter().position(|&number| number == read.number);
+        let places = of_side(&self.records[1], true).filter_map(in_first);
         self.is(0) && !places.is_sorted()
     }
 
@@ -141,8 +139,7 @@ impl Case<'_> {
         let Ok(first) = &self.first else { return Vec::new() };
         let (kits, stacks) = (&first.sides[0], &first.sides[1]);
         let on_first: HashMap<u16, &Vec<Tag>> = stacks.numbers.iter().copied().zip(&stacks.sets).collect();
-        let on_second: HashMap<u16, &BTreeSet<Tag>> =
-            self.records.iter().filter(|read| read.right).map(|read| (read.number, &read.tags)).collect();
+        let on_second: HashMap<u16, &BTreeSet<Tag>> = of_side(&self.records[1], true).map(|read| (read.number, &read.tags)).collect();
         let lies = |number: &u16, tag: &Tag| {
             on_first.get(number).is_some_and(|tags| tags.contains(tag)) || on_second.get(number).is_some_and(|tags| tags.contains(tag))
         };
@@ -164,6 +161,31 @@ impl Case<'_> {
         whole::compare(&TagFile::load_pooled(self.files[0], self.files[1]).map_err(|refusal| refusal.to_string())?, loaded)
     }
 
+    /// Whether kits or stacks of a file have repeats.
+    fn has_repeats(&self, file: usize, right: bool) -> bool {
+        of_side(&self.records[file], right).any(FileRecord::has_repeats)
+    }
+
+    /// The same of the first file's kits and stacks, and of the second's.
+    fn repeats(&self) -> [bool; 4] {
+        [(0, false), (0, true), (1, false), (1, true)].map(|(file, right)| self.has_repeats(file, right))
+    }
+
+    /// Whether a stack has a tag that was read several times on each pad.
+    fn has_same_repeat(&self) -> bool {
+        let repeated = |file: usize| of_side(&self.records[file], true).filter(|read| read.has_repeats()).flat_map(repeated);
+        let first: BTreeSet<(u16, Tag)> = repeated(0).collect();
+        repeated(1).any(|repeat| first.contains(&repeat))
+    }
+
+    /// Refused, where stacks of a file that lie before the place at fault have repeats; before 4 and 10 all lie.
+    fn is_after_repeats(&self, file: usize) -> bool {
+        let Some(Refusal(number, place, _)) = self.refusal else { return false };
+        let fault = if number <= 3 { place as usize } else { usize::MAX };
+        let base = if file == 0 { 0 } else { self.files[0].len() };
+        of_side(&self.records[file], true).any(|read| base + read.at < fault && read.has_repeats())
+    }
+
     /// Accepted with just so many of something, and fewer in the first file.
     fn reaches(&self, limit: usize, count: fn(&LoadedFile) -> usize) -> bool {
         self.first.as_ref().is_ok_and(|first| count(first) < limit) && self.loaded().is_some_and(|loaded| count(loaded) == limit)
@@ -171,7 +193,7 @@ impl Case<'_> {
 }
 
 type Kind = (&'static str, fn(&Case) -> bool);
-const KINDS: [Kind; 57] = [
+const KINDS: [Kind; 75] = [
     ("accepted", |c| c.is(0)),
     ("1 in the first file", |c| c.is_in_first(1)),
     ("2 in the first file", |c| c.is_in_first(2)),
@@ -214,7 +236,7 @@ const KINDS: [Kind; 57] = [
         c.has_kit(|c, kit, _| c.loaded().is_some_and(|loaded| loaded.sides[0].numbers.contains(&kit.number)))
     }),
     ("two kits of the second with one number", |c| {
-        c.has_kit(|c, kit, k| c.records[..k].iter().any(|earlier| !earlier.right && earlier.number == kit.number))
+        c.has_kit(|c, kit, k| c.records[1][..k].iter().any(|earlier| !earlier.right && earlier.number == kit.number))
     }),
     ("a kit of the second with tags that nothing else has", |c| {
         c.has_kit(|c, kit, _| c.loaded().is_some_and(|loaded| kit.tags.iter().any(|tag| loaded.tags.binary_search(tag).is_err())))
@@ -238,7 +260,29 @@ const KINDS: [Kind; 57] = [
     ("a tag of one stack on both pads", |c| {
         c.has_stack(|read, first| first.is_some_and(|first| first.iter().any(|tag| read.tags.contains(tag))))
     }),
-    ("a repeat in a pooled record", |c| c.has_stack(|read, first| first.is_some() && read.count > read.tags.len())),
+    ("repeats of a kit of the first", |c| c.is(0) && c.has_repeats(0, false)),
+    ("repeats of a stack of the first", |c| c.is(0) && c.has_repeats(0, true)),
+    ("repeats of a stack of the second that the first has", |c| c.has_stack(|read, first| first.is_some() && read.has_repeats())),
+    ("repeats of a stack of the second that the first has not", |c| c.has_stack(|read, first| first.is_none() && read.has_repeats())),
+    ("repeats of kits of both", |c| c.is(0) && c.has_repeats(0, false) && c.has_repeats(1, false)),
+    ("repeats of kits of the second alone", |c| c.is(0) && c.repeats() == [false, false, true, false]),
+    ("repeats of stacks of the second alone", |c| c.is(0) && c.repeats() == [false, false, false, true]),
+    ("repeats of kits and stacks of both", |c| c.is(0) && c.repeats() == [true; 4]),
+    ("repeats of one tag in one stack on both pads", |c| c.is(0) && c.has_same_repeat()),
+    ("a tag of one stack on both pads, and no repeat", |c| {
+        c.repeats() == [false; 4] && c.has_stack(|read, first| first.is_some_and(|first| first.iter().any(|tag| read.tags.contains(tag))))
+    }),
+    ("a tag of the first's kits that the second's have, and no repeat", |c| {
+        c.is(0) && c.repeats() == [false; 4] && have_common_across(of_side(&c.records[0], false), of_side(&c.records[1], false))
+    }),
+    ("1 in the first file after repeats", |c| c.is_in_first(1) && c.is_after_repeats(0)),
+    ("2 in the first file after repeats", |c| c.is_in_first(2) && c.is_after_repeats(0)),
+    ("3 in the first file after repeats", |c| c.is_in_first(3) && c.is_after_repeats(0)),
+    ("1 in the second file after repeats of both", |c| !c.deciding(1).is_empty() && c.is_after_repeats(0) && c.is_after_repeats(1)),
+    ("2 in the second file after repeats of both", |c| !c.deciding(2).is_empty() && c.is_after_repeats(0) && c.is_after_repeats(1)),
+    ("3 in the second file after repeats of both", |c| !c.deciding(3).is_empty() && c.is_after_repeats(0) && c.is_after_repeats(1)),
+    ("4 after repeats of both", |c| c.is(4) && c.is_after_repeats(0) && c.is_after_repeats(1)),
+    ("10 after repeats of both", |c| c.is(10) && c.is_after_repeats(0) && c.is_after_repeats(1)),
     ("255 and 255 tags that pool to 255", |c| c.pools_to(0, 255)),
     ("255 and 255 tags that pool to 256", |c| c.pools_to(10, 256)),
     ("255 and 255 tags that pool to 510", |c| c.pools_to(10, 510)),
@@ -246,18 +290,6 @@ const KINDS: [Kind; 57] = [
     ("65,535 entries by pooling", |c| c.reaches(65535, |loaded| loaded.sides[1].sets.iter().map(Vec::len).sum())),
     ("4,096 tags by pooling", |c| c.reaches(4096, |loaded| loaded.tags.len())),
 ];
-
-/// The whole records at the start of a file.
-fn records_of(file: &[u8]) -> Vec<SecondRecord> {
-    let mut records = Vec::new();
-    let mut at = 0;
-    while let Read::Record { right, number, count, tags, next } = read_record(file, at) {
-        let tags = file[tags..next].chunks(12).map(|tag| tag.try_into().expect("12 bytes")).collect();
-        records.push(SecondRecord { right, number, tags, count });
-        at = next;
-    }
-    records
-}
 
 /// Breaks the mark of a record.
 fn break_mark(random: &mut Random, file: &mut [u8]) {
@@ -323,7 +355,7 @@ fn main() {
             println!("{:02X?}\n{:02X?}\n{lengths:?}\n{pooled:?}\n{refusal:?}", files[0], files[1]);
         }
         let (first, second) = (load(files[0]), pool(&[], files[1]).expect("an empty file has no fault"));
-        let records = records_of(files[1]);
+        let records = files.map(records_of);
         let case = Case { files, damaged: *damaged, lengths, pooled: &pooled, refusal, first, second, records };
         tally.add(KINDS.map(|(_, is_of)| is_of(&case)));
         calls::load_pooled_into(random, files, lengths, &pooled)?;
