@@ -33,7 +33,7 @@ use Rattle.tag_pooling.specs.Pooling.{pooledRepeats}
 use Rattle.tag_pooling.specs.Pooling.{sameSet, pooled, placeAfter, secondFaultOf, firstSecondFault, secondFault, isOverlong, firstOverlong}
 use Rattle.tag_pooling.proofs.OneMore.{pooled-none, pooled-left}
 use Rattle.tag_pooling.proofs.Sides.{right-apart}
-use Rattle.tag_scan.specs.Scan.{passes, Taken}
+use Rattle.tag_scan.specs.Scan.{passes, wordNumbers, Taken}
 use Rattle.right_slots.specs.Slots.{AtSlots, slotWord}
 use Rattle.pool_scan.specs.declared.Second.{Second}
 use Rattle.pool_scan.specs.Second.{SecondReady, SecondScanned}
@@ -204,8 +204,8 @@ module _ {first second noted used heads tails order slots : List ℕ} {total : L
     here-repeats {fresh} distinct = repeats-are (tagsAt c second q) c fresh (length-tagsAt c second q) distinct
 
     -- and lie in the file: with those before there are fewer than bytes in both
-    pub passing-repeats : {fresh : ℕ} → fresh ≡ length (collapse (tagsAt c second q)) → length first < 18446744073709551616
-        → length second < 18446744073709551616 → (fresh ≤ c) × (repeats + (c - fresh) < 18446744073709551616)
+    pub passing-repeats : {fresh : ℕ} → fresh ≡ length (collapse (tagsAt c second q)) → length first < wordNumbers
+        → length second < wordNumbers → (fresh ≤ c) × (repeats + (c - fresh) < wordNumbers)
     passing-repeats {fresh} distinct fits-first fits-second = (
       omega (arith, distinct, distinct-and-repeats (tagsAt c second q), length-tagsAt c second q),
       omega (

@@ -30,7 +30,7 @@ use Rattle.tag_file.proofs.FaultLaws.{fault-used, fault-none}
 use Rattle.tag_file.proofs.RepeatLaws.{repeats-are, repeats-bound}
 use Rattle.tag_index.specs.Index.{Adding, RoomToAdd, AllAdded}
 use Rattle.tag_index.proofs.AddLaws.{added-fresh}
-use Rattle.tag_scan.specs.Scan.{keyOf, grownBy, isOver, Taken, Scanned, repeatedBy, RepeatsRoom}
+use Rattle.tag_scan.specs.Scan.{keyOf, grownBy, isOver, Taken, Scanned, wordNumbers, repeatedBy, RepeatsRoom}
 use Rattle.tag_scan.proofs.Numbers.{Noted, noted-step, noted-tells}
 use Rattle.tag_scan.proofs.Counting.{grown-repeats}
 use Rattle.tag_scan.proofs.Taking.{taken-over, taken-next}
@@ -131,7 +131,7 @@ module _ {file used heads tails order : List ℕ} {total : Loaded} {repeats : Re
       here-repeats = repeats-are (tagsAt c file p) c fresh (length-tagsAt c file p) (added .adding .counted)
 
       -- they lie in the file with those before
-      pub repeats-room : length file < 18446744073709551616 → RepeatsRoom repeats (c - fresh)
+      pub repeats-room : length file < wordNumbers → RepeatsRoom repeats (c - fresh)
       repeats-room fits =
           record {
             left = omega (

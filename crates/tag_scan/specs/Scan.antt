@@ -76,10 +76,14 @@ abbrev pub repeatedBy : Repeats → Side → ℕ → Repeats
 repeatedBy t Left more = record { left = t .left + more; right = t .right }
 repeatedBy t Right more = record { left = t .left; right = t .right + more }
 
--- so many more fit a word of 64 bits
+-- how many numbers a word of 64 bits has
+abbrev pub wordNumbers : ℕ
+wordNumbers = 18446744073709551616
+
+-- so many more fit such a word
 pub record RepeatsRoom (t : Repeats) (more : ℕ) : Type 0 where
-  pub left : t .left + more < 18446744073709551616
-  pub right : t .right + more < 18446744073709551616
+  pub left : t .left + more < wordNumbers
+  pub right : t .right + more < wordNumbers
 
 -- ---- the state: records that were taken in
 

@@ -20,6 +20,7 @@ use Rattle.tag_file.specs.Records.{sameSide}
 use Rattle.tag_file.proofs.Ended.{no-records}
 use Rattle.tag_file.proofs.RecordLaws.{read-less, read-number, read-count}
 use Rattle.tag_pooling.specs.Pooling.{placeAfter}
+use Rattle.tag_scan.specs.Scan.{wordNumbers}
 use Rattle.pool_scan.proofs.Passing.{Passing, passing-start, passing-whole, passing-cut, passing-left, passing-used}
 use Rattle.pool_scan.proofs.Passing.{passing-repeats, passing-past, passing-next}
 use Rattle.pool_scan.proofs.Step.{step-ready, step-bounds, stepped}
@@ -173,7 +174,7 @@ returns-4 c =
 more-repeats : (g : tie.After-struct-known Inv-loop μ-loop)
     → let fresh = g .before .before .before .before .before .before .unite .result .fresh in
     let count = answered (g .before .before .before .before .before .before .before .before .before .before .before .before) .answer .given .0 .1 .1 .0 in
-    (fresh ≤ count) × (turn (g .before .before .before .before .before .before .before .before .before .before .before .before) .loop .repeats + (count - fresh) < 18446744073709551616)
+    (fresh ≤ count) × (turn (g .before .before .before .before .before .before .before .before .before .before .before .before) .loop .repeats + (count - fresh) < wordNumbers)
 more-repeats g =
     let e = g .before .before .before .before .before .before .before .before .before .before .before .before in
     let a = answered e in
