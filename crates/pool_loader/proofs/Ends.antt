@@ -3,7 +3,6 @@ use mathlib.Core.Path.{_≡_, refl, sym, ap, ap₂, subst, _∙_}
 use mathlib.Core.List.{List, []}
 use mathlib.Core.Bool.{Bool, true, false, not}
 use Prim.Native.Nat.{ℕ}
-use native.Mathlib.Omega.{arith}
 use borrow.Author.Tests.{not-true, not-false}
 use lib.ListN.{length}
 use Rattle.sets.specs.Refusals.{refuseIf, unless}
@@ -15,10 +14,11 @@ use Rattle.tag_file.specs.declared.Loaded.{Loaded}
 use Rattle.tag_file.specs.declared.Repeats.{Repeats}
 use Rattle.tag_file.specs.declared.LoadAnswer.{LoadAnswer}
 use Rattle.tag_file.specs.declared.LoadAnswer.the-variants as load
-use Rattle.tag_file.specs.Records.{records, tagTable}
+use Rattle.tag_file.specs.Records.{records}
 use Rattle.tag_file.specs.Repeats.{repeatTotals}
-use Rattle.tag_file.specs.Loading.{Lists, fileFault, filled, roomFor, totalsOf}
+use Rattle.tag_file.specs.Loading.{Lists, fileFault, filled, totalsOf}
 use Rattle.tag_pooling.specs.Pooling.{pooledRecords, pooledRepeats, secondFault, firstOverlong, pooledAnswer, PooledCall}
+use Rattle.tag_file.proofs.AnswerLaws.{tested-refused, tested-loaded}
 use Rattle.tag_pooling.proofs.Answers.{answer-clears, answer-accepted}
 use Rattle.tag_scan.specs.Scan.{Limited, Taken, Scanned}
 use Rattle.load_lists.specs.Room.{hasRoom, AllCleared}
@@ -70,27 +70,17 @@ module _ (first second : List ℕ) (lent : Lists) where
 
   -- ---- the first file
 
-  refused-fault : (t : Tested) (x : Loaded) (y : Repeats) (why : Refusal)
-      → unless load.Refused t (load.Loaded x y) ≡ load.Refused why → t ≡ Failed why
-  refused-fault Passed x y why e = let z : _≡_ {A = ℕ} 0 1 = cc in absurd (omega arith)
-  refused-fault (Failed w) x y why e = ap Failed cc
-
-  loaded-passed : (t : Tested) (x total : Loaded) (y repeats : Repeats)
-      → unless load.Refused t (load.Loaded x y) ≡ load.Loaded total repeats → (t ≡ Passed) × (total ≡ x) × (repeats ≡ y)
-  loaded-passed Passed x total y repeats e = (refl, cc, cc)
-  loaded-passed (Failed w) x total y repeats e = let z : _≡_ {A = ℕ} 0 1 = cc in absurd (omega arith)
-
   pub first-refused : {heads tails order : List ℕ} {r : LoadAnswer} (why : Refusal) → Scanned first heads tails order r
       → r ≡ load.Refused why → r ≡ pooledAnswer first second lent
   first-refused why s e =
-      e ∙ sym (answer-fault why (refused-fault (fileFault first) (totalsOf (records first)) (repeatTotals (records first)) why
+      e ∙ sym (answer-fault why (tested-refused (fileFault first) (totalsOf (records first)) (repeatTotals (records first)) why
       (sym (s .answer) ∙ e)))
 
   pub first-taken : {heads tails order : List ℕ} {r : LoadAnswer} (total : Loaded) (repeats : Repeats)
       → Scanned first heads tails order r → r ≡ load.Loaded total repeats → FirstTaken first total repeats heads tails order
   first-taken {heads} {tails} {order} total repeats s e =
       let parts =
-      loaded-passed (fileFault first) (totalsOf (records first)) total (repeatTotals (records first)) repeats (sym (s .answer) ∙ e) in
+      tested-loaded (fileFault first) (totalsOf (records first)) (repeatTotals (records first)) total repeats (sym (s .answer) ∙ e) in
       record {
         clean = parts .0;
         taken = subst (λ (t : Loaded). Taken (records first) t heads tails order) (sym (parts .1)) (s .taken (parts .0));
@@ -103,8 +93,8 @@ module _ (first second : List ℕ) (lent : Lists) where
       (s : SecondScanned first second heads tails order used slots r) where
     pub second-limited : LimitedIf (r .answer)
     second-limited t repeats e =
-        let parts = loaded-passed (secondFault (records first) (length first) second) (totalsOf (pooledRecords first second)) t
-        (pooledRepeats (records first) (records second)) repeats (sym (s .answer) ∙ e) in
+        let parts = tested-loaded (secondFault (records first) (length first) second) (totalsOf (pooledRecords first second))
+        (pooledRepeats (records first) (records second)) t repeats (sym (s .answer) ∙ e) in
         subst (λ (q : Loaded). Limited q) (sym (parts .1)) (s .taken (parts .0) .limited)
 
     abbrev roomOf : LoadAnswer → Tested → LoadAnswer

@@ -1,33 +1,26 @@
 -- The walk along the links from a tag: none of the tags that it has passed, nor of those between them, which are in other buckets, is
 -- the same. So it ends where the tag is among those before it, or at 0.
 use mathlib.Core.Path.{_≡_, refl, sym, ap, _∙_}
-use mathlib.Core.List.{List, [], _∷_}
-use mathlib.Core.Bool.{true, false, _||_}
+use mathlib.Core.List.{List}
+use mathlib.Core.Bool.{true, false}
 use Prim.Native.Nat.{ℕ, zero, suc, _+_, _-_, _<_, _≤_}
 use native.Mathlib.Omega.{arith}
 use borrow.Author.Tests.{ne-eqb}
-use lib.Dec.{eqb}
 use lib.ListN.{getD}
 use Rattle.lists.specs.Lists.{memb}
-use Rattle.lists.proofs.Membership.{memb-append}
 use Rattle.tag_file.specs.Reading.{tagsAt}
 use Rattle.tag_file.proofs.RecordLaws.{tagsAt-last, memb-tagsAt}
-use Rattle.tag_file.proofs.Tables.{three-ways}
+use Rattle.tag_file.proofs.Tables.{three-ways, memb-last}
 use Rattle.record_reader.specs.Chains.{bucketOf, tagOf, LastIn, Linked}
 
 -- ---- whether x is among the first k tags of a record
 
 module _ (file : List ℕ) (start x : ℕ) where
-  memb-last : (k : ℕ)
-      → memb x (tagsAt (suc k) file start) ≡ (memb x (tagsAt k file start) || (eqb x (tagOf file start k) || false))
-  unfolding memb
-  memb-last k = ap (memb x) (tagsAt-last k file start) ∙ memb-append x (tagsAt k file start) (tagOf file start k ∷ [])
-
   absent : (k : ℕ) → ((m : ℕ) → m < k → tagOf file start m ≡ x → ⊥) → memb x (tagsAt k file start) ≡ false
   unfolding memb tagsAt
   absent zero never = refl
   absent (suc k) never =
-      memb-last k
+      ap (memb x) (tagsAt-last k file start) ∙ memb-last x (tagsAt k file start) (tagOf file start k)
       ∙ rw (
         absent k (λ m below. never m (omega arith)),
         ne-eqb x (tagOf file start k) (λ e. never k (omega arith) (sym e)),

@@ -1,6 +1,6 @@
 -- The loader's answer: what an accepted load says of the file and of the lists, when a load is accepted and when it is refused;
 -- what room for all lists says of each; and the lists after a call as one.
-use mathlib.Core.Path.{_≡_, refl}
+use mathlib.Core.Path.{_≡_, refl, ap}
 use Prim.Native.Nat.{ℕ, _≤_}
 use mathlib.Core.List.{List}
 use mathlib.Core.Bool.{Bool, true, false, not, _&&_}
@@ -20,6 +20,18 @@ use Rattle.tag_file.specs.declared.Loaded.{Loaded}
 use Rattle.tag_file.specs.declared.Repeats.{Repeats}
 use Rattle.tag_file.specs.declared.LoadAnswer.{LoadAnswer}
 use Rattle.tag_file.specs.declared.LoadAnswer.the-variants as load
+
+-- an answer after one test: a refusal is the test's, and what is accepted has passed it
+pub tested-refused : (t : Tested) (given : Loaded) (found : Repeats) (why : Refusal)
+    → unless load.Refused t (load.Loaded given found) ≡ load.Refused why → t ≡ Failed why
+tested-refused Passed given found why e = let z : _≡_ {A = ℕ} 0 1 = cc in absurd (omega arith)
+tested-refused (Failed w) given found why e = ap Failed cc
+
+pub tested-loaded : (t : Tested) (given : Loaded) (found : Repeats) (totals : Loaded) (repeats : Repeats)
+    → unless load.Refused t (load.Loaded given found) ≡ load.Loaded totals repeats
+    → (t ≡ Passed) × (totals ≡ given) × (repeats ≡ found)
+tested-loaded Passed given found totals repeats e = (refl, cc, cc)
+tested-loaded (Failed w) given found totals repeats e = let z : _≡_ {A = ℕ} 0 1 = cc in absurd (omega arith)
 
 -- no fault, room in every list, the totals, and the repeats of the file's records
 pub record LoadAccepted (file : List ℕ) (lent : Lists) (totals : Loaded) (repeats : Repeats) : Type 0 where

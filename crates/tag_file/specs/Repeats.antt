@@ -28,7 +28,7 @@ repeatsOf side rs = sum (λ r. repeatsIn (r .tags)) (ofSide side rs)
 abbrev pub readsOf : Side → List TagRecord → ℕ
 readsOf side rs = sum (λ r. length (r .tags)) (ofSide side rs)
 
--- the repeats of both sides
+-- "The loader totals these for kits and for stacks": left sets are kits, right sets stacks
 abbrev pub repeatTotals : List TagRecord → Repeats
 repeatTotals rs = record { left = repeatsOf Left rs; right = repeatsOf Right rs }
 

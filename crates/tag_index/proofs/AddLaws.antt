@@ -11,14 +11,14 @@ use lib.Dec.{eqb, ltb}
 use lib.ListN.{length, getD, replicate, length-set, length-replicate}
 use Rattle.lists.specs.Lists.{one, memb, rising}
 use Rattle.lists.proofs.Bools.{true-false, by-test, refuted, same-test}
-use Rattle.lists.proofs.Membership.{memb-append, memb-place}
+use Rattle.lists.proofs.Membership.{memb-place}
 use Rattle.bit_sets.specs.BitSets.{member}
 use Rattle.bit_sets.proofs.Members.{no-member}
 use Rattle.tag_file.specs.Format.{tagAt}
 use Rattle.tag_file.specs.Reading.{tagsAt, pastTags}
 use Rattle.tag_file.specs.Records.{insert, insertAll, collapse}
 use Rattle.tag_file.proofs.Tables.{three-ways, memb-insert, rising-insert, length-insert, insert-known, insert-new}
-use Rattle.tag_file.proofs.Tables.{insertAll-append, insertAll-last, length-insertAll-bound, collapse-last}
+use Rattle.tag_file.proofs.Tables.{insertAll-append, insertAll-last, length-insertAll-bound, memb-last, collapse-last}
 use Rattle.tag_file.proofs.RecordLaws.{length-tagsAt, tagsAt-last}
 use Rattle.tag_words.specs.Words.{tagValue}
 use Rattle.tag_index.specs.Index.{indexRoom, seenWords, tagOfId, tableOf, Sorted, Lower, Seen, NewTag, OneTaken, Adding}
@@ -33,10 +33,6 @@ use Rattle.tag_index.proofs.Ids.{listed-put, tag-other, tag-this, table
 pub tagsAt-next : (k : ℕ) (file : List ℕ) (start : ℕ)
     → tagsAt (k + 1) file start ≡ tagsAt k file start ++ (tagAt file (pastTags start k) ∷ [])
 tagsAt-next k file start = ap (λ (m : ℕ). tagsAt m file start) (add-one k) ∙ tagsAt-last k file start
-
-memb-last : (y : ℕ) (xs : List ℕ) (x : ℕ) → memb y (xs ++ (x ∷ [])) ≡ (memb y xs || eqb y x)
-unfolding memb
-memb-last y xs x = memb-append y xs (x ∷ []) ∙ ap (λ (b : Bool). memb y xs || b) (or-false (eqb y x))
 
 -- ---- the tag x in the index
 

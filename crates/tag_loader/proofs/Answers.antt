@@ -3,14 +3,12 @@ use mathlib.Core.Path.{_≡_, refl, sym, ap, ap₂, subst, _∙_}
 use mathlib.Core.List.{List}
 use mathlib.Core.Bool.{Bool, true, false, not}
 use Prim.Native.Nat.{ℕ}
-use native.Mathlib.Omega.{arith}
 use borrow.Author.Tests.{not-true, not-false}
 use lib.ListN.{length}
-use Rattle.sets.specs.Refusals.{clears, unless}
+use Rattle.sets.specs.Refusals.{clears}
 use Rattle.sets.specs.declared.Refusal.{Refusal}
 use Rattle.sets.specs.declared.Refusal.the-variants.{ShortOutput}
-use Rattle.sets.specs.declared.Tested.{Tested}
-use Rattle.sets.specs.declared.Tested.the-variants.{Passed, Failed}
+use Rattle.sets.specs.declared.Tested.the-variants.{Passed}
 use Rattle.tag_file.specs.declared.Loaded.{Loaded}
 use Rattle.tag_file.specs.declared.Repeats.{Repeats}
 use Rattle.tag_file.specs.declared.LoadAnswer.{LoadAnswer}
@@ -19,7 +17,7 @@ use Rattle.tag_file.specs.Records.{records}
 use Rattle.tag_file.specs.Repeats.{repeatTotals}
 use Rattle.tag_file.specs.Loading.{Lists, fileFault, totalsOf, filled, roomFor, loadAnswer, LoadCall}
 use Rattle.tag_file.proofs.FaultLaws.{fault-clears}
-use Rattle.tag_file.proofs.AnswerLaws.{accepts, refuses-short, refuses-fault}
+use Rattle.tag_file.proofs.AnswerLaws.{tested-refused, tested-loaded, accepts, refuses-short, refuses-fault}
 use Rattle.tag_scan.specs.Scan.{Scanned, Limited}
 use Rattle.load_lists.specs.Room.{hasRoom, AllCleared}
 use Rattle.tag_loader.specs.Passes.{AllFilled, Fillable}
@@ -41,17 +39,12 @@ call-refused why is zeros e z =
       rightItems = rw (is, zeros) (z .right .items-zero);
     }
 
-refused-fault : (t : Tested) (x : Loaded) (y : Repeats) (why : Refusal)
-    → unless load.Refused t (load.Loaded x y) ≡ load.Refused why → t ≡ Failed why
-refused-fault Passed x y why e = let z : _≡_ {A = ℕ} 0 1 = cc in absurd (omega arith)
-refused-fault (Failed w) x y why e = ap Failed cc
-
 -- a file at fault: the refusal of the first pass is the answer
 pub call-fault : {file heads tails order : List ℕ} {before after : Lists} {r : LoadAnswer} (why : Refusal)
     → Scanned file heads tails order r → r ≡ load.Refused why → AllCleared before after → LoadCall file before after r
 call-fault {file} {heads} {tails} {order} {before} {after} {r} why s e z =
     let fault =
-    refused-fault (fileFault file) (totalsOf (records file)) (repeatTotals (records file)) why (sym (s .answer) ∙ e) in
+    tested-refused (fileFault file) (totalsOf (records file)) (repeatTotals (records file)) why (sym (s .answer) ∙ e) in
     call-refused why (refuses-fault file before why fault) (fault-clears file why fault) e z
 
 -- no fault: the totals and the repeats are the file's
@@ -60,17 +53,12 @@ pub record Sound (file : List ℕ) (total : Loaded) (repeats : Repeats) : Type 0
   pub counts : total ≡ totalsOf (records file)
   pub repeated : repeats ≡ repeatTotals (records file)
 
-loaded-sound : (t : Tested) (x total : Loaded) (y repeats : Repeats)
-    → unless load.Refused t (load.Loaded x y) ≡ load.Loaded total repeats → (t ≡ Passed) × (total ≡ x) × (repeats ≡ y)
-loaded-sound Passed x total y repeats e = (refl, cc, cc)
-loaded-sound (Failed w) x total y repeats e = let z : _≡_ {A = ℕ} 0 1 = cc in absurd (omega arith)
-
 module _ {file heads tails order : List ℕ} {r : LoadAnswer} {total : Loaded} {repeats : Repeats}
     (s : Scanned file heads tails order r) (e : r ≡ load.Loaded total repeats) where
   sound : Sound file total repeats
   sound =
       let all =
-      loaded-sound (fileFault file) (totalsOf (records file)) total (repeatTotals (records file)) repeats (sym (s .answer) ∙ e) in
+      tested-loaded (fileFault file) (totalsOf (records file)) (repeatTotals (records file)) total repeats (sym (s .answer) ∙ e) in
       record { clean = all .0; counts = all .1; repeated = all .2 }
 
   pub sound-limited : Limited total

@@ -3,8 +3,8 @@ use Prim.Native.Nat.{_-_}
 use mathlib.Core.Path.{_≡_}
 use lib.ListN.{length}
 use borrow.Author.Needs.{needs}
-use Rattle.tag_file_main.proofs.put_stack.Statement.{statement}
-use Rattle.tag_file_main.proofs.put_stack.Tie as tie
+use Rattle.tag_file_main.proofs.pools.put_stack.Statement.{statement}
+use Rattle.tag_file_main.proofs.pools.put_stack.Tie as tie
 
 abbrev Inv-loop : tie.InvT-loop
 Inv-loop file₀ from i₀ file i =

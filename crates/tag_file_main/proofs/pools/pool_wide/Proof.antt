@@ -2,8 +2,8 @@
 use mathlib.Core.Path.{sym}
 use lib.Seq.{length-take-le}
 use borrow.Author.Needs.{needs}
-use Rattle.tag_file_main.proofs.pool_wide.Statement.{statement}
-use Rattle.tag_file_main.proofs.pool_wide.Tie as tie
+use Rattle.tag_file_main.proofs.pools.pool_wide.Statement.{statement}
+use Rattle.tag_file_main.proofs.pools.pool_wide.Tie as tie
 
 returns : tie.Need-returns
 returns c = search needs

@@ -3,8 +3,8 @@ use Prim.Native.Nat.{_≤_, _-_}
 use native.Mathlib.Omega.{arith}
 use borrow.Author.Needs.{needs}
 use lib.ListN.{length}
-use Rattle.tag_file_main.proofs.print_bytes.Statement.{statement}
-use Rattle.tag_file_main.proofs.print_bytes.Tie as tie
+use Rattle.tag_file_main.proofs.printing.print_bytes.Statement.{statement}
+use Rattle.tag_file_main.proofs.printing.print_bytes.Tie as tie
 
 abbrev Inv-loop : tie.InvT-loop
 Inv-loop list i₀ i =

@@ -3,8 +3,8 @@ use mathlib.Core.Path.{sym}
 use native.Mathlib.Omega.{arith}
 use lib.Seq.{length-take-le}
 use borrow.Author.Needs.{needs}
-use Rattle.tag_file_main.proofs.run.Statement.{statement}
-use Rattle.tag_file_main.proofs.run.Tie as tie
+use Rattle.tag_file_main.proofs.loads.run.Statement.{statement}
+use Rattle.tag_file_main.proofs.loads.run.Tie as tie
 
 returns : tie.Need-returns
 returns c = search needs

@@ -1,10 +1,10 @@
--- `print_halves` is safe and ends: the index stays within the list, and what is left of it falls.
+-- `print_words` is safe and ends: the index stays within the list, and what is left of it falls.
 use Prim.Native.Nat.{_≤_, _-_}
 use native.Mathlib.Omega.{arith}
 use borrow.Author.Needs.{needs}
 use lib.ListN.{length}
-use Rattle.tag_file_main.proofs.print_halves.Statement.{statement}
-use Rattle.tag_file_main.proofs.print_halves.Tie as tie
+use Rattle.tag_file_main.proofs.printing.print_words.Statement.{statement}
+use Rattle.tag_file_main.proofs.printing.print_words.Tie as tie
 
 abbrev Inv-loop : tie.InvT-loop
 Inv-loop list i₀ i =
@@ -45,8 +45,8 @@ loop-again c = search needs
 returns : tie.Need-returns Inv-loop μ-loop
 returns c = search needs
 
-pub print-halves-spec : {M : Type 1} → statement M
-print-halves-spec =
+pub print-words-spec : {M : Type 1} → statement M
+print-words-spec =
     tie.close
     (tie.spec
     Inv-loop

@@ -3,8 +3,8 @@ use mathlib.Core.Path.{sym}
 use native.Mathlib.Omega.{arith}
 use lib.Seq.{length-take-le}
 use borrow.Author.Needs.{needs}
-use Rattle.tag_file_main.proofs.pool.Statement.{statement}
-use Rattle.tag_file_main.proofs.pool.Tie as tie
+use Rattle.tag_file_main.proofs.pools.pool.Statement.{statement}
+use Rattle.tag_file_main.proofs.pools.pool.Tie as tie
 
 returns : tie.Need-returns
 returns c = search needs
