@@ -1,7 +1,7 @@
 // The tests of what is lent, shared by the operations over both collections: each answers `Tested`, and an operation makes those
 // that it has in the order of the refusal table. And containment of one set of items in another.
+use one_set::good_items;
 use set_tests::first_bad;
-use set_tests::good_items;
 use sets::MAX_ITEMS;
 use sets::Refusal;
 use sets::Side;

@@ -5,13 +5,14 @@ ghost use mathlib.Core.Path.{_≡_};
 ghost use mathlib.Core.Bool.{not};
 ghost use lib.Dec.{eqb};
 ghost use lib.ListN.{length};
-ghost use Rattle.tag_file.specs.Repeats.{recordRead, readWords};
+ghost use Rattle.tag_file.specs.Repeats.{recordRead};
+ghost use Rattle.tag_answers.specs.Words.{readWords, loadWords};
 ghost use Rattle.join_spec.specs.Answer.{roomOf, joinWords, JoinCall};
 ghost use Rattle.inputs.specs.Input.{inputOf};
 ghost use Rattle.join.specs.Numbered.{weightsOf, numberedAnswer};
 ghost use Rattle.first_spec.specs.First.{firstAnswer, firstWords};
 ghost use Rattle.item_order.specs.Order.{orderAnswer, orderRanks, orderWords};
-ghost use Rattle.tag_file.specs.Loading.{listsOf, loadAnswer, loadWords, LoadCall};
+ghost use Rattle.tag_file.specs.Loading.{listsOf, loadAnswer, LoadCall};
 ghost use Rattle.tag_pooling.specs.Pooling.{pooledAnswer, PooledCall};
 ghost use Rattle.writer_spec.specs.Writer.{writeAnswer, writtenFile, writeWords};
 
@@ -84,7 +85,7 @@ pub extern "C" fn kitfinder_first(
 pub extern "C" fn kitfinder_read_record(file: &[u8], at: usize, answer: &mut [u64; 10])
     ensures answer { λ _. ⌜ now (answer .exit) ≡ readWords (recordRead (now (file .entry)) at) ⌝ }
 {
-    *answer = tag_file::read_words(record_reader::read(file, at));
+    *answer = tag_answers::read_words(record_reader::read(file, at));
 }
 
 // Ranks the items by frequency.
@@ -142,7 +143,7 @@ pub extern "C" fn kitfinder_load(
         (listsOf (now (tags .entry)) (now («left_numbers» .entry)) (now («left_ends» .entry)) (now («left_items» .entry))
         (now («right_numbers» .entry)) (now («right_ends» .entry)) (now («right_items» .entry)))) ⌝ }
 {
-    *answer = tag_file::load_words(tag_loader::load(
+    *answer = tag_answers::load_words(tag_loader::load(
         file,
         tags,
         left_numbers,
@@ -180,7 +181,7 @@ pub extern "C" fn kitfinder_load_pooled(
         (listsOf (now (tags .entry)) (now («left_numbers» .entry)) (now («left_ends» .entry)) (now («left_items» .entry))
         (now («right_numbers» .entry)) (now («right_ends» .entry)) (now («right_items» .entry)))) ⌝ }
 {
-    *answer = tag_file::load_words(pool_loader::load_pooled(
+    *answer = tag_answers::load_words(pool_loader::load_pooled(
         first,
         second,
         tags,

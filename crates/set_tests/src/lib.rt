@@ -1,8 +1,9 @@
-// The test of a collection: its first bad set, told from the whole list where there is none. And the test of the items of one set.
+// The test of a collection: its first bad set, told from the whole list where there is none.
 use list_falls::count_border_falls;
 use list_falls::count_falls;
 use list_falls::count_high;
 use list_falls::good_ends;
+use one_set::good_set;
 use sets::MAX_ENTRIES;
 use sets::MAX_ITEMS;
 use sets::MAX_SET_LENGTH;
@@ -11,62 +12,10 @@ use sets::Verdict;
 use sets::count_entries;
 ghost use mathlib.Core.Path.{_≡_};
 ghost use mathlib.Core.Bool.{_&&_};
-ghost use Prim.Native.Nat.{_≤_};
-ghost use lib.Dec.{leb, ltb};
-ghost use lib.ListN.{length};
-ghost use Rattle.lists.specs.Lists.{all, rising};
+ghost use lib.Dec.{leb};
 ghost use Rattle.sets.specs.Limits.{maxItems};
-ghost use Rattle.sets.specs.Collections.{between, goodItems, goodEnd, firstBad};
+ghost use Rattle.sets.specs.Collections.{firstBad};
 ghost use Rattle.set_tests.specs.WholeList.{isGood};
-
-// Whether the items of a part are below t and strictly rise: `least` is the least that the next may be.
-fn rises_below(t: u32, start: usize, end: usize, items: &[u16]) -> bool
-    requires { ⌜ end ≤ length (now items) ⌝ }
-    ensures { λ r. ⌜ r ≡ (all (λ i. ltb i t) (between start end (now (items .entry)))
-        && rising (between start end (now (items .entry)))) ⌝ }
-{
-    let mut i = start;
-    let mut least: u32 = 0;
-    while i < end {
-        let x = items[i] as u32;
-        if x < least {
-            return false;
-        }
-        if t <= x {
-            return false;
-        }
-        least = x + 1;
-        i += 1;
-    }
-    true
-}
-
-// Whether the items of a part can be those of a set: not too many, each below t, strictly rising.
-pub fn good_items(t: u32, start: usize, end: usize, items: &[u16]) -> bool
-    requires { ⌜ (start ≤ end) × (end ≤ length (now items)) ⌝ }
-    ensures { λ r. ⌜ r ≡ goodItems t (between start end (now (items .entry))) ⌝ }
-{
-    if MAX_SET_LENGTH < end - start {
-        return false;
-    }
-    rises_below(t, start, end, items)
-}
-
-// Whether a set is in order, given the end before it and its own.
-fn good_set(t: u32, start: usize, end: usize, items: &[u16]) -> bool
-    ensures { λ r. ⌜ r ≡ (goodEnd start end (now (items .entry)) && goodItems t (between start end (now (items .entry)))) ⌝ }
-{
-    if end < start {
-        return false;
-    }
-    if MAX_ENTRIES < end {
-        return false;
-    }
-    if items.len() < end {
-        return false;
-    }
-    good_items(t, start, end, items)
-}
 
 // The first bad set of a collection, looked for set by set.
 fn find_bad(t: u32, ends: &[u32], items: &[u16]) -> Verdict

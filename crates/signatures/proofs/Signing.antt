@@ -1,4 +1,4 @@
--- The table of bits, signatures item by item, and a number in two words.
+-- Signatures item by item, and a number in two words.
 use Prim.Native.Nat.{ℕ, _+_, _*_, _/_, _%_, _^_, _<_, _≤_}
 use mathlib.Core.Path.{_≡_, _∙_}
 use mathlib.Core.List.{List}
@@ -9,17 +9,12 @@ use lib.Dec.{lit<}
 use lib.ListN.{length, getD, set, length-set}
 use lib.Pow.{shl-exact}
 use lib.Seq.{getD-set-same, getD-set-other, take-set-le}
-use Rattle.lists.proofs.Ranges.{getD-table}
 use Rattle.sets.specs.Limits.{fullWords}
 use Rattle.sets.specs.Collections.{between}
 use Rattle.sets.specs.Signatures.{position, signatureFrom}
 use Rattle.sets.proofs.Between.{between-cons, between-nil}
-use Rattle.sets.proofs.Positions.{position-bound, position-repeats}
-use Rattle.signatures.specs.Signing.{positionTable, DoubleStored}
-
--- the table's entry for an item is the item's position
-pub entry-position : (item : ℕ) → getD positionTable (item % 256) 0 ≡ position item
-entry-position item = getD-table position 256 (item % 256) 0 (omega arith) ∙ position-repeats item
+use Rattle.sets.proofs.Positions.{position-bound}
+use Rattle.signatures.specs.Signing.{DoubleStored}
 
 -- one item more
 pub sign-step : (mark i end : ℕ) (items : List ℕ) → i < end → end ≤ length items

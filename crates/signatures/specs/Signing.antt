@@ -1,16 +1,10 @@
--- Inner: what the loops that make the signatures need and leave. A table of the items' bits, and for each set two words, low then
--- high.
+-- Inner: what the loops that make the signatures need and leave: for each set two words, low then high.
 use Prim.Native.Nat.{ℕ, _+_, _*_, _≤_, _<_}
 use mathlib.Core.Path.{_≡_}
-use mathlib.Core.List.{List, [], map}
+use mathlib.Core.List.{List, []}
 use lib.ListN.{length, take, getD}
-use Rattle.lists.specs.Lists.{upto}
 use Rattle.sets.specs.Limits.{fullWords}
-use Rattle.sets.specs.Signatures.{position, signature}
-
--- the positions of the items 0 to 255
-abbrev pub positionTable : List ℕ
-positionTable = map position (upto 256)
+use Rattle.sets.specs.Signatures.{signature}
 
 -- no set of a collection ends past its items
 abbrev pub EndsWithin : List ℕ → List ℕ → Type 0

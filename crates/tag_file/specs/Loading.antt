@@ -8,7 +8,7 @@ use lib.Dec.{eqb, leb, ltb}
 use lib.ListN.{length}
 use Rattle.lists.specs.Lists.{any}
 use Rattle.sets.specs.Limits.{maxItems, maxSets, maxEntries}
-use Rattle.sets.specs.Refusals.{acceptedWords, refusedWords, refuseIf, unless}
+use Rattle.sets.specs.Refusals.{refuseIf, unless}
 use Rattle.sets.specs.Lent.{filledOver, afterRefusal}
 use Rattle.sets.specs.declared.Side.{Side}
 use Rattle.sets.specs.declared.Side.the-variants.{Left, Right}
@@ -175,11 +175,3 @@ pub record LoadCall (file : List ℕ) (before after : Lists) (answer : LoadAnswe
   pub rightNumbers : after .rightNumbers ≡ listsAfter file before .rightNumbers
   pub rightEnds : after .rightEnds ≡ listsAfter file before .rightEnds
   pub rightItems : after .rightItems ≡ listsAfter file before .rightItems
-
--- the words of an answer: left sets, right sets, left entries, right entries, tags, left repeats, right repeats
-abbrev pub loadWords : LoadAnswer → List ℕ
-loadWords (load.Loaded loaded repeats) =
-    acceptedWords
-    (loaded .«left_sets» ∷ loaded .«right_sets» ∷ loaded .«left_entries» ∷ loaded .«right_entries» ∷ loaded .tags
-    ∷ repeats .left ∷ repeats .right ∷ [])
-loadWords (load.Refused why) = refusedWords why 7

@@ -1,10 +1,9 @@
 -- Repeated reads. Document 02, C-15: the repeats of a record are "its count less its distinct tags". They are judged within one
 -- record: a tag that two records have is no repeat.
 use Prim.Native.Nat.{ℕ, _-_}
-use mathlib.Core.List.{List, [], _∷_}
+use mathlib.Core.List.{List}
 use lib.ListN.{length}
 use Rattle.lists.specs.Lists.{sum}
-use Rattle.sets.specs.Refusals.{sideNumber, acceptedWords, refusedWords}
 use Rattle.sets.specs.declared.Side.{Side}
 use Rattle.sets.specs.declared.Side.the-variants.{Left, Right}
 use Rattle.tag_file.specs.Reading.{readAt, tagsAt}
@@ -47,13 +46,3 @@ repeatsRead file (Refused why) = 0
 -- what the record reader answers at a place
 abbrev pub recordRead : List ℕ → ℕ → RecordRead
 recordRead file at = record { answer = readAt file at; repeats = repeatsRead file (readAt file at) }
-
--- the words of its answer: whether there is no more; then side, number, count of tags, place of the first, next place, and repeats
-abbrev pub wordsRead : ReadAnswer → ℕ → List ℕ
-wordsRead (Record side number count place next) repeats =
-    acceptedWords (0 ∷ sideNumber side ∷ number ∷ count ∷ place ∷ next ∷ repeats ∷ [])
-wordsRead NoMore repeats = acceptedWords (1 ∷ 0 ∷ 0 ∷ 0 ∷ 0 ∷ 0 ∷ 0 ∷ [])
-wordsRead (Refused why) repeats = refusedWords why 7
-
-abbrev pub readWords : RecordRead → List ℕ
-readWords read = wordsRead (read .answer) (read .repeats)

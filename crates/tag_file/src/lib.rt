@@ -2,8 +2,6 @@
 // repeats and the loader have crates of their own.
 use sets::Refusal;
 use sets::Side;
-use sets::head_of;
-use sets::side_word;
 
 // The bytes of a tag.
 pub const TAG_LENGTH: usize = 12;
@@ -37,8 +35,6 @@ ghost use lib.ListN.{length};
 ghost use Rattle.tag_file.specs.Format.{headLength};
 ghost use Rattle.tag_file.specs.Reading.{readAt, recordAt};
 ghost use Rattle.tag_file.specs.Records.{sameSide};
-ghost use Rattle.tag_file.specs.Repeats.{readWords};
-ghost use Rattle.tag_file.specs.Loading.{loadWords};
 ghost use Rattle.tag_file.specs.Inner.{ByteAt};
 
 // What the record reader answers: a whole record with the place of its first tag and the next place, that there is no
@@ -59,64 +55,6 @@ pub enum ReadAnswer {
 pub struct RecordRead {
     pub answer: ReadAnswer,
     pub repeats: usize,
-}
-
-// The words of the reader's answer at the C boundary.
-pub fn read_words(read: RecordRead) -> [u64; 10]
-    ensures { λ r. ⌜ r ≡ readWords read ⌝ }
-{
-    let answer = read.answer;
-    match answer {
-        ReadAnswer::Record {
-            side,
-            number,
-            count,
-            tags,
-            next,
-        } => {
-            [
-                0,
-                0,
-                0,
-                0,
-                side_word(side),
-                number as u64,
-                count as u64,
-                tags as u64,
-                next as u64,
-                read.repeats as u64,
-            ]
-        }
-        ReadAnswer::NoMore => [0, 0, 0, 1, 0, 0, 0, 0, 0, 0],
-        ReadAnswer::Refused(why) => {
-            let head = head_of(why);
-            [head.number, head.first, head.second, 0, 0, 0, 0, 0, 0, 0]
-        }
-    }
-}
-
-// The words of the loader's answer at the C boundary.
-pub fn load_words(answer: LoadAnswer) -> [u64; 10]
-    ensures { λ r. ⌜ r ≡ loadWords answer ⌝ }
-{
-    match answer {
-        LoadAnswer::Loaded(loaded, repeats) => [
-            0,
-            0,
-            0,
-            loaded.left_sets as u64,
-            loaded.right_sets as u64,
-            loaded.left_entries as u64,
-            loaded.right_entries as u64,
-            loaded.tags as u64,
-            repeats.left as u64,
-            repeats.right as u64,
-        ],
-        LoadAnswer::Refused(why) => {
-            let row = head_of(why);
-            [row.number, row.first, row.second, 0, 0, 0, 0, 0, 0, 0]
-        }
-    }
 }
 
 // Whether two sides are the same.

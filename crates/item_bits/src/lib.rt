@@ -2,7 +2,7 @@
 
 ghost use mathlib.Core.Path.{_≡_};
 ghost use Rattle.sets.specs.Signatures.{position};
-ghost use Rattle.signatures.specs.Signing.{positionTable};
+ghost use Rattle.item_bits.specs.Bits.{positionTable};
 
 // (3^k mod 257) mod 64 for k from 0 to 255, sixteen a row, in hexadecimal.
 const POSITIONS: [u8; 256] = *b"\

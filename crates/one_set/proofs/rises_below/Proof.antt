@@ -4,9 +4,9 @@ use mathlib.Core.Path.{_≡_, refl, sym, _∙_}
 use Prim.Native.Nat.{_-_}
 use native.Mathlib.Omega.{arith}
 use Rattle.sets.specs.Collections.{between}
-use Rattle.set_tests.proofs.Rises.{risesFrom, rises-all, rises-low, rises-high, rises-next, rises-end}
-use Rattle.set_tests.proofs.rises_below.Statement.{statement}
-use Rattle.set_tests.proofs.rises_below.Tie as tie
+use Rattle.one_set.proofs.Rises.{risesFrom, rises-all, rises-low, rises-high, rises-next, rises-end}
+use Rattle.one_set.proofs.rises_below.Statement.{statement}
+use Rattle.one_set.proofs.rises_below.Tie as tie
 
 abbrev Inv-loop : tie.InvT-loop
 Inv-loop t start end items i₀ least₀ i least =

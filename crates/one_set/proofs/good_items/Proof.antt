@@ -5,8 +5,8 @@ use borrow.Author.Needs.{needs}
 use borrow.Author.Tests.{lt-leb, le-leb}
 use Rattle.sets.specs.Limits.{maxSetLength}
 use Rattle.sets.proofs.Between.{length-between}
-use Rattle.set_tests.proofs.good_items.Statement.{statement}
-use Rattle.set_tests.proofs.good_items.Tie as tie
+use Rattle.one_set.proofs.good_items.Statement.{statement}
+use Rattle.one_set.proofs.good_items.Tie as tie
 
 sub-if1 : tie.Need-sub-if1
 sub-if1 c = search needs

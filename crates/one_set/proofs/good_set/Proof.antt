@@ -4,8 +4,8 @@ use borrow.Author.Needs.{needs}
 use borrow.Author.Tests.{lt-leb, le-leb}
 use lib.ListN.{length}
 use Rattle.sets.specs.Limits.{maxEntries}
-use Rattle.set_tests.proofs.good_set.Statement.{statement}
-use Rattle.set_tests.proofs.good_set.Tie as tie
+use Rattle.one_set.proofs.good_set.Statement.{statement}
+use Rattle.one_set.proofs.good_set.Tie as tie
 
 returns : tie.Need-returns
 returns c = rw (lt-leb (c .before .before .args .start) (c .before .before .args .end) (c .if1 .taken))

@@ -1,8 +1,8 @@
--- `signatures::positions::position_of` meets its contract: the entry at the item's remainder is its position.
+-- `item_bits::position_of` meets its contract: the entry at the item's remainder is its position.
 use borrow.Author.Needs.{needs}
-use Rattle.signatures.proofs.Signing.{entry-position}
-use Rattle.signatures.proofs.positions.position_of.Statement.{statement}
-use Rattle.signatures.proofs.positions.position_of.Tie as tie
+use Rattle.item_bits.proofs.Entries.{entry-position}
+use Rattle.item_bits.proofs.position_of.Statement.{statement}
+use Rattle.item_bits.proofs.position_of.Tie as tie
 
 element-copy-out-result : tie.Need-element-copy-out-result
 element-copy-out-result c = search needs

@@ -1,9 +1,9 @@
--- `signatures::positions::position_table` meets its contract: the 256 entries and the powers are computed and compared, once.
+-- `item_bits::position_table` meets its contract: the 256 entries and the powers are computed and compared, once.
 use mathlib.Core.Path.{refl}
 use Rattle.lists.specs.Lists.{range}
 use Rattle.sets.specs.Signatures.{position}
-use Rattle.signatures.proofs.positions.position_table.Statement.{statement}
-use Rattle.signatures.proofs.positions.position_table.Tie as tie
+use Rattle.item_bits.proofs.position_table.Statement.{statement}
+use Rattle.item_bits.proofs.position_table.Tie as tie
 
 returns : tie.Need-returns
 unfolding range position

@@ -1,0 +1,2 @@
+-- Laws of the table, beside the folders of its functions.
+pub mod Entries

@@ -1,0 +1,2 @@
+-- Contents: the table of the items' bits.
+pub mod Bits

@@ -1,0 +1,2 @@
+-- Contents: the words of the answers.
+pub mod Words
