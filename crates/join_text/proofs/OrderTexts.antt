@@ -16,10 +16,10 @@ use Rattle.sets.specs.declared.Tested.{Tested}
 use Rattle.sets.specs.declared.Tested.the-variants.{Passed, Failed}
 use Rattle.inputs.specs.Input.{Input, leftSets, rightSets}
 use Rattle.inputs.specs.Tests.{setsTest, workTest}
-use Rattle.item_order.specs.declared.OrderAnswer.{OrderAnswer}
-use Rattle.item_order.specs.declared.OrderAnswer.the-variants as order
-use Rattle.item_order.specs.Order.{rankTable, orderTest, orderAnswer, orderRanks, ranksAfter, OrderCall}
-use Rattle.item_order.proofs.Ranks.{ranks-permutation}
+use Rattle.order_spec.specs.declared.OrderAnswer.{OrderAnswer}
+use Rattle.order_spec.specs.declared.OrderAnswer.the-variants as order
+use Rattle.order_spec.specs.Order.{rankTable, orderTest, orderAnswer, orderRanks, ranksAfter, OrderCall}
+use Rattle.order_spec.proofs.Ranks.{ranks-permutation}
 use Rattle.join_spec.specs.declared.JoinAnswer.the-variants.{Refused}
 use Rattle.join_spec.specs.PairList.{pairList}
 use Rattle.join_spec.specs.Answer.{badSettings, joinTests}

@@ -9,7 +9,7 @@ use lib.ListN.{length}
 use Rattle.sets.specs.Limits.{fullWords}
 use Rattle.sets.specs.Lent.{filledOver}
 use Rattle.inputs.specs.Input.{Input, leftSets, rightSets}
-use Rattle.item_order.specs.Order.{rankTable}
+use Rattle.order_spec.specs.Order.{rankTable}
 use Rattle.join_spec.specs.declared.JoinAnswer.{JoinAnswer}
 use Rattle.join_spec.specs.declared.JoinAnswer.the-variants.{Joined, Refused}
 use Rattle.join_spec.specs.declared.Rule.the-variants.{Merge}

@@ -1,9 +1,9 @@
 // The text of a join of two numbered collections, written into a lent list of bytes: orders their items by rising frequency, joins
 // them, and writes the counts, the repeats that were read with them and a line for each pair, or why there is no list. What the
 // text is is defined in specs/.
-use item_order::OrderAnswer;
 use join_spec::JoinAnswer;
 use join_spec::Rule;
+use order_spec::OrderAnswer;
 use tag_file::Repeats;
 use text_lines::put_counts;
 use text_lines::put_pairs;

@@ -11,7 +11,7 @@ ghost use Rattle.join_spec.specs.Answer.{roomOf, joinWords, JoinCall};
 ghost use Rattle.inputs.specs.Input.{inputOf};
 ghost use Rattle.join.specs.Numbered.{weightsOf, numberedAnswer};
 ghost use Rattle.first_spec.specs.First.{firstAnswer, firstWords};
-ghost use Rattle.item_order.specs.Order.{orderAnswer, orderRanks, orderWords};
+ghost use Rattle.order_spec.specs.Order.{orderAnswer, orderRanks, orderWords};
 ghost use Rattle.tag_file.specs.Loading.{listsOf, loadAnswer, LoadCall};
 ghost use Rattle.tag_pooling.specs.Pooling.{pooledAnswer, PooledCall};
 ghost use Rattle.writer_spec.specs.Writer.{writeAnswer, writtenFile, writeWords};
@@ -107,7 +107,7 @@ pub extern "C" fn kitfinder_order(
         (inputOf t (now («left_ends» .entry)) (now («left_items» .entry)) (now («right_ends» .entry)) (now («right_items» .entry)))
         (not (eqb falling 0)) (now (ranks .entry)) ⌝ }
 {
-    *answer = item_order::order_words(item_order::order(
+    *answer = order_spec::order_words(item_order::order(
         t,
         left_ends,
         left_items,

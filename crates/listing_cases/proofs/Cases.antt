@@ -22,8 +22,8 @@ use Rattle.sets.specs.declared.Tested.the-variants.{Passed, Failed}
 use Rattle.inputs.specs.Input.{Input, leftSets, rightSets}
 use Rattle.inputs.specs.Tests.{wordsNeeded}
 use Rattle.inputs.proofs.TestLaws.{BothGood, good-sets, work-short}
-use Rattle.item_order.specs.Order.{rankTable}
-use Rattle.item_order.proofs.Ranks.{ranks-permutation}
+use Rattle.order_spec.specs.Order.{rankTable}
+use Rattle.order_spec.proofs.Ranks.{ranks-permutation}
 use Rattle.join_spec.specs.declared.JoinAnswer.{JoinAnswer}
 use Rattle.join_spec.specs.declared.JoinAnswer.the-variants.{Joined, Refused}
 use Rattle.join_spec.specs.declared.Rule.the-variants.{Merge}

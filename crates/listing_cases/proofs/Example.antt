@@ -7,7 +7,7 @@ use Rattle.sets.specs.Collections.{setsFrom, contained, firstBadFrom, badSet, l
 use Rattle.sets.specs.Ordered.{ordered, isPermutation}
 use Rattle.sets.specs.Signatures.{position, signatureFrom}
 use Rattle.inputs.specs.Tests.{setsTest, wordsNeeded, workTest}
-use Rattle.item_order.specs.Order.{rankTable}
+use Rattle.order_spec.specs.Order.{rankTable}
 use Rattle.join_spec.specs.PairList.{pairsFrom, rowFrom}
 use Rattle.join_spec.specs.Node.{seen, goesOn, goesOnAt}
 use Rattle.join_spec.specs.Walk.{ending, endingFrom, isCandidate, endingIn, outcome}

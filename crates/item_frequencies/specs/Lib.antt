@@ -1,0 +1,2 @@
+-- Contents: what the functions that count promise each other.
+pub mod Counts

@@ -1,0 +1,2 @@
+-- Contents: what the functions of the ranks promise each other.
+pub mod Steps
