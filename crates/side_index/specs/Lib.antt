@@ -1,3 +1,2 @@
--- Contents: what the index of one collection holds, what building it needs and leaves, and the same of the loops that build it.
+-- Contents: what the index of one collection holds, and what building it needs and leaves.
 pub mod Side
-pub mod Placing
