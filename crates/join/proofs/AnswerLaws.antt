@@ -30,7 +30,7 @@ use Rattle.inputs.proofs.TestLaws.{words-for}
 use Rattle.join_index.specs.Building.{BuildRoom}
 use Rattle.join_index.specs.Ground.{Ground}
 use Rattle.join_index.specs.declared.Layout.{Layout}
-use Rattle.join_check.specs.Asking.{Index}
+use Rattle.join_index.specs.Asking.{Index}
 use Rattle.join_nodes.specs.declared.Walked.{Walked}
 use Rattle.join_nodes.proofs.FrameLaws.{index-framed}
 use Rattle.join_walk.specs.Partitions.{WalkReady, WalkDone}

@@ -19,8 +19,8 @@ use Rattle.join_spec.specs.Walk.{Outcome, isCandidate}
 use Rattle.join_index.specs.Grouping.{leftAt, rightAt, keyAt}
 use Rattle.join_index.specs.Ground.{Listing}
 use Rattle.join_index.specs.declared.Layout.{Layout}
-use Rattle.join_check.specs.Asking.{Index}
-use Rattle.join_check.specs.Runs.{run}
+use Rattle.join_index.specs.Asking.{Index}
+use Rattle.join_index.specs.Runs.{run}
 use Rattle.join_check.specs.Checks.{rowCount, runCount, areCandidates, RunsThere}
 use Rattle.join_nodes.specs.Rows.{goes, row, pathPairs}
 use Rattle.join_nodes.proofs.Prefixes.{prefix-take, prefix-length}

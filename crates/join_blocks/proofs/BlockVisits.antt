@@ -17,7 +17,7 @@ use Rattle.join_spec.specs.Counting.{isCheck}
 use Rattle.join_spec.specs.Kinds.{isOf}
 use Rattle.join_spec.proofs.KindLaws.{kind-met}
 use Rattle.join_index.specs.declared.Layout.{Layout}
-use Rattle.join_check.specs.Runs.{run}
+use Rattle.join_index.specs.Runs.{run}
 use Rattle.join_check.specs.Checks.{checkAt, rowCount, runCount, RunsThere}
 use Rattle.join_check.specs.declared.Tally.{Tally}
 use Rattle.join_check.proofs.Tallying.{tallied-same}

@@ -17,8 +17,8 @@ use Rattle.join_spec.specs.Counting.{isByPath}
 use Rattle.join_index.specs.Grouping.{rightAt}
 use Rattle.join_index.specs.Ground.{Listing}
 use Rattle.join_index.specs.declared.Layout.{Layout}
-use Rattle.join_check.specs.Asking.{RunThere}
-use Rattle.join_check.specs.Runs.{run}
+use Rattle.join_index.specs.Asking.{RunThere}
+use Rattle.join_index.specs.Runs.{run}
 use Rattle.join_check.specs.Checks.{RunsThere}
 use Rattle.join_nodes.specs.Rows.{pathPairs}
 use Rattle.join_nodes.specs.Narrowing.{candidateList}

@@ -16,9 +16,9 @@ use Rattle.counting_sort.specs.Groups.{groupsFrom}
 use Rattle.join_index.specs.Grouping.{leftAt, keyAt, orderFrom}
 use Rattle.join_index.specs.declared.Layout.{Layout}
 use Rattle.word_lists.specs.Words.{Word}
-use Rattle.join_check.specs.Asking.{LeftThere, RunThere}
-use Rattle.join_check.specs.Runs.{run, lead, leftIn, RunEnd}
-use Rattle.join_check.proofs.Orders.{run-first, run-key, run-fail}
+use Rattle.join_index.specs.Asking.{LeftThere, RunThere}
+use Rattle.join_index.specs.Runs.{run, lead, leftIn, RunEnd}
+use Rattle.join_index.proofs.Orders.{run-first, run-key, run-fail}
 use Rattle.join_nodes.specs.Visiting.{beginners}
 use Rattle.join_nodes.proofs.Groups.{FirstGroup, groups-first, groups-above}
 use Rattle.join_index.proofs.GroupLaws.{keep-groups}

@@ -20,11 +20,11 @@ use Rattle.join_spec.specs.Kinds.{isOf}
 use Rattle.join_spec.proofs.KindLaws.{kind-met}
 use Rattle.join_index.specs.Grouping.{leftAt, keyAt}
 use Rattle.join_index.specs.declared.Layout.{Layout}
-use Rattle.join_check.specs.Asking.{LeftThere}
-use Rattle.join_check.specs.Runs.{run}
+use Rattle.join_index.specs.Asking.{LeftThere}
+use Rattle.join_index.specs.Runs.{run}
 use Rattle.word_lists.specs.Words.{Word}
 use Rattle.join_check.specs.Checks.{rowCount, runCount}
-use Rattle.join_check.proofs.Orders.{run-left}
+use Rattle.join_index.proofs.Orders.{run-left}
 use Rattle.join_check.proofs.Tallying.{tallied-same}
 use Rattle.kept_rows.specs.Kept.{RowsKept}
 use Rattle.kept_rows.specs.Keeping.{ListThere}

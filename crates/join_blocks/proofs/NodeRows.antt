@@ -16,10 +16,10 @@ use Rattle.join_spec.specs.Query.{Query}
 use Rattle.join_index.specs.Grouping.{leftAt, keyAt}
 use Rattle.join_index.specs.declared.Layout.{Layout}
 use Rattle.word_lists.specs.Words.{Word}
-use Rattle.join_check.specs.Asking.{LeftThere, RunThere}
-use Rattle.join_check.specs.Runs.{run, leftIn, lead}
+use Rattle.join_index.specs.Asking.{LeftThere, RunThere}
+use Rattle.join_index.specs.Runs.{run, leftIn, lead}
 use Rattle.join_check.specs.Checks.{areCandidates}
-use Rattle.join_check.proofs.Orders.{order-left, order-within, lead-pass, lead-fail, lead-nil}
+use Rattle.join_index.proofs.Orders.{order-left, order-within, lead-pass, lead-fail, lead-nil}
 use Rattle.kept_rows.specs.Kept.{containedAt, containing}
 use Rattle.kept_rows.specs.Keeping.{ListThere}
 use Rattle.kept_rows.specs.Recording.{RecordThere}

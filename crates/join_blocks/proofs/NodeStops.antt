@@ -16,8 +16,8 @@ use Rattle.join_spec.specs.Node.{lastOf}
 use Rattle.join_index.specs.Grouping.{leftAt, orderFrom}
 use Rattle.join_index.specs.declared.Layout.{Layout}
 use Rattle.join_index.proofs.GroundLaws.{slot-bound}
-use Rattle.join_check.specs.Asking.{Index}
-use Rattle.join_check.specs.Runs.{run}
+use Rattle.join_index.specs.Asking.{Index}
+use Rattle.join_index.specs.Runs.{run}
 use Rattle.join_check.specs.Checks.{RunsThere}
 use Rattle.kept_rows.specs.Kept.{RowsKept}
 use Rattle.join_nodes.specs.Rows.{goes}

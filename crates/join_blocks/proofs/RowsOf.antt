@@ -17,7 +17,7 @@ use Rattle.join_spec.proofs.Outcomes.{candidate-contained, candidate-whole}
 use Rattle.join_index.specs.Grouping.{leftAt, rightAt}
 use Rattle.join_index.specs.declared.Layout.{Layout}
 use Rattle.join_index.proofs.Ordering.{right-rising}
-use Rattle.join_check.specs.Asking.{LeftThere}
+use Rattle.join_index.specs.Asking.{LeftThere}
 use Rattle.kept_rows.specs.Kept.{containedAt, containing}
 use Rattle.join_nodes.specs.Narrowing.{candidateList}
 use Rattle.join_nodes.proofs.Narrowing.{candidate-path}

@@ -12,8 +12,8 @@ use Rattle.sets.specs.Limits.{maxSets}
 use Rattle.join_spec.specs.Query.{Query}
 use Rattle.join_index.specs.Grouping.{leftAt, keyAt}
 use Rattle.join_index.specs.declared.Layout.{Layout}
-use Rattle.join_check.specs.Asking.{Index, RunThere}
-use Rattle.join_check.specs.Runs.{run, lead}
+use Rattle.join_index.specs.Asking.{Index, RunThere}
+use Rattle.join_index.specs.Runs.{run, lead}
 use Rattle.join_check.specs.Counters.{checksIn, Tallied}
 use Rattle.join_check.specs.Checks.{rowCount, runCount, RunsThere}
 use Rattle.join_check.specs.declared.Tally.{Tally}

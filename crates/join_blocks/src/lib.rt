@@ -1,9 +1,9 @@
 // What becomes of the left sets of a node that have no child to visit: checks, and pairs by path, with the rows that are kept.
 use join_check::Tally;
-use join_check::keys::key_at;
-use join_check::keys::run_end;
-use join_check::subtree::gather;
+use join_gather::gather;
 use join_index::Layout;
+use join_keys::keys::key_at;
+use join_keys::keys::run_end;
 use join_nodes::Progress;
 use join_nodes::Settings;
 use join_nodes::Walked;
@@ -14,9 +14,9 @@ ghost use mathlib.Core.List.{List};
 ghost use Prim.Native.Nat.{ℕ, _+_, _-_, _≤_, _<_};
 ghost use Rattle.sets.specs.Limits.{maxPairs};
 ghost use Rattle.join_spec.specs.Query.{Query};
-ghost use Rattle.join_check.specs.Asking.{Some, RunThere};
+ghost use Rattle.join_index.specs.Asking.{Some, RunThere};
 ghost use Rattle.join_spec.specs.Counting.{isByPath};
-ghost use Rattle.join_check.specs.Runs.{run};
+ghost use Rattle.join_index.specs.Runs.{run};
 ghost use Rattle.join_check.specs.Checks.{RunsThere};
 ghost use Rattle.join_check.specs.Counters.{checksIn};
 ghost use Rattle.kept_rows.specs.Keeping.{ListThere};

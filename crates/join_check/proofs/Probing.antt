@@ -21,10 +21,10 @@ use Rattle.join_check.specs.declared.Tally.{Tally}
 use Rattle.join_check.specs.declared.checks.Probe.{Probe}
 use Rattle.word_lists.specs.Words.{Word}
 use Rattle.word_lists.specs.Merges.{Rising}
-use Rattle.join_check.specs.Asking.{LeftThere, RightThere}
+use Rattle.join_index.specs.Asking.{LeftThere, RightThere}
 use Rattle.join_check.specs.Counters.{Tallied}
 use Rattle.join_check.specs.Probes.{ProbeOf, probeOutcome}
-use Rattle.join_check.proofs.Reading.{left-stored, right-stored}
+use Rattle.join_index.proofs.Reading.{left-stored, right-stored}
 use Rattle.join_check.proofs.Tallying.{tallied-each}
 
 -- what remains of a left set whose starts were read

@@ -20,7 +20,7 @@ use Rattle.word_lists.specs.Words.{Word}
 use Rattle.join_check.specs.Checks.{checkAt, rowCount, RowThere, RowChecked}
 use Rattle.join_check.specs.Counters.{checksIn}
 use Rattle.join_check.specs.Probes.{Probed, OneChecked}
-use Rattle.join_check.proofs.Places.{place-right, count-past, count-next}
+use Rattle.join_index.proofs.Places.{place-right, count-past, count-next}
 use Rattle.join_check.proofs.Tallying.{Leaving, leaving-start, leaving-step, leaving-end, probe-check}
 
 -- a check confirms exactly what is contained, since a right set that contains a left set has all bits of its signature

@@ -26,11 +26,11 @@ use Rattle.join_check.specs.declared.Tally.{Tally}
 use Rattle.join_check.specs.declared.checks.Probe.{Probe}
 use Rattle.word_lists.specs.Words.{Word}
 use Rattle.word_lists.specs.Merges.{Rising}
-use Rattle.join_check.specs.Asking.{LeftThere}
+use Rattle.join_index.specs.Asking.{LeftThere}
 use Rattle.join_check.specs.Checks.{checkAt, RowThere}
 use Rattle.join_check.specs.Counters.{counter, Tallied}
 use Rattle.join_check.specs.Probes.{ProbeOf, Probed, probeOutcome}
-use Rattle.join_check.proofs.Places.{place-right}
+use Rattle.join_index.proofs.Places.{place-right}
 
 -- counters that grew by the same amounts, said in another way
 pub tallied-same : {a b : (Outcome → Bool) → ℕ} {tally r : Tally} → ((kind : Kind) → a (isOf kind) ≡ b (isOf kind))

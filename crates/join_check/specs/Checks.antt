@@ -11,9 +11,9 @@ use Rattle.join_spec.specs.Walk.{Outcome, isCandidate, check}
 use Rattle.join_index.specs.Grouping.{leftAt, rightAt}
 use Rattle.join_index.specs.declared.Layout.{Layout}
 use Rattle.join_check.specs.declared.Tally.{Tally}
-use Rattle.join_check.specs.Asking.{LeftThere, PlacesThere}
+use Rattle.join_index.specs.Asking.{LeftThere, PlacesThere}
 use Rattle.join_check.specs.Counters.{checksIn, Tallied}
-use Rattle.join_check.specs.Runs.{run}
+use Rattle.join_index.specs.Runs.{run}
 
 -- the check of the left set k and the right set s
 abbrev pub checkAt : Query → ℕ → ℕ → Outcome

@@ -1,6 +1,4 @@
 -- Contents: what the functions of this crate ask and answer.
-pub mod Asking
-pub mod Runs
 pub mod Counters
 pub mod Checks
 pub mod Probes

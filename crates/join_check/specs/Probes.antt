@@ -14,7 +14,7 @@ use Rattle.join_check.specs.declared.Tally.{Tally}
 use Rattle.join_check.specs.declared.checks.Probe.{Probe}
 use Rattle.join_check.specs.declared.checks.Checked.{Checked}
 use Rattle.join_check.specs.declared.checks.Checked.the-variants.{Dropped, FalseDrop, Confirmed}
-use Rattle.join_check.specs.Asking.{LeftThere, RightThere}
+use Rattle.join_index.specs.Asking.{LeftThere, RightThere}
 use Rattle.join_check.specs.Counters.{checksIn, Tallied}
 
 -- p has the signature of the left set k, and where its ranks from e on lie

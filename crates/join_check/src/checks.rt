@@ -9,7 +9,7 @@ ghost use Prim.Native.Nat.{_+_, _-_, _*_, _<_};
 ghost use Rattle.sets.specs.Limits.{fullWords};
 ghost use Rattle.word_lists.specs.Merges.{Rising};
 ghost use Rattle.join_spec.specs.Query.{Query};
-ghost use Rattle.join_check.specs.Asking.{Some, LeftThere, RightThere};
+ghost use Rattle.join_index.specs.Asking.{Some, LeftThere, RightThere};
 ghost use Rattle.join_check.specs.Checks.{RowThere, RowChecked};
 ghost use Rattle.join_check.specs.Counters.{checksIn};
 ghost use Rattle.join_check.specs.Probes.{Probed, outcomeOf, probeOutcome, OneChecked};

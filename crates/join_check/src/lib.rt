@@ -1,5 +1,4 @@
-// The checks of a join, and what else is read off the index: the runs of left sets with a common prefix, the right sets seen, and
-// the checks of left sets below a node. The work list is read by its layout.
+// The checks of left sets against right sets, and the counters that they raise. The work list is read by its layout.
 
 // The counters of a walk: pairs by path, and the checks by how they ended.
 pub struct Tally {
@@ -10,6 +9,3 @@ pub struct Tally {
 }
 
 pub mod checks;
-pub mod keys;
-pub mod seen;
-pub mod subtree;

@@ -23,7 +23,7 @@ use Rattle.join_spec.proofs.KindLaws.{kind-met, sum-zero}
 use Rattle.join_index.specs.Grouping.{leftAt, rightAt}
 use Rattle.join_index.specs.Ground.{Listing}
 use Rattle.join_index.specs.declared.Layout.{Layout}
-use Rattle.join_check.specs.Runs.{run}
+use Rattle.join_index.specs.Runs.{run}
 use Rattle.kept_rows.specs.Keeping.{ListKept}
 use Rattle.join_nodes.specs.Rows.{goes, row}
 use Rattle.join_nodes.specs.Narrowing.{candidateList}

@@ -20,8 +20,8 @@ use Rattle.join_index.specs.Grouping.{leftAt, rightAt, keyAt, orderFrom}
 use Rattle.join_index.specs.Ground.{Listing}
 use Rattle.join_index.specs.declared.Layout.{Layout}
 use Rattle.join_index.proofs.GroundLaws.{offsets-rise}
-use Rattle.join_check.specs.Asking.{Index}
-use Rattle.join_check.specs.Runs.{run}
+use Rattle.join_index.specs.Asking.{Index}
+use Rattle.join_index.specs.Runs.{run}
 use Rattle.join_check.specs.Counters.{checksIn}
 use Rattle.join_check.specs.declared.Tally.{Tally}
 use Rattle.join_nodes.specs.Rows.{goes, row, pathPairs}

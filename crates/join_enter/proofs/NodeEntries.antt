@@ -8,7 +8,7 @@ use lib.Dec.{eqb}
 use Rattle.join_spec.specs.Query.{Query}
 use Rattle.join_index.specs.Grouping.{keyAt}
 use Rattle.join_index.specs.declared.Layout.{Layout}
-use Rattle.join_check.specs.Runs.{lead}
+use Rattle.join_index.specs.Runs.{lead}
 use Rattle.join_nodes.specs.Visiting.{Framed, NodeVisited}
 use Rattle.join_nodes.specs.declared.narrow.Part.{Part}
 use Rattle.join_nodes.specs.declared.Progress.{Progress}

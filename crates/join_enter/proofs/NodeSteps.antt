@@ -10,8 +10,8 @@ use Rattle.lists.proofs.Slices.{length-slice, frame-slice}
 use Rattle.join_spec.specs.Query.{Query}
 use Rattle.join_spec.specs.Node.{lastOf}
 use Rattle.join_index.specs.declared.Layout.{Layout}
-use Rattle.join_check.specs.Asking.{Index, RunThere}
-use Rattle.join_check.specs.Runs.{run}
+use Rattle.join_index.specs.Asking.{Index, RunThere}
+use Rattle.join_index.specs.Runs.{run}
 use Rattle.kept_rows.specs.Kept.{RowsKept}
 use Rattle.kept_rows.proofs.RowLaws.{rows-framed}
 use Rattle.join_nodes.specs.Rows.{goes}

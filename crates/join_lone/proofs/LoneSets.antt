@@ -23,8 +23,8 @@ use Rattle.join_index.specs.Grouping.{leftAt, rightAt, keyAt}
 use Rattle.join_index.specs.Ground.{Listing}
 use Rattle.join_index.specs.declared.Layout.{Layout}
 use Rattle.word_lists.specs.Words.{Word}
-use Rattle.join_check.specs.Asking.{LeftThere}
-use Rattle.join_check.specs.Runs.{run}
+use Rattle.join_index.specs.Asking.{LeftThere}
+use Rattle.join_index.specs.Runs.{run}
 use Rattle.join_check.specs.declared.Tally.{Tally}
 use Rattle.kept_rows.specs.Kept.{containedAt, containing}
 use Rattle.kept_rows.specs.Recording.{RecordThere, RowRecorded}

@@ -7,8 +7,8 @@ use Rattle.join_spec.specs.Query.{Query}
 use Rattle.join_spec.specs.declared.Rule.the-variants.{Merge}
 use Rattle.join_index.specs.Grouping.{leftAt}
 use Rattle.join_index.specs.declared.Layout.{Layout}
-use Rattle.join_check.specs.Asking.{RunThere}
-use Rattle.join_check.specs.Runs.{leftIn}
+use Rattle.join_index.specs.Asking.{RunThere}
+use Rattle.join_index.specs.Runs.{leftIn}
 use Rattle.join_nodes.specs.declared.Settings.{Settings}
 
 -- one left set under the rule Merge that ends within the limit, and room for a row as long as the part

@@ -2,8 +2,8 @@
 // contain it, however many of its ranks are left, so they are found at once.
 use join_blocks::add_paths;
 use join_check::Tally;
-use join_check::keys::key_at;
 use join_index::Layout;
+use join_keys::keys::key_at;
 use join_nodes::Progress;
 use join_nodes::Settings;
 use join_spec::Rule;
@@ -14,7 +14,7 @@ ghost use mathlib.Core.Path.{_≡_};
 ghost use mathlib.Core.List.{List};
 ghost use Prim.Native.Nat.{ℕ, _+_, _≤_};
 ghost use Rattle.join_spec.specs.Query.{Query};
-ghost use Rattle.join_check.specs.Asking.{Some, RunThere};
+ghost use Rattle.join_index.specs.Asking.{Some, RunThere};
 ghost use Rattle.join_nodes.specs.Narrowing.{SomePath};
 ghost use Rattle.join_nodes.specs.Visiting.{RunVisited};
 ghost use Rattle.join_blocks.specs.Blocks.{Going};

@@ -2,7 +2,7 @@
 use Prim.Native.Nat.{ℕ}
 use mathlib.Core.List.{List}
 use Rattle.join_spec.specs.Query.{Query}
-use Rattle.join_check.specs.Asking.{Some}
+use Rattle.join_index.specs.Asking.{Some}
 use Rattle.join_nodes.specs.Narrowing.{SomePath}
 
 pub some-path : {P Q : Query → List ℕ → Type 0} → SomePath P → ((q : Query) (path : List ℕ) → P q path → Q q path) → SomePath Q

@@ -23,7 +23,7 @@ use Rattle.word_lists.specs.Words.{Word}
 use Rattle.word_lists.specs.Merges.{Rising}
 use Rattle.word_flags.specs.Sharing.{Apart, Intersected}
 use Rattle.word_flags.specs.Flags.{flagRoom, Below}
-use Rattle.join_check.proofs.Places.{places-below}
+use Rattle.join_index.proofs.Places.{places-below}
 use Rattle.join_nodes.specs.Narrowing.{Candidates, Narrowed, candidateList}
 use Rattle.join_nodes.proofs.Narrowing.{narrow-first, narrow-further}
 

@@ -8,9 +8,9 @@ use Rattle.lists.proofs.Slices.{frame-less, frame-at, frame-slice}
 use Rattle.join_spec.specs.Query.{Query}
 use Rattle.join_index.specs.Ground.{offsetOf}
 use Rattle.join_index.specs.declared.Layout.{Layout}
-use Rattle.join_check.specs.Asking.{Index}
-use Rattle.join_check.specs.Runs.{run}
-use Rattle.join_check.proofs.Reading.{index-frame}
+use Rattle.join_index.specs.Asking.{Index}
+use Rattle.join_index.specs.Runs.{run}
+use Rattle.join_index.proofs.Reading.{index-frame}
 use Rattle.join_nodes.specs.Narrowing.{slotOf}
 use Rattle.join_nodes.specs.Visiting.{Framed}
 

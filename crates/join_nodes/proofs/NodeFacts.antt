@@ -26,10 +26,10 @@ use Rattle.counting_sort.specs.Holding.{RegionHolds}
 use Rattle.join_index.specs.Ground.{invertedList, asksSeen}
 use Rattle.join_index.specs.declared.Layout.{Layout}
 use Rattle.join_index.proofs.GroundLaws.{slot-bound}
-use Rattle.join_check.specs.Asking.{Index, LeftThere, PlacesThere}
-use Rattle.join_check.specs.Runs.{leftIn}
+use Rattle.join_index.specs.Asking.{Index, LeftThere, PlacesThere}
+use Rattle.join_index.specs.Runs.{leftIn}
 use Rattle.word_lists.specs.Words.{Word}
-use Rattle.join_check.proofs.Orders.{order-left}
+use Rattle.join_index.proofs.Orders.{order-left}
 use Rattle.join_nodes.specs.Rows.{goes}
 use Rattle.join_nodes.specs.Visiting.{OnPath, NodeAt}
 use Rattle.join_nodes.proofs.RunLaws.{run-length, begins-first}

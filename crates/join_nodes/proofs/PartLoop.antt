@@ -10,11 +10,11 @@ use lib.ListN.{length}
 use Rattle.lists.proofs.Bools.{true-false}
 use Rattle.join_spec.specs.Query.{Query}
 use Rattle.join_index.specs.declared.Layout.{Layout}
-use Rattle.join_check.specs.Asking.{Index}
-use Rattle.join_check.specs.Runs.{run}
+use Rattle.join_index.specs.Asking.{Index}
+use Rattle.join_index.specs.Runs.{run}
 use Rattle.join_check.specs.Counters.{checksIn}
 use Rattle.kept_rows.specs.Kept.{RowsKept}
-use Rattle.join_check.proofs.Orders.{run-none}
+use Rattle.join_index.proofs.Orders.{run-none}
 use Rattle.join_nodes.specs.Narrowing.{SomePath}
 use Rattle.join_nodes.specs.Visiting.{Visited, RunVisited}
 use Rattle.join_nodes.specs.declared.Progress.{Progress}

@@ -15,9 +15,9 @@ use Rattle.lists.proofs.Slices.{length-slice}
 use Rattle.join_spec.specs.Query.{Query}
 use Rattle.join_index.specs.Grouping.{leftAt, orderFrom}
 use Rattle.join_index.specs.declared.Layout.{Layout}
-use Rattle.join_check.specs.Asking.{Index, RunThere}
-use Rattle.join_check.specs.Runs.{run, lead, leftIn}
-use Rattle.join_check.proofs.Orders.{order-within, run-split as run-split-within, run-first, run-none, lead-pass, lead-fail, lead-nil}
+use Rattle.join_index.specs.Asking.{Index, RunThere}
+use Rattle.join_index.specs.Runs.{run, lead, leftIn}
+use Rattle.join_index.proofs.Orders.{order-within, run-split as run-split-within, run-first, run-none, lead-pass, lead-fail, lead-nil}
 use Rattle.join_nodes.specs.Visiting.{beginners}
 use Rattle.join_nodes.proofs.Groups.{first-of}
 

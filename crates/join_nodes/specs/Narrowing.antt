@@ -12,7 +12,7 @@ use Rattle.join_spec.specs.Walk.{isCandidate}
 use Rattle.join_index.specs.Grouping.{rightAt}
 use Rattle.join_index.specs.Ground.{Listing, offsetOf, asksSeen}
 use Rattle.join_index.specs.declared.Layout.{Layout}
-use Rattle.join_check.specs.Asking.{Index}
+use Rattle.join_index.specs.Asking.{Index}
 use Rattle.join_nodes.specs.declared.narrow.Part.{Part}
 
 -- there are a query and a path of which it holds

@@ -13,8 +13,8 @@ use Rattle.join_spec.specs.Counting.{isCheck}
 use Rattle.counting_sort.specs.Groups.{groupsFrom}
 use Rattle.join_index.specs.Grouping.{leftAt, keyAt, orderFrom}
 use Rattle.join_index.specs.declared.Layout.{Layout}
-use Rattle.join_check.specs.Asking.{Index}
-use Rattle.join_check.specs.Runs.{run, leftIn}
+use Rattle.join_index.specs.Asking.{Index}
+use Rattle.join_index.specs.Runs.{run, leftIn}
 use Rattle.join_check.specs.Counters.{checksIn, pairsIn, Tallied}
 use Rattle.join_check.specs.declared.Tally.{Tally}
 use Rattle.kept_rows.specs.Kept.{RowsKept}

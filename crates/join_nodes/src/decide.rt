@@ -1,7 +1,7 @@
 // The decision at a node.
-use join_check::keys::key_at;
-use join_check::seen::count_seen;
 use join_index::Layout;
+use join_keys::keys::key_at;
+use join_keys::seen::count_seen;
 use join_spec::Rule;
 use join_spec::Weights;
 use word_lists::words::word_at;

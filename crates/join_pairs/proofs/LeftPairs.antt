@@ -17,7 +17,7 @@ use Rattle.join_spec.specs.Query.{Query}
 use Rattle.join_spec.specs.PairList.{ontoPair, rowFrom, pairsFrom}
 use Rattle.join_index.specs.Grouping.{leftAt, rightAt}
 use Rattle.join_index.specs.declared.Layout.{Layout}
-use Rattle.join_check.specs.Asking.{LeftThere}
+use Rattle.join_index.specs.Asking.{LeftThere}
 use Rattle.kept_rows.specs.Kept.{containedAt}
 use Rattle.row_pairs.specs.Containing.{pairsWith, rowOf}
 use Rattle.join_pairs.specs.Writing.{rowAt}

@@ -10,7 +10,7 @@ use Rattle.sets.specs.Collections.{contained}
 use Rattle.join_spec.specs.Query.{Query}
 use Rattle.join_spec.specs.PairList.{rowFrom, pairCount}
 use Rattle.join_index.specs.declared.Layout.{Layout}
-use Rattle.join_check.specs.Asking.{Index, LeftThere}
+use Rattle.join_index.specs.Asking.{Index, LeftThere}
 use Rattle.kept_rows.specs.Kept.{RowsKept}
 
 -- the pairs of the left set k with all right sets that contain it: its part of the pair list

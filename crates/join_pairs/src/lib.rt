@@ -8,7 +8,7 @@ ghost use lib.ListN.{length, drop};
 ghost use Rattle.join_spec.specs.Query.{Query};
 ghost use Rattle.join_spec.specs.PairList.{pairList};
 ghost use Rattle.word_flags.specs.Flags.{Clear};
-ghost use Rattle.join_check.specs.Asking.{Some};
+ghost use Rattle.join_index.specs.Asking.{Some};
 ghost use Rattle.join_pairs.specs.Writing.{PairsRoom};
 
 mod rows;

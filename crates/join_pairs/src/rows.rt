@@ -8,7 +8,7 @@ use row_pairs::write_kept;
 use row_pairs::write_row;
 use word_lists::words::word_at;
 ghost use Rattle.word_flags.specs.Flags.{Clear};
-ghost use Rattle.join_check.specs.Asking.{Some};
+ghost use Rattle.join_index.specs.Asking.{Some};
 ghost use Rattle.join_pairs.specs.Writing.{LeftRoom, LeftWritten};
 
 // Writes the pairs of the left set k with all right sets that contain it, which are looked for. An empty left set has none.

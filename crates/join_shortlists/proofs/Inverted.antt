@@ -21,8 +21,8 @@ use Rattle.join_index.proofs.GroundLaws.{slot-bound}
 use Rattle.word_lists.specs.Words.{Word}
 use Rattle.word_lists.specs.Merges.{Rising}
 use Rattle.word_flags.specs.Flags.{flagRoom, Below}
-use Rattle.join_check.specs.Asking.{RankThere, PlacesThere}
-use Rattle.join_check.proofs.Places.{places-below}
+use Rattle.join_index.specs.Asking.{RankThere, PlacesThere}
+use Rattle.join_index.proofs.Places.{places-below}
 use Rattle.join_shortlists.specs.declared.candidates.Span.{Span}
 use Rattle.join_shortlists.specs.Shortlists.{Located, RanksThere}
 

@@ -11,7 +11,7 @@ use Rattle.lists.specs.Parts.{Changed}
 use Rattle.join_spec.specs.Query.{Query}
 use Rattle.join_index.specs.Grouping.{rightAt}
 use Rattle.join_index.specs.declared.Layout.{Layout}
-use Rattle.join_check.specs.Asking.{Index, RankThere, PlacesThere}
+use Rattle.join_index.specs.Asking.{Index, RankThere, PlacesThere}
 use Rattle.join_shortlists.specs.declared.candidates.Span.{Span}
 use Rattle.join_shortlists.specs.declared.candidates.Shortlist.{Shortlist}
 

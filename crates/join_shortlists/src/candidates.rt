@@ -5,7 +5,7 @@ use join_index::Layout;
 use word_flags::intersect;
 use word_lists::words::word_at;
 ghost use Rattle.word_flags.specs.Flags.{Clear};
-ghost use Rattle.join_check.specs.Asking.{Some, RankThere};
+ghost use Rattle.join_index.specs.Asking.{Some, RankThere};
 ghost use Rattle.join_shortlists.specs.Shortlists.{Located, SpanThere, RankMet, FindThere, Shortlisted};
 
 // Above so many ranks a signature tells most right sets apart; below so many candidates it is not worth while to cut them down.

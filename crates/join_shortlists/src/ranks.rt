@@ -4,7 +4,7 @@ use word_lists::words::word_at;
 ghost use mathlib.Core.Path.{_≡_};
 ghost use mathlib.Core.Bool.{true};
 ghost use Rattle.lists.specs.Lists.{memb, slice};
-ghost use Rattle.join_check.specs.Asking.{Some, RankThere};
+ghost use Rattle.join_index.specs.Asking.{Some, RankThere};
 ghost use Rattle.join_shortlists.specs.Shortlists.{RanksThere};
 
 // How many right sets hold a rank.

@@ -22,7 +22,7 @@ use Rattle.join_index.specs.Ground.{Listing}
 use Rattle.join_index.specs.declared.Layout.{Layout}
 use Rattle.join_index.proofs.GroundLaws.{offsets-rise, slot-bound}
 use Rattle.join_index.proofs.Ordering.{left-rising}
-use Rattle.join_check.specs.Runs.{run, leftIn, RunEnd}
+use Rattle.join_index.specs.Runs.{run, leftIn, RunEnd}
 use Rattle.join_nodes.specs.Narrowing.{candidateList, slotOf}
 use Rattle.join_nodes.specs.Visiting.{Node, Children, After, ChildrenAt}
 use Rattle.join_nodes.specs.Visiting.{Visited, Framed, NodeVisited}

@@ -15,8 +15,8 @@ use Rattle.join_spec.specs.Node.{lastOf}
 use Rattle.counting_sort.specs.Groups.{groupsFrom}
 use Rattle.join_index.specs.Grouping.{keyAt, orderFrom}
 use Rattle.join_index.specs.declared.Layout.{Layout}
-use Rattle.join_check.specs.Asking.{RunThere}
-use Rattle.join_check.specs.Runs.{leftIn, RunEnd}
+use Rattle.join_index.specs.Asking.{RunThere}
+use Rattle.join_index.specs.Runs.{leftIn, RunEnd}
 use Rattle.join_check.specs.declared.Tally.{Tally}
 use Rattle.join_nodes.specs.Visiting.{Underway, Children, beginners}
 use Rattle.join_nodes.specs.Visiting.{RunVisited}

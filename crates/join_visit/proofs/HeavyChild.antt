@@ -16,9 +16,9 @@ use Rattle.join_spec.specs.Walk.{isCandidate}
 use Rattle.join_index.specs.Grouping.{rightAt, keyAt}
 use Rattle.join_index.specs.Ground.{Listing}
 use Rattle.join_index.specs.declared.Layout.{Layout}
-use Rattle.join_check.specs.Asking.{RunThere}
-use Rattle.join_check.specs.Runs.{run, leftIn}
-use Rattle.join_check.proofs.Orders.{run-none}
+use Rattle.join_index.specs.Asking.{RunThere}
+use Rattle.join_index.specs.Runs.{run, leftIn}
+use Rattle.join_index.proofs.Orders.{run-none}
 use Rattle.kept_rows.specs.Kept.{RowsKept}
 use Rattle.join_nodes.specs.Narrowing.{slotOf}
 use Rattle.join_nodes.specs.Visiting.{Underway, Node, Children, ChildrenAt, beginners}

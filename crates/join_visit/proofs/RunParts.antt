@@ -16,10 +16,10 @@ use Rattle.join_spec.specs.Query.{Query}
 use Rattle.counting_sort.specs.Groups.{groupsFrom}
 use Rattle.join_index.specs.Grouping.{keyAt}
 use Rattle.join_index.specs.declared.Layout.{Layout}
-use Rattle.join_check.specs.Asking.{RunThere}
-use Rattle.join_check.specs.Runs.{leftIn, RunEnd}
-use Rattle.join_check.proofs.Orders.{run-none}
-use Rattle.join_check.proofs.RunEnds.{reaching-start, reaching-end}
+use Rattle.join_index.specs.Asking.{RunThere}
+use Rattle.join_index.specs.Runs.{leftIn, RunEnd}
+use Rattle.join_index.proofs.Orders.{run-none}
+use Rattle.join_keys.proofs.RunEnds.{reaching-start, reaching-end}
 use Rattle.join_nodes.proofs.Groups.{FirstGroup}
 use Rattle.join_nodes.proofs.RunLaws.{Cut, run-split}
 use Rattle.join_blocks.proofs.GroupSteps.{group-first, group-cut}

@@ -6,8 +6,8 @@ use Rattle.join_spec.specs.Query.{Query}
 use Rattle.counting_sort.specs.Groups.{groupsFrom}
 use Rattle.join_index.specs.Grouping.{keyAt}
 use Rattle.join_index.specs.declared.Layout.{Layout}
-use Rattle.join_check.specs.Asking.{RunThere}
-use Rattle.join_check.specs.Runs.{run, RunEnd}
+use Rattle.join_index.specs.Asking.{RunThere}
+use Rattle.join_index.specs.Runs.{run, RunEnd}
 use Rattle.join_visit.specs.declared.heavy.Span.{Span}
 
 -- the groups of n keys from x on, at the places lo up to hi, are parted at place i: those of lesser keys stand before it

@@ -1,11 +1,11 @@
 // The heaviest child of a node, with which its visit goes on.
-use join_check::keys::run_end;
 use join_index::Layout;
+use join_keys::keys::run_end;
 ghost use mathlib.Core.Path.{_≡_};
 ghost use mathlib.Core.Bool.{cond};
 ghost use Prim.Native.Nat.{_-_, _≤_};
 ghost use lib.Dec.{ltb};
-ghost use Rattle.join_check.specs.Asking.{Some, RunThere};
+ghost use Rattle.join_index.specs.Asking.{Some, RunThere};
 ghost use Rattle.join_visit.specs.Heaviest.{RunChosen};
 
 // At a depth below this no child is preferred to another. Visits lie above each other at most so often there, whatever the limit,

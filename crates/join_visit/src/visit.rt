@@ -4,9 +4,9 @@
 // whatever the limit.
 use crate::heavy::heaviest_run;
 use join_blocks::check_block;
-use join_check::keys::run_end;
 use join_enter::enter_node;
 use join_index::Layout;
+use join_keys::keys::run_end;
 use join_nodes::Progress;
 use join_nodes::Settings;
 use join_nodes::Walked;

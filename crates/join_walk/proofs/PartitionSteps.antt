@@ -16,11 +16,11 @@ use Rattle.join_spec.specs.Walk.{isCandidate}
 use Rattle.join_index.specs.Grouping.{leftAt, rightAt, keyAt}
 use Rattle.join_index.specs.Ground.{Listing, seenCount, invertedList, asksSeen}
 use Rattle.join_index.specs.declared.Layout.{Layout}
-use Rattle.join_check.specs.Asking.{RunThere, LeftThere}
+use Rattle.join_index.specs.Asking.{RunThere, LeftThere}
 use Rattle.word_lists.specs.Words.{Word}
-use Rattle.join_check.specs.Runs.{leftIn, RunEnd}
+use Rattle.join_index.specs.Runs.{leftIn, RunEnd}
 use Rattle.join_check.specs.declared.Tally.{Tally}
-use Rattle.join_check.proofs.Orders.{run-key}
+use Rattle.join_index.proofs.Orders.{run-key}
 use Rattle.kept_rows.specs.Keeping.{ListThere, ListKept}
 use Rattle.join_nodes.specs.Narrowing.{slotOf}
 use Rattle.join_nodes.specs.Visiting.{Node, NodeVisited}

@@ -21,8 +21,8 @@ use Rattle.join_spec.specs.Kinds.{Kind, isOf, kinds, checkKinds}
 use Rattle.join_spec.proofs.KindLaws.{sum-zero, kind-met}
 use Rattle.join_index.specs.Grouping.{leftAt, keyAt, orderFrom, orderOf}
 use Rattle.join_index.specs.declared.Layout.{Layout}
-use Rattle.join_check.specs.Asking.{Index, RunThere}
-use Rattle.join_check.specs.Runs.{run}
+use Rattle.join_index.specs.Asking.{Index, RunThere}
+use Rattle.join_index.specs.Runs.{run}
 use Rattle.join_check.specs.Counters.{counter}
 use Rattle.join_check.specs.declared.Tally.{Tally}
 use Rattle.kept_rows.specs.Kept.{RowsKept}

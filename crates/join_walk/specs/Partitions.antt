@@ -10,7 +10,7 @@ use Rattle.join_spec.specs.Query.{Query}
 use Rattle.join_spec.specs.Counting.{total, isCheck}
 use Rattle.join_spec.specs.Kinds.{Kind, isOf}
 use Rattle.join_index.specs.declared.Layout.{Layout}
-use Rattle.join_check.specs.Asking.{Index}
+use Rattle.join_index.specs.Asking.{Index}
 use Rattle.join_check.specs.Counters.{counter}
 use Rattle.join_check.specs.declared.Tally.{Tally}
 use Rattle.kept_rows.specs.Kept.{RowsKept}

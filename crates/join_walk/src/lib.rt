@@ -1,10 +1,10 @@
 // The whole walk: partition by partition in rank order, each with the right sets seen at its rank.
 use join_blocks::merged_end;
 use join_check::Tally;
-use join_check::keys::key_at;
-use join_check::keys::run_end;
 use join_index::Layout;
 use join_index::build::asks_seen;
+use join_keys::keys::key_at;
+use join_keys::keys::run_end;
 use join_nodes::Progress;
 use join_nodes::Settings;
 use join_nodes::Walked;
@@ -18,7 +18,7 @@ ghost use mathlib.Core.Bool.{false};
 ghost use Prim.Native.Nat.{ℕ};
 ghost use Rattle.join_spec.specs.Query.{Query};
 ghost use Rattle.join_index.specs.Ground.{invertedList};
-ghost use Rattle.join_check.specs.Asking.{Some, RankThere};
+ghost use Rattle.join_index.specs.Asking.{Some, RankThere};
 ghost use Rattle.word_flags.specs.Flags.{Clear};
 ghost use Rattle.join_walk.specs.Partitions.{SomeRank, Partition, Partitions, PartVisited, WalkReady, WalkDone};
 

@@ -11,7 +11,7 @@ use Rattle.lists.specs.Parts.{Changed}
 use Rattle.lists.proofs.Bools.{by-test}
 use Rattle.lists.proofs.Slices.{changed-none, changed-store}
 use Rattle.join_index.specs.declared.Layout.{Layout}
-use Rattle.join_check.specs.Asking.{Some}
+use Rattle.join_index.specs.Asking.{Some}
 use Rattle.kept_rows.specs.Keeping.{ClearThere, Cleared}
 use Rattle.kept_rows.proofs.RowLaws.{index-kept, rows-none}
 

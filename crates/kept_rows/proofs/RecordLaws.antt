@@ -22,9 +22,9 @@ use Rattle.word_flags.specs.Flags.{Behind}
 use Rattle.word_flags.proofs.Keeping.{Keeping, keeping-start, keeping-step, keeping-end}
 use Rattle.join_check.specs.declared.Tally.{Tally}
 use Rattle.join_check.specs.declared.checks.Probe.{Probe}
-use Rattle.join_check.specs.Asking.{Some, Index, RightThere}
+use Rattle.join_index.specs.Asking.{Some, Index, RightThere}
 use Rattle.join_check.specs.Probes.{Probed, OneChecked, probeOutcome}
-use Rattle.join_check.proofs.Places.{place-right}
+use Rattle.join_index.proofs.Places.{place-right}
 use Rattle.join_check.proofs.Tallying.{tallied-same, probe-rising, probe-check}
 use Rattle.join_check.proofs.RowChecks.{RowChecking, row-start, row-step, row-end, check-confirmed}
 use Rattle.kept_rows.specs.Kept.{containedAt, containing, RowIs, RowsKept}

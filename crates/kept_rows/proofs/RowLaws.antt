@@ -13,8 +13,8 @@ use Rattle.lists.proofs.Slices.{rest-at, rest-slice, frame-less, frame-at, fram
 use Rattle.join_spec.specs.Query.{Query}
 use Rattle.join_index.specs.declared.Layout.{Layout}
 use Rattle.join_index.specs.Ground.{Ground}
-use Rattle.join_check.specs.Asking.{Index}
-use Rattle.join_check.proofs.Reading.{index-frame}
+use Rattle.join_index.specs.Asking.{Index}
+use Rattle.join_index.proofs.Reading.{index-frame}
 use Rattle.kept_rows.specs.Kept.{rowStart, rowEnd, RowIs, RowsKept}
 use Rattle.kept_rows.specs.Keeping.{WordsRoom, rowStored}
 

@@ -15,9 +15,9 @@ use Rattle.join_index.specs.declared.Layout.{Layout}
 use Rattle.word_lists.specs.Words.{Word}
 use Rattle.word_flags.specs.Flags.{Behind}
 use Rattle.word_flags.proofs.Keeping.{Keeping, keeping-end}
-use Rattle.join_check.specs.Asking.{Some, Index}
-use Rattle.join_check.specs.Runs.{leftIn}
-use Rattle.join_check.proofs.Orders.{order-within, run-left}
+use Rattle.join_index.specs.Asking.{Some, Index}
+use Rattle.join_index.specs.Runs.{leftIn}
+use Rattle.join_index.proofs.Orders.{order-within, run-left}
 use Rattle.kept_rows.specs.Kept.{containing, RowIs, RowsKept}
 use Rattle.kept_rows.specs.Keeping.{WordsRoom, rowStored, Copied, ShareThere, Shared, ListThere, ListKept}
 use Rattle.kept_rows.proofs.RowLaws.{index-kept, row-moved, rows-grown, rows-stored, words-room}

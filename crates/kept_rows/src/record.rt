@@ -7,7 +7,7 @@ use join_index::Layout;
 use word_lists::words::word_at;
 ghost use Prim.Native.Nat.{_+_, _-_, _<_};
 ghost use Rattle.sets.specs.Limits.{fullWords};
-ghost use Rattle.join_check.specs.Asking.{Some};
+ghost use Rattle.join_index.specs.Asking.{Some};
 ghost use Rattle.join_check.specs.Counters.{checksIn};
 ghost use Rattle.kept_rows.specs.Recording.{RecordThere, RowRecorded};
 

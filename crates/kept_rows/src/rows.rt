@@ -3,7 +3,7 @@ use join_index::Layout;
 use word_lists::words::word_at;
 ghost use mathlib.Core.Path.{_≡_};
 ghost use Rattle.word_flags.specs.Flags.{Behind};
-ghost use Rattle.join_check.specs.Asking.{Some};
+ghost use Rattle.join_index.specs.Asking.{Some};
 ghost use Rattle.kept_rows.specs.Keeping.{ClearThere, Cleared, WordsRoom, rowStored, Copied};
 ghost use Rattle.kept_rows.specs.Keeping.{ShareThere, Shared, ListThere, ListKept};
 

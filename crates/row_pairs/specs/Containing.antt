@@ -10,7 +10,7 @@ use Rattle.join_spec.specs.Query.{Query}
 use Rattle.join_index.specs.Grouping.{rightAt}
 use Rattle.join_index.specs.declared.Layout.{Layout}
 use Rattle.join_check.specs.declared.checks.Probe.{Probe}
-use Rattle.join_check.specs.Asking.{RightThere}
+use Rattle.join_index.specs.Asking.{RightThere}
 use Rattle.kept_rows.specs.Kept.{containedAt}
 
 -- the pairs of left place k with each of the right places

@@ -6,7 +6,7 @@ use join_index::Layout;
 ghost use mathlib.Core.Path.{_≡_};
 ghost use Prim.Native.Nat.{ℕ};
 ghost use Rattle.join_spec.specs.Query.{Query};
-ghost use Rattle.join_check.specs.Asking.{Some, RightThere};
+ghost use Rattle.join_index.specs.Asking.{Some, RightThere};
 ghost use Rattle.word_lists.specs.Merges.{Rising};
 ghost use Rattle.kept_rows.specs.Kept.{containedAt};
 ghost use Rattle.row_pairs.specs.Containing.{CheckThere};

@@ -9,7 +9,7 @@ ghost use Rattle.lists.specs.Lists.{slice};
 ghost use Rattle.lists.specs.Writing.{Put};
 ghost use Rattle.join_spec.specs.Query.{Query};
 ghost use Rattle.join_spec.specs.PairList.{ontoPair};
-ghost use Rattle.join_check.specs.Asking.{Some};
+ghost use Rattle.join_index.specs.Asking.{Some};
 ghost use Rattle.row_pairs.specs.Containing.{rowOf, pairsWith};
 ghost use Rattle.row_pairs.specs.Writing.{PushRoom, KeptRoom, RowRoom};
 

@@ -2,7 +2,7 @@
 -- or the counts.
 use native.Mathlib.Omega.{arith}
 use Rattle.inputs.specs.Input.{Input, inputOf}
-use Rattle.join_check.specs.Asking.{Index}
+use Rattle.join_index.specs.Asking.{Index}
 use Rattle.join_walk.specs.Partitions.{WalkDone}
 use Rattle.join.proofs.AnswerLaws.{queryBy, build-room, walk-index, walk-ready, walk-made, count-small, checks-small}
 use Rattle.join.proofs.AnswerLaws.{answer-spent, answer-short, pairs-room, answer-joined}

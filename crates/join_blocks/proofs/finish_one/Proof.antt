@@ -4,7 +4,7 @@ use Prim.Native.Nat.{_+_}
 use mathlib.Core.Path.{sym, _∙_}
 use native.Mathlib.Omega.{arith}
 use borrow.Author.Needs.{needs}
-use Rattle.join_check.proofs.Orders.{run-left}
+use Rattle.join_index.proofs.Orders.{run-left}
 use Rattle.join_nodes.proofs.Asked.{some-query}
 use Rattle.join_blocks.proofs.GoingLaws.{going-run, going-there}
 use Rattle.join_blocks.proofs.NodeRows.{row-record}

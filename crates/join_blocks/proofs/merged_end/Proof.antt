@@ -1,7 +1,7 @@
 -- `merged_end` meets its contract: where the first left set goes on after depth d there is none; else the run of those with key 0
 -- begins there.
 use borrow.Author.Needs.{needs}
-use Rattle.join_check.proofs.Orders.{run-left}
+use Rattle.join_index.proofs.Orders.{run-left}
 use Rattle.join_blocks.proofs.GroupSteps.{none-ended, some-ended}
 use Rattle.join_blocks.proofs.merged_end.Statement.{statement}
 use Rattle.join_blocks.proofs.merged_end.Tie as tie

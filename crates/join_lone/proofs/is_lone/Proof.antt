@@ -7,7 +7,7 @@ use borrow.Author.Tests.{eqb-true}
 use lib.ListN.{length}
 use Rattle.lists.proofs.Bools.{true-false}
 use Rattle.join_index.specs.Grouping.{leftAt}
-use Rattle.join_check.proofs.Orders.{run-left}
+use Rattle.join_index.proofs.Orders.{run-left}
 use Rattle.join_lone.proofs.LoneSets.{key-within}
 use Rattle.join_lone.proofs.is_lone.Statement.{statement}
 use Rattle.join_lone.proofs.is_lone.Tie as tie

@@ -14,7 +14,7 @@ use Rattle.join_spec.specs.PairList.{pairsFrom, pairList}
 use Rattle.join_spec.proofs.PairListLaws.{length-pairList}
 use Rattle.join_index.specs.declared.Layout.{Layout}
 use Rattle.word_flags.specs.Flags.{Clear}
-use Rattle.join_check.proofs.Reading.{index-frame}
+use Rattle.join_index.proofs.Reading.{index-frame}
 use Rattle.kept_rows.proofs.RowLaws.{rows-framed}
 use Rattle.join_pairs.specs.Writing.{rowAt, LeftRoom, LeftWritten, PairsRoom}
 use Rattle.join_shortlists.proofs.Meeting.{changed-then}

@@ -9,8 +9,8 @@ use borrow.Author.Needs.{needs}
 use Rattle.join_spec.specs.declared.Rule.{Rule}
 use Rattle.join_spec.specs.Query.{Query}
 use Rattle.join_index.specs.Ground.{invertedList, seenCount, asksSeen}
-use Rattle.join_check.specs.Asking.{RankThere}
-use Rattle.join_check.proofs.Orders.{run-left}
+use Rattle.join_index.specs.Asking.{RankThere}
+use Rattle.join_index.proofs.Orders.{run-left}
 use Rattle.join_walk.specs.Partitions.{Partition}
 use Rattle.join_walk.proofs.PartitionSteps.{partition-run, partition-key, seen-word, partition-node, partition-visited}
 use Rattle.join_walk.proofs.PartitionSteps.{unasked-node, unheld-list, unheld-visited}

@@ -14,7 +14,7 @@ use Rattle.join_spec.specs.PairList.{ontoPair}
 use Rattle.join_index.specs.declared.Layout.{Layout}
 use Rattle.join_check.specs.declared.checks.Probe.{Probe}
 use Rattle.word_lists.specs.Words.{Word}
-use Rattle.join_check.proofs.Places.{place-right}
+use Rattle.join_index.proofs.Places.{place-right}
 use Rattle.kept_rows.specs.Kept.{containedAt}
 use Rattle.row_pairs.specs.Containing.{rowOf, CheckThere}
 use Rattle.row_pairs.specs.Writing.{PushRoom, RowRoom}

@@ -4,9 +4,9 @@ use mathlib.Core.Bool.{Bool, cond}
 use native.Mathlib.Omega.{arith}
 use Rattle.join_spec.specs.Query.{Query}
 use Rattle.join_spec.specs.Walk.{confirmed, falseDrop}
-use Rattle.join_check.specs.Asking.{RightThere}
+use Rattle.join_index.specs.Asking.{RightThere}
 use Rattle.join_check.specs.Probes.{probeOutcome}
-use Rattle.join_check.proofs.Reading.{right-stored}
+use Rattle.join_index.proofs.Reading.{right-stored}
 use Rattle.join_check.proofs.Probing.{right-part-rising, outcome-dropped, outcome-checked}
 use borrow.Author.Needs.{needs}
 use Rattle.join_check.proofs.checks.check_probe.Statement.{statement}

@@ -2,7 +2,7 @@
 -- the places still to come, are what they were with all. The measure is how many places are to come.
 use Prim.Native.Nat.{_-_}
 use native.Mathlib.Omega.{arith}
-use Rattle.join_check.proofs.Places.{place-right}
+use Rattle.join_index.proofs.Places.{place-right}
 use Rattle.join_check.proofs.Tallying.{probe-rising}
 use Rattle.join_check.proofs.RowChecks.{RowChecking, row-start, row-step, row-end}
 use Rattle.join_check.proofs.checks.check_row.Statement.{statement}

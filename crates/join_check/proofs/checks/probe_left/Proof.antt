@@ -1,7 +1,7 @@
 -- `join_check::checks::probe_left` meets its contract: the ranks of a left set lie between two starts.
 use mathlib.Core.Bool.{false}
 use native.Mathlib.Omega.{arith}
-use Rattle.join_check.proofs.Reading.{left-stored, left-low}
+use Rattle.join_index.proofs.Reading.{left-stored, left-low}
 use Rattle.join_check.proofs.Probing.{probe-none, probe-some}
 use borrow.Author.Needs.{needs}
 use Rattle.join_check.proofs.checks.probe_left.Statement.{statement}

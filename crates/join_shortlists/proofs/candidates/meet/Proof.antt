@@ -1,5 +1,5 @@
 -- `join_shortlists::candidates::meet` meets its contract: all candidates hold the pivot; any other rank is met by its inverted list.
-use Rattle.join_check.proofs.Places.{places-below}
+use Rattle.join_index.proofs.Places.{places-below}
 use Rattle.join_shortlists.proofs.Inverted.{list-rising, list-below}
 use Rattle.join_shortlists.proofs.Meeting.{met-same, met-apart, met-other}
 use borrow.Author.Needs.{needs}

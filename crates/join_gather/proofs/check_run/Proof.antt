@@ -1,13 +1,13 @@
--- `join_check::subtree::check_run` meets its contract. The invariant is `RunsChecking`: the counters, with the checks of the left
+-- `join_gather::check_run` meets its contract. The invariant is `RunsChecking`: the counters, with the checks of the left
 -- sets still to come, are what they were with all. The measure is how many are to come.
 use Prim.Native.Nat.{ℕ, _+_, _-_, _*_}
 use mathlib.Core.Path.{_≡_, ap, _∙_}
 use native.Mathlib.Omega.{arith}
 use native.Mathlib.Nat.{one-mul}
-use Rattle.join_check.proofs.Gathering.{runs-within, runs-row, row-runs, RunsChecking}
-use Rattle.join_check.proofs.Gathering.{runs-start, runs-room, runs-step, runs-end}
-use Rattle.join_check.proofs.subtree.check_run.Statement.{statement}
-use Rattle.join_check.proofs.subtree.check_run.Tie as tie
+use Rattle.join_gather.proofs.Gathering.{runs-within, runs-row, row-runs, RunsChecking}
+use Rattle.join_gather.proofs.Gathering.{runs-start, runs-room, runs-step, runs-end}
+use Rattle.join_gather.proofs.check_run.Statement.{statement}
+use Rattle.join_gather.proofs.check_run.Tie as tie
 
 abbrev Inv-loop : tie.InvT-loop
 Inv-loop work lay e lo hi from to order r₀ i₀ r i =

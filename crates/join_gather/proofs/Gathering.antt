@@ -14,15 +14,15 @@ use Rattle.sets.specs.Limits.{fullWords}
 use Rattle.join_spec.specs.Query.{Query}
 use Rattle.join_spec.specs.Kinds.{isOf}
 use Rattle.join_index.specs.declared.Layout.{Layout}
 use Rattle.join_check.specs.declared.Tally.{Tally}
 use Rattle.word_lists.specs.Words.{Word}
-use Rattle.join_check.specs.Asking.{Some, RunThere}
-use Rattle.join_check.specs.Runs.{leftIn, run, RunEnd}
+use Rattle.join_index.specs.Asking.{Some, RunThere}
+use Rattle.join_index.specs.Runs.{leftIn, run, RunEnd}
 use Rattle.join_check.specs.Checks.{rowCount, runCount, areCandidates}
 use Rattle.join_check.specs.Counters.{checksIn}
 use Rattle.join_check.specs.Checks.{RowThere, RunsThere, RowChecked, RunsChecked}
-use Rattle.join_check.proofs.Orders.{order-within, run-left, run-none, run-next, run-split}
+use Rattle.join_index.proofs.Orders.{order-within, run-left, run-none, run-next, run-split}
 use Rattle.join_check.proofs.Tallying.{tallied-same, Leaving, leaving-start, leaving-step, leaving-end}
 
 module _ {lay : Layout} {q : Query} {w : List ℕ} {e lo hi from to : ℕ} (there : RunsThere lay q w e lo hi from to) where
   pub runs-within : lay .order + hi ≤ length w

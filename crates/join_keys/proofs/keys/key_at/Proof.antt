@@ -1,12 +1,12 @@
--- `join_check::keys::key_at` meets its contract: the ranks of a left set lie between two starts.
+-- `join_keys::keys::key_at` meets its contract: the ranks of a left set lie between two starts.
 use mathlib.Core.Path.{ap, _∙_}
 use Prim.Native.Nat.{ℕ, _+_}
 use native.Mathlib.Omega.{arith}
 use lib.ListN.{getD}
-use Rattle.join_check.proofs.Reading.{left-stored, key-none, key-rank}
+use Rattle.join_index.proofs.Reading.{left-stored, key-none, key-rank}
 use borrow.Author.Needs.{needs}
-use Rattle.join_check.proofs.keys.key_at.Statement.{statement}
-use Rattle.join_check.proofs.keys.key_at.Tie as tie
+use Rattle.join_keys.proofs.keys.key_at.Statement.{statement}
+use Rattle.join_keys.proofs.keys.key_at.Tie as tie
 
 add-word-at : tie.Need-add-word-at
 add-word-at c = search needs

@@ -10,13 +10,13 @@ use Rattle.lists.specs.Lists.{slice}
 use Rattle.lists.proofs.Membership.{memb-at}
 use Rattle.lists.proofs.Slices.{slice-past, slice-next, slice-split}
 use Rattle.join_spec.specs.Query.{Query}
 use Rattle.join_index.specs.Grouping.{keyAt, orderOf}
 use Rattle.join_index.specs.declared.Layout.{Layout}
 use Rattle.join_index.proofs.Ordering.{order-member}
 use Rattle.word_lists.specs.Words.{Word}
-use Rattle.join_check.specs.Asking.{Index, LeftThere, RunThere}
-use Rattle.join_check.specs.Runs.{lead, leftIn, run}
-use Rattle.join_check.proofs.Reading.{holds-length, holds-at}
+use Rattle.join_index.specs.Asking.{Index, LeftThere, RunThere}
+use Rattle.join_index.specs.Runs.{lead, leftIn, run}
+use Rattle.join_index.proofs.Reading.{holds-length, holds-at}
 
 module _ {lay : Layout} {q : Query} {w : List ℕ} (index : Index lay q w) where
   pub order-within : lay .order + length (q .lefts) ≤ length w

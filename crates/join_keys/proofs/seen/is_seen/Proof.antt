@@ -1,14 +1,14 @@
--- `join_check::seen::is_seen` meets its contract: the ranks of a right set lie between two starts, the least one first.
+-- `join_keys::seen::is_seen` meets its contract: the ranks of a right set lie between two starts, the least one first.
 use mathlib.Core.Path.{ap, _∙_}
 use Prim.Native.Nat.{ℕ, _+_}
 use native.Mathlib.Omega.{arith}
 use lib.Dec.{leb}
 use lib.ListN.{getD}
-use Rattle.join_check.proofs.Reading.{right-stored}
-use Rattle.join_check.proofs.Places.{right-none, right-first}
+use Rattle.join_index.proofs.Reading.{right-stored}
+use Rattle.join_index.proofs.Places.{right-none, right-first}
 use borrow.Author.Needs.{needs}
-use Rattle.join_check.proofs.seen.is_seen.Statement.{statement}
-use Rattle.join_check.proofs.seen.is_seen.Tie as tie
+use Rattle.join_keys.proofs.seen.is_seen.Statement.{statement}
+use Rattle.join_keys.proofs.seen.is_seen.Tie as tie
 
 add-word-at : tie.Need-add-word-at
 add-word-at c = search needs

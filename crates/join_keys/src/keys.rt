@@ -4,8 +4,8 @@ use word_lists::words::word_at;
 ghost use mathlib.Core.Path.{_≡_};
 ghost use Rattle.join_spec.specs.Query.{Query};
 ghost use Rattle.join_index.specs.Grouping.{keyAt};
-ghost use Rattle.join_check.specs.Asking.{Some, LeftThere, RunThere};
-ghost use Rattle.join_check.specs.Runs.{RunEnd};
+ghost use Rattle.join_index.specs.Asking.{Some, LeftThere, RunThere};
+ghost use Rattle.join_index.specs.Runs.{RunEnd};
 
 // The key of the left set k at depth d: 0 where it has no further rank, else one more than the rank.
 pub fn key_at(work: &[u32], lay: Layout, k: usize, d: usize) -> usize

@@ -1,4 +1,4 @@
--- `join_check::seen::count_seen` meets its contract. The invariant: the count so far and that of the places still to come are the
+-- `join_keys::seen::count_seen` meets its contract. The invariant: the count so far and that of the places still to come are the
 -- count of all. The measure is how many places are to come.
 use mathlib.Core.Path.{_≡_, ap, _∙_}
 use mathlib.Core.List.{List}
@@ -12,10 +12,10 @@ use Rattle.join_spec.specs.Query.{Query}
 use Rattle.join_spec.specs.Node.{seen}
 use Rattle.join_index.specs.Grouping.{rightAt}
 use Rattle.join_index.specs.declared.Layout.{Layout}
-use Rattle.join_check.specs.Asking.{PlacesThere}
-use Rattle.join_check.proofs.Places.{place-right, count-past, count-next}
-use Rattle.join_check.proofs.seen.count_seen.Statement.{statement}
-use Rattle.join_check.proofs.seen.count_seen.Tie as tie
+use Rattle.join_index.specs.Asking.{PlacesThere}
+use Rattle.join_index.proofs.Places.{place-right, count-past, count-next}
+use Rattle.join_keys.proofs.seen.count_seen.Statement.{statement}
+use Rattle.join_keys.proofs.seen.count_seen.Tie as tie
 
 abbrev isSeen : Query → ℕ → ℕ → Bool
 isSeen q r s = seen r (rightAt q s)

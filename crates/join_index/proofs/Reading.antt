@@ -9,11 +9,11 @@ use lib.Seq.{length-slice, getD-drop, getD-take, drop-drop}
 use Rattle.lists.specs.Lists.{slice}
 use Rattle.counting_sort.specs.Holding.{RegionHolds}
 use Rattle.index_keys.specs.SetKeys.{startOf}
 use Rattle.join_index.specs.Grouping.{leftAt, rightAt, keyAt}
 use Rattle.join_index.specs.declared.Layout.{Layout}
 use Rattle.join_index.proofs.GroundLaws.{ground-frame}
 use Rattle.join_spec.specs.Query.{Query}
-use Rattle.join_check.specs.Asking.{Index, LeftThere, RightThere}
+use Rattle.join_index.specs.Asking.{Index, LeftThere, RightThere}
 use borrow.Author.Tests.{le-leb, lt-leb}
 
 -- the index stays while only words from the slots on change

@@ -13,12 +13,12 @@ use Rattle.lists.proofs.Throughout.{all-weaken}
 use Rattle.lists.proofs.Slices.{all-slice, slice-past, slice-next}
 use Rattle.join_spec.specs.Query.{Query}
 use Rattle.join_spec.specs.Node.{seen}
 use Rattle.join_index.specs.Grouping.{rightAt}
 use Rattle.join_index.specs.declared.Layout.{Layout}
 use Rattle.word_lists.specs.Words.{Word}
 use Rattle.word_flags.specs.Flags.{flagRoom, Below}
-use Rattle.join_check.specs.Asking.{RightThere, PlacesThere}
-use Rattle.join_check.proofs.Reading.{right-stored}
+use Rattle.join_index.specs.Asking.{RightThere, PlacesThere}
+use Rattle.join_index.proofs.Reading.{right-stored}
 
 pub place-right : {lay : Layout} {q : Query} {w : List ℕ} {from to : ℕ} → PlacesThere lay q w from to
     → (i s : ℕ) → from ≤ i → i < to → Word w i s → RightThere lay q w s

@@ -1,11 +1,11 @@
--- `join_check::keys::run_end` meets its contract. The invariant is `Reaching`; the measure is how many left sets are still to be
+-- `join_keys::keys::run_end` meets its contract. The invariant is `Reaching`; the measure is how many left sets are still to be
 -- looked at.
 use Prim.Native.Nat.{_-_}
 use native.Mathlib.Omega.{arith}
-use Rattle.join_check.proofs.Orders.{run-left, run-within}
-use Rattle.join_check.proofs.RunEnds.{Reaching, reaching-start, reaching-stop, reaching-step, reaching-end}
-use Rattle.join_check.proofs.keys.run_end.Statement.{statement}
-use Rattle.join_check.proofs.keys.run_end.Tie as tie
+use Rattle.join_index.proofs.Orders.{run-left, run-within}
+use Rattle.join_keys.proofs.RunEnds.{Reaching, reaching-start, reaching-stop, reaching-step, reaching-end}
+use Rattle.join_keys.proofs.keys.run_end.Statement.{statement}
+use Rattle.join_keys.proofs.keys.run_end.Tie as tie
 
 abbrev Inv-loop : tie.InvT-loop
 Inv-loop work lay d i hi order first key j₀ j =

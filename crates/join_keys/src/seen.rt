@@ -7,7 +7,7 @@ ghost use Rattle.lists.specs.Lists.{count, slice};
 ghost use Rattle.join_spec.specs.Query.{Query};
 ghost use Rattle.join_spec.specs.Node.{seen};
 ghost use Rattle.join_index.specs.Grouping.{rightAt};
-ghost use Rattle.join_check.specs.Asking.{Some, RightThere, PlacesThere};
+ghost use Rattle.join_index.specs.Asking.{Some, RightThere, PlacesThere};
 
 // Whether the right set s is seen.
 fn is_seen(work: &[u32], lay: Layout, s: usize, r: usize) -> bool

@@ -1,22 +1,22 @@
--- `join_check::subtree::gather`, which calls itself on each child, meets its contract. The loop's invariant is `RunsChecking`:
+-- `join_gather::gather`, which calls itself on each child, meets its contract. The loop's invariant is `RunsChecking`:
 -- the counters, with the checks of the left sets still to come, are what they were with all. The measures: the limit less the
 -- depth, and how many left sets are still to come.
 use native.Mathlib.Omega.{arith}
-use Rattle.join_check.proofs.Orders.{run-left}
-use Rattle.join_check.proofs.Gathering.{runs-within, runs-run, RunsChecking}
-use Rattle.join_check.proofs.Gathering.{runs-start, runs-next, runs-step, runs-end}
+use Rattle.join_index.proofs.Orders.{run-left}
+use Rattle.join_gather.proofs.Gathering.{runs-within, runs-run, RunsChecking}
+use Rattle.join_gather.proofs.Gathering.{runs-start, runs-next, runs-step, runs-end}
 use Prim.Native.Nat.{ℕ, _-_, _<_}
 use borrow.Fn.Kinds.{In}
 use borrow.Fn.PlainCycle.{Measures, is, falls, and}
-use Rattle.join_check.proofs.subtree.gather.Reads as gather
-use Rattle.join_check.proofs.subtree.gather.Kinds as gather-kinds
-use Rattle.join_check.proofs.subtree.+gather.Lts-gather as gather-lts
-use Rattle.join_check.proofs.keys.key_at.Reads as key-at-reads
-use Rattle.join_check.proofs.keys.run_end.Reads as run-end-reads
-use Rattle.join_check.proofs.subtree.check_run.Reads as check-run-reads
+use Rattle.join_gather.proofs.gather.Reads as gather
+use Rattle.join_gather.proofs.gather.Kinds as gather-kinds
+use Rattle.join_gather.proofs.+gather.Lts-gather as gather-lts
+use Rattle.join_keys.proofs.keys.key_at.Reads as key-at-reads
+use Rattle.join_keys.proofs.keys.run_end.Reads as run-end-reads
+use Rattle.join_gather.proofs.check_run.Reads as check-run-reads
 use Rattle.word_lists.proofs.words.word_at.Reads as word-at-reads
-use Rattle.join_check.proofs.subtree.+gather.{statement}
-use Rattle.join_check.proofs.subtree.+gather.Tie.{close}
+use Rattle.join_gather.proofs.+gather.{statement}
+use Rattle.join_gather.proofs.+gather.Tie.{close}
 
 abbrev μ-gather : Measures 1 gather-kinds.ps ℕ
 μ-gather κs a = a .1 .1 .0 - a .1 .1 .1 .0

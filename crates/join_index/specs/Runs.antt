@@ -7,9 +7,9 @@ use lib.Dec.{eqb}
 use lib.ListN.{getD}
 use Rattle.lists.specs.Lists.{slice}
 use Rattle.join_spec.specs.Query.{Query}
 use Rattle.join_index.specs.Grouping.{keyAt}
 use Rattle.join_index.specs.declared.Layout.{Layout}
-use Rattle.join_check.specs.Asking.{RunThere}
+use Rattle.join_index.specs.Asking.{RunThere}
 
 -- one more where the test holds, else none
 abbrev pub further : Bool → ℕ → ℕ

@@ -1,15 +1,16 @@
-// All left sets below a node, checked against each of its candidates.
-use crate::Tally;
-use crate::checks::check_row;
-use crate::keys::key_at;
-use crate::keys::run_end;
+// All left sets below a node, gathered by the tree and checked against each of its candidates. The work list is read by its layout.
+
+use join_check::Tally;
+use join_check::checks::check_row;
 use join_index::Layout;
+use join_keys::keys::key_at;
+use join_keys::keys::run_end;
 use word_lists::words::word_at;
 ghost use Prim.Native.Nat.{_+_, _-_, _*_, _<_};
 ghost use Rattle.sets.specs.Limits.{fullWords};
-ghost use Rattle.join_check.specs.Asking.{Some};
+ghost use Rattle.join_index.specs.Asking.{Some};
 ghost use Rattle.join_check.specs.Checks.{RunsThere, RunsChecked};
 ghost use Rattle.join_check.specs.Counters.{checksIn};
 
 // Checks the left sets at the places lo up to hi of the order, after their first e ranks, against each right set whose place
 // stands from one place of the work list up to another.

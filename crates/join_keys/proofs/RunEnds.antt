@@ -11,9 +11,9 @@ use Rattle.word_lists.specs.Words.{Word}
 use Rattle.join_spec.specs.Query.{Query}
 use Rattle.join_index.specs.Grouping.{keyAt}
 use Rattle.join_index.specs.declared.Layout.{Layout}
-use Rattle.join_check.specs.Asking.{LeftThere, RunThere}
-use Rattle.join_check.specs.Runs.{lead, leftIn, run, RunEnd}
-use Rattle.join_check.proofs.Orders.{run-key, run-pass, run-fail, run-past}
+use Rattle.join_index.specs.Asking.{LeftThere, RunThere}
+use Rattle.join_index.specs.Runs.{lead, leftIn, run, RunEnd}
+use Rattle.join_index.proofs.Orders.{run-key, run-pass, run-fail, run-past}
 
 -- whether a left set has the key of the first at depth d
 abbrev sameKey : Layout → Query → List ℕ → ℕ → ℕ → ℕ → Bool

@@ -1,0 +1,2 @@
+-- Laws of gathering; each function has its folder beside them.
+pub mod Gathering
