@@ -27,7 +27,7 @@ use Rattle.join_spec.proofs.Demand.{pairs-met, checks-end, total-small}
 use Rattle.join_spec.proofs.Accepted.{Tests, spent-above, within-joined}
 use Rattle.sets.proofs.Between.{length-sets}
 use Rattle.inputs.proofs.TestLaws.{words-for}
-use Rattle.join_index.specs.Building.{BuildRoom}
+use Rattle.join_build.specs.Building.{BuildRoom}
 use Rattle.join_index.specs.Ground.{Ground}
 use Rattle.join_index.specs.declared.Layout.{Layout}
 use Rattle.join_index.specs.Asking.{Index}

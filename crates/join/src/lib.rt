@@ -1,6 +1,6 @@
 // The set containment join: its tests, the walk, and the pair list. Document 01 calls it the run.
+use join_build::build;
 use join_index::Layout;
-use join_index::build::build;
 use join_nodes::Settings;
 use join_nodes::Walked;
 use join_pairs::write_pairs;

@@ -1,7 +1,10 @@
 // The index of a join: everything the walk reads, laid out once in the lent work list. Both collections as ranks, their
-// signatures, the inverted index of the right sets, and the left sets in the order of their paths.
+// signatures, the inverted index of the right sets, and the left sets in the order of their paths. Here is what its regions are and
+// hold, and what those who read it may ask; it is built by join_build.
 
-pub mod build;
+ghost use mathlib.Core.Path.{_≡_};
+ghost use Rattle.join_index.specs.Ground.{asksSeen};
+use join_spec::Rule;
 
 // Where each region of the work list begins. None below the slots changes during the walk. Each pair of an offsets region and the
 // region it counts from is what one counting sort leaves behind.
@@ -35,4 +38,15 @@ pub struct Layout {
     // The kept rows, up to end: the places of right sets. A place below end fits a word.
     pub rows: usize,
     pub end: usize,
+}
+
+// Whether a rule asks which right sets are seen: all but the one that always goes on.
+pub fn asks_seen(rule: Rule) -> bool
+    ensures { λ r. ⌜ r ≡ asksSeen rule ⌝ }
+{
+    match rule {
+        Rule::Merge => false,
+        Rule::Check => true,
+        Rule::Weighed(_) => true,
+    }
 }

@@ -2,7 +2,7 @@
 use join_blocks::merged_end;
 use join_check::Tally;
 use join_index::Layout;
-use join_index::build::asks_seen;
+use join_index::asks_seen;
 use join_keys::keys::key_at;
 use join_keys::keys::run_end;
 use join_nodes::Progress;

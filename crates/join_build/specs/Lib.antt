@@ -1,0 +1,2 @@
+-- Contents: what the build is given.
+pub mod Building

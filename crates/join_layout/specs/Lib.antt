@@ -1,0 +1,2 @@
+-- Contents: where the regions lie.
+pub mod Regions

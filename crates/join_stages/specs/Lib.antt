@@ -1,0 +1,2 @@
+-- Contents: what the stages need and leave.
+pub mod Stages
