@@ -19,7 +19,7 @@ use tag_fill::fill_side;
 use tag_fill::fill_tags;
 use tag_index::HINT_SLOTS;
 use tag_index::INDEX_ROOM;
-use tag_index::rank_ids;
+use tag_items::rank_ids;
 use tag_scan::USED_WORDS;
 use tag_scan::scan_records;
 ghost use mathlib.Core.Path.{_≡_};

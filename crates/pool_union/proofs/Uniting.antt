@@ -16,9 +16,10 @@ use Rattle.tag_file.specs.Reading.{readAt, pastTags, tagsAt}
 use Rattle.tag_file.specs.Records.{insert, insertAll, collapse}
 use Rattle.tag_file.proofs.RecordLaws.{length-tagsAt}
 use Rattle.tag_file.proofs.Tables.{insertAll-append, length-insertAll-bound, length-insert, rising-insert, rising-collapse, memb-insertAll, rising-insertAll}
-use Rattle.tag_index.specs.Index.{indexRoom, seenWords, tableOf, Sorted, Adding, SomeAdding, RoomToAdd, AllAdded}
-use Rattle.tag_index.proofs.AddLaws.{adding-start}
+use Rattle.tag_index.specs.Index.{indexRoom, tableOf, Sorted}
 use Rattle.tag_index.proofs.Ids.{sorted-size}
+use Rattle.tag_adding.specs.Adding.{seenWords, Adding, SomeAdding, RoomToAdd, AllAdded}
+use Rattle.tag_adding.proofs.AddLaws.{adding-start}
 use Rattle.pool_union.specs.declared.United.{United}
 use Rattle.pool_union.specs.Union.{RecordThere, KnownThere, IndexReady, TakenIn}
 

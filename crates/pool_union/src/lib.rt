@@ -1,22 +1,23 @@
 // The tags of one right set of the second of two pooled files, taken into the index as a union: where the first file has a set of its
 // number, the tags of that record are marked again, and then those of the second's that are new.
 use bit_sets::contains;
+use own_tags::add_beside;
 use right_slots::POOLED_MARK;
 use right_slots::slot_of;
+use tag_adding::Added;
+use tag_adding::SEEN_WORDS;
+use tag_adding::add_tags;
 use tag_file::ReadAnswer;
 use tag_file::read_record;
-use tag_index::Added;
 use tag_index::HINT_SLOTS;
 use tag_index::INDEX_ROOM;
-use tag_index::SEEN_WORDS;
-use tag_index::add_beside;
-use tag_index::add_tags;
 ghost use mathlib.Core.Path.{_≡_};
 ghost use mathlib.Core.List.{[]};
 ghost use Prim.Native.Nat.{ℕ};
 ghost use lib.ListN.{replicate};
 ghost use Rattle.tag_file.specs.Reading.{tagsAt};
-ghost use Rattle.tag_index.specs.Index.{seenWords, tableOf, AllAdded};
+ghost use Rattle.tag_index.specs.Index.{tableOf};
+ghost use Rattle.tag_adding.specs.Adding.{seenWords, AllAdded};
 ghost use Rattle.pool_union.specs.Union.{RecordThere, KnownThere, IndexReady, TagsInside, AddedAlone, AddedBoth};
 ghost use Rattle.pool_union.specs.Union.{UniteReady, Taking};
 

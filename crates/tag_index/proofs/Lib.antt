@@ -1,6 +1,5 @@
 -- Laws of the tag index; each function that needs a proof file has its folder beside them.
 pub mod Search
 pub mod Ids
-pub mod Ranks
 pub mod Shift
-pub mod AddLaws
+pub mod OneTag

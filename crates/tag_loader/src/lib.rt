@@ -9,7 +9,7 @@ use tag_fill::fill_side;
 use tag_fill::fill_tags;
 use tag_index::HINT_SLOTS;
 use tag_index::INDEX_ROOM;
-use tag_index::rank_ids;
+use tag_items::rank_ids;
 use tag_scan::scan;
 ghost use Rattle.tag_file.specs.Records.{records};
 ghost use Rattle.tag_file.specs.Loading.{listsOf, LoadCall};

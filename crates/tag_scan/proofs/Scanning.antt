@@ -28,8 +28,8 @@ use Rattle.tag_file.proofs.RecordLaws.{length-tagsAt, read-past, read-within, r
 use Rattle.tag_file.proofs.RecordLaws.{records-next, totalLength-last}
 use Rattle.tag_file.proofs.FaultLaws.{fault-used, fault-none}
 use Rattle.tag_file.proofs.RepeatLaws.{repeats-are, repeats-bound}
-use Rattle.tag_index.specs.Index.{Adding, RoomToAdd, AllAdded}
-use Rattle.tag_index.proofs.AddLaws.{added-fresh}
+use Rattle.tag_adding.specs.Adding.{Adding, RoomToAdd, AllAdded}
+use Rattle.tag_adding.proofs.AddLaws.{added-fresh}
 use Rattle.tag_scan.specs.Scan.{keyOf, grownBy, isOver, Taken, Scanned, wordNumbers, repeatedBy, RepeatsRoom}
 use Rattle.tag_scan.proofs.Numbers.{Noted, noted-step, noted-tells}
 use Rattle.tag_scan.proofs.Counting.{grown-repeats}

@@ -15,8 +15,8 @@ use Rattle.tag_file.specs.Reading.{readAt}
 use Rattle.tag_file.specs.Records.{insertAll, allTags}
 use Rattle.tag_file.proofs.Ended.{no-records}
 use Rattle.tag_file.proofs.RecordLaws.{read-less, read-number, read-count}
-use Rattle.tag_index.specs.Index.{seenWords, Adding}
-use Rattle.tag_index.proofs.AddLaws.{adding-start, added-fresh}
+use Rattle.tag_adding.specs.Adding.{seenWords, Adding}
+use Rattle.tag_adding.proofs.AddLaws.{adding-start, added-fresh}
 use Rattle.tag_scan.specs.Scan.{usedWords, keyOf, Scanned}
 use Rattle.tag_scan.proofs.Numbers.{Noted, noted-start}
 use Rattle.tag_scan.proofs.Taking.{taken-start}
