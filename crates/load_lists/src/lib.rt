@@ -6,7 +6,7 @@ use tag_file::Loaded;
 use tag_file::TAG_LENGTH;
 ghost use mathlib.Core.Path.{_≡_};
 ghost use Rattle.tag_file.specs.Loading.{listsOf};
-ghost use Rattle.tag_scan.specs.Scan.{Limited};
+ghost use Rattle.load_totals.specs.Totals.{Limited};
 ghost use Rattle.load_lists.specs.Room.{sideFits, SideCleared, AllCleared, hasRoom};
 
 // Whether lists of these lengths hold the numbers, ends and items of a side.

@@ -20,7 +20,8 @@ use Rattle.tag_file.specs.Loading.{Lists, fileFault, filled, totalsOf}
 use Rattle.tag_pooling.specs.Pooling.{pooledRecords, pooledRepeats, secondFault, firstOverlong, pooledAnswer, PooledCall}
 use Rattle.tag_file.proofs.AnswerLaws.{tested-refused, tested-loaded}
 use Rattle.tag_pooling.proofs.Answers.{answer-clears, answer-accepted}
-use Rattle.tag_scan.specs.Scan.{Limited, Taken, Scanned}
+use Rattle.load_totals.specs.Totals.{Limited}
+use Rattle.tag_scan.specs.Scan.{Taken, Scanned}
 use Rattle.load_lists.specs.Room.{hasRoom, AllCleared}
 use Rattle.tag_loader.specs.Passes.{AllFilled}
 use Rattle.tag_loader.proofs.Rooms.{room-counted}

@@ -17,7 +17,8 @@ use Rattle.tag_file.specs.Records.{records, tagTable}
 use Rattle.tag_file.specs.Repeats.{repeatTotals}
 use Rattle.tag_file.specs.Loading.{Lists, fileFault, filled, roomFor, totalsOf}
 use Rattle.tag_pooling.specs.Pooling.{pooledRecords, secondFault, pooledAnswer}
-use Rattle.tag_scan.specs.Scan.{Limited, Taken}
+use Rattle.load_totals.specs.Totals.{Limited}
+use Rattle.tag_scan.specs.Scan.{Taken}
 use Rattle.load_lists.specs.Room.{hasRoom}
 use Rattle.right_slots.specs.Slots.{NumbersNoted, BlocksCounted, AtSlots, slotWord}
 

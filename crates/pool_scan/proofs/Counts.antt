@@ -18,8 +18,9 @@ use Rattle.tag_pooling.proofs.OneMore.{Grown}
 use Rattle.tag_pooling.proofs.Growing.{table-grown, sets-grown, entries-other, entries-grown}
 use Rattle.tag_index.specs.Index.{tableOf}
 use Rattle.tag_index.proofs.Ids.{sorted-size}
-use Rattle.tag_scan.specs.Scan.{grownBy, passes, isOver, Limited, Taken}
-use Rattle.tag_scan.proofs.Counting.{over-tooMany}
+use Rattle.load_totals.specs.Totals.{grownBy, passes, isOver, Limited}
+use Rattle.load_totals.proofs.Counting.{over-tooMany}
+use Rattle.tag_scan.specs.Scan.{Taken}
 use Rattle.tag_scan.proofs.Taking.{taken-over, taken-next}
 use Rattle.pool_union.specs.declared.United.{United}
 use Rattle.pool_union.specs.Union.{TakenIn}

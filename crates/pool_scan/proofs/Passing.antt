@@ -33,7 +33,8 @@ use Rattle.tag_pooling.specs.Pooling.{pooledRepeats}
 use Rattle.tag_pooling.specs.Pooling.{sameSet, pooled, placeAfter, secondFaultOf, firstSecondFault, secondFault, isOverlong, firstOverlong}
 use Rattle.tag_pooling.proofs.OneMore.{pooled-none, pooled-left}
 use Rattle.tag_pooling.proofs.Sides.{right-apart}
-use Rattle.tag_scan.specs.Scan.{passes, wordNumbers, Taken}
+use Rattle.load_totals.specs.Totals.{passes, wordNumbers}
+use Rattle.tag_scan.specs.Scan.{Taken}
 use Rattle.right_slots.specs.Slots.{AtSlots, slotWord}
 use Rattle.pool_scan.specs.declared.Second.{Second}
 use Rattle.pool_scan.specs.Second.{SecondReady, SecondScanned}

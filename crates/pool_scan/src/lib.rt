@@ -1,6 +1,7 @@
 // The first pass over the second of two pooled files: the first record at fault, or the counts of the pooled records, the repeats of both
 // files and the index of their tags. It goes on from the counts, the repeats and the index of the first file. The tags of a pooled set are
 // counted as a union; its repeats by the second file's record alone.
+use load_totals::is_past;
 use pool_union::United;
 use pool_union::unite;
 use right_slots::NUMBER_WORDS;
@@ -17,7 +18,6 @@ use tag_file::is_side;
 use tag_file::read_record;
 use tag_index::HINT_SLOTS;
 use tag_index::INDEX_ROOM;
-use tag_scan::is_past;
 ghost use mathlib.Core.Path.{_≡_};
 ghost use Prim.Native.Nat.{_+_, _≤_};
 ghost use lib.Dec.{ltb};
@@ -27,7 +27,7 @@ ghost use Rattle.sets.specs.Limits.{maxSetLength};
 ghost use Rattle.sets.specs.Refusals.{refuseIf, unless};
 ghost use Rattle.sets.specs.declared.Refusal.the-variants.{Overlong};
 ghost use Rattle.sets.specs.declared.Tested.the-variants.{Failed};
-ghost use Rattle.tag_scan.specs.Scan.{Limited};
+ghost use Rattle.load_totals.specs.Totals.{Limited};
 ghost use Rattle.right_slots.specs.Slots.{numberWords};
 ghost use Rattle.pool_scan.specs.Second.{unitedBy, SecondReady, SecondScanned};
 

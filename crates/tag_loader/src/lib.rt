@@ -10,13 +10,30 @@ use tag_fill::fill_tags;
 use tag_index::HINT_SLOTS;
 use tag_index::INDEX_ROOM;
 use tag_items::rank_ids;
-use tag_scan::scan;
+use tag_scan::scan_records;
+use used_numbers::USED_WORDS;
 ghost use Rattle.tag_file.specs.Records.{records};
 ghost use Rattle.tag_file.specs.Loading.{listsOf, LoadCall};
+ghost use Rattle.tag_scan.specs.Scan.{Lengths, Scanned};
 ghost use Rattle.tag_loader.specs.Passes.{AllFilled, Fillable};
 
 // A hint that leads to no id.
 const NO_ID: u16 = 65535;
+
+// The first pass over one file, with the numbers noted here.
+pub fn scan(
+    file: &[u8],
+    heads: &mut [usize; INDEX_ROOM],
+    tails: &mut [u32; INDEX_ROOM],
+    order: &mut [u16; INDEX_ROOM],
+    hints: &mut [u16; HINT_SLOTS],
+) -> LoadAnswer
+    requires { ⌜ Lengths (now heads) (now tails) (now order) ⌝ }
+    ensures { λ r. ⌜ Scanned (now (file .entry)) (now (heads .exit)) (now (tails .exit)) (now (order .exit)) r ⌝ }
+{
+    let mut used = [0u64; USED_WORDS];
+    scan_records(file, &mut used, heads, tails, order, hints)
+}
 
 // The second pass: fills the seven lists.
 fn fill_lists(

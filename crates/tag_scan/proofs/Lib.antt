@@ -1,5 +1,3 @@
 -- Laws of the loader's first pass; each function that needs a proof file has its folder beside them.
-pub mod Numbers
-pub mod Counting
 pub mod Taking
 pub mod Scanning

@@ -30,9 +30,11 @@ use Rattle.tag_file.proofs.FaultLaws.{fault-used, fault-none}
 use Rattle.tag_file.proofs.RepeatLaws.{repeats-are, repeats-bound}
 use Rattle.tag_adding.specs.Adding.{Adding, RoomToAdd, AllAdded}
 use Rattle.tag_adding.proofs.AddLaws.{added-fresh}
-use Rattle.tag_scan.specs.Scan.{keyOf, grownBy, isOver, Taken, Scanned, wordNumbers, repeatedBy, RepeatsRoom}
-use Rattle.tag_scan.proofs.Numbers.{Noted, noted-step, noted-tells}
-use Rattle.tag_scan.proofs.Counting.{grown-repeats}
+use Rattle.used_numbers.specs.Keys.{keyOf}
+use Rattle.used_numbers.proofs.Numbers.{Noted, noted-step, noted-tells}
+use Rattle.load_totals.specs.Totals.{grownBy, isOver, wordNumbers, repeatedBy, RepeatsRoom}
+use Rattle.load_totals.proofs.Counting.{grown-repeats}
+use Rattle.tag_scan.specs.Scan.{Taken, Scanned}
 use Rattle.tag_scan.proofs.Taking.{taken-over, taken-next}
 
 -- what the reading of a file ends with

@@ -20,7 +20,7 @@ use Rattle.tag_file.specs.Records.{sameSide}
 use Rattle.tag_file.proofs.Ended.{no-records}
 use Rattle.tag_file.proofs.RecordLaws.{read-less, read-number, read-count}
 use Rattle.tag_pooling.specs.Pooling.{placeAfter}
-use Rattle.tag_scan.specs.Scan.{wordNumbers}
+use Rattle.load_totals.specs.Totals.{wordNumbers}
 use Rattle.pool_scan.proofs.Passing.{Passing, passing-start, passing-whole, passing-cut, passing-left, passing-used}
 use Rattle.pool_scan.proofs.Passing.{passing-repeats, passing-past, passing-next}
 use Rattle.pool_scan.proofs.Step.{step-ready, step-bounds, stepped}

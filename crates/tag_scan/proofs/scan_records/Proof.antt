@@ -17,8 +17,9 @@ use Rattle.tag_file.proofs.Ended.{no-records}
 use Rattle.tag_file.proofs.RecordLaws.{read-less, read-number, read-count}
 use Rattle.tag_adding.specs.Adding.{seenWords, Adding}
 use Rattle.tag_adding.proofs.AddLaws.{adding-start, added-fresh}
-use Rattle.tag_scan.specs.Scan.{usedWords, keyOf, Scanned}
-use Rattle.tag_scan.proofs.Numbers.{Noted, noted-start}
+use Rattle.used_numbers.specs.Keys.{usedWords, keyOf}
+use Rattle.used_numbers.proofs.Numbers.{Noted, noted-start}
+use Rattle.tag_scan.specs.Scan.{Scanned}
 use Rattle.tag_scan.proofs.Taking.{taken-start}
 use Rattle.tag_scan.proofs.Scanning.{Scanning, scanning-start, scanning-stop, scanning-used, scanning-room}
 use Rattle.tag_scan.proofs.Scanning.{fresh-few, repeats-room, scanning-past, scanning-next}

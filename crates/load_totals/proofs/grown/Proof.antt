@@ -1,7 +1,7 @@
--- `tag_scan::grown` meets its contract.
+-- `load_totals::grown` meets its contract.
 use borrow.Author.Needs.{needs}
-use Rattle.tag_scan.proofs.grown.Statement.{statement}
-use Rattle.tag_scan.proofs.grown.Tie as tie
+use Rattle.load_totals.proofs.grown.Statement.{statement}
+use Rattle.load_totals.proofs.grown.Tie as tie
 
 enum-told : tie.Need-enum-told
 enum-told c = search needs

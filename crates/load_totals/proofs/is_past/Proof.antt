@@ -1,8 +1,8 @@
--- `tag_scan::is_past` meets its contract.
+-- `load_totals::is_past` meets its contract.
 use borrow.Author.Tests.{lt-ltb, le-ltb}
 use Rattle.sets.specs.Limits.{maxSets, maxEntries}
-use Rattle.tag_scan.proofs.is_past.Statement.{statement}
-use Rattle.tag_scan.proofs.is_past.Tie as tie
+use Rattle.load_totals.proofs.is_past.Statement.{statement}
+use Rattle.load_totals.proofs.is_past.Tie as tie
 
 returns : tie.Need-returns
 returns c =

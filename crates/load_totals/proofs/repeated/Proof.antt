@@ -1,7 +1,7 @@
--- `tag_scan::repeated` meets its contract.
+-- `load_totals::repeated` meets its contract.
 use borrow.Author.Needs.{needs}
-use Rattle.tag_scan.proofs.repeated.Statement.{statement}
-use Rattle.tag_scan.proofs.repeated.Tie as tie
+use Rattle.load_totals.proofs.repeated.Statement.{statement}
+use Rattle.load_totals.proofs.repeated.Tie as tie
 
 enum-told : tie.Need-enum-told
 enum-told c = search needs

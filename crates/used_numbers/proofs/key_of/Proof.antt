@@ -1,7 +1,7 @@
--- `tag_scan::key_of` meets its contract.
+-- `used_numbers::key_of` meets its contract.
 use borrow.Author.Needs.{needs}
-use Rattle.tag_scan.proofs.key_of.Statement.{statement}
-use Rattle.tag_scan.proofs.key_of.Tie as tie
+use Rattle.used_numbers.proofs.key_of.Statement.{statement}
+use Rattle.used_numbers.proofs.key_of.Tie as tie
 
 enum-told : tie.Need-enum-told
 enum-told c = search needs

@@ -19,7 +19,7 @@ use Rattle.tag_file.specs.Loading.{tooMany, totalsOf}
 use Rattle.tag_file.specs.Repeats.{repeatsIn, repeatTotals}
 use Rattle.tag_file.proofs.Tables.{insertAll-append}
 use Rattle.tag_file.proofs.RepeatLaws.{ofSide-same, ofSide-other, repeats-same, repeats-other}
-use Rattle.tag_scan.specs.Scan.{grownBy, isOver, Limited, repeatedBy}
+use Rattle.load_totals.specs.Totals.{grownBy, isOver, Limited, repeatedBy}
 
 allTags-last : (rs : List TagRecord) (r : TagRecord) → allTags (rs ++ (r ∷ [])) ≡ allTags rs ++ r .tags
 unfolding allTags

@@ -1,7 +1,7 @@
--- `tag_scan::stopped` meets its contract.
+-- `load_totals::stopped` meets its contract.
 use borrow.Author.Needs.{needs}
-use Rattle.tag_scan.proofs.stopped.Statement.{statement}
-use Rattle.tag_scan.proofs.stopped.Tie as tie
+use Rattle.load_totals.proofs.stopped.Statement.{statement}
+use Rattle.load_totals.proofs.stopped.Tie as tie
 
 enum-known-answer : tie.Need-enum-known-answer
 enum-known-answer c = search needs

@@ -1,7 +1,7 @@
--- `tag_scan::is_over` meets its contract.
+-- `load_totals::is_over` meets its contract.
 use borrow.Author.Needs.{needs}
-use Rattle.tag_scan.proofs.is_over.Statement.{statement}
-use Rattle.tag_scan.proofs.is_over.Tie as tie
+use Rattle.load_totals.proofs.is_over.Statement.{statement}
+use Rattle.load_totals.proofs.is_over.Tie as tie
 
 enum-told : tie.Need-enum-told
 enum-told c = search needs

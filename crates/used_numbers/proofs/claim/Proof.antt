@@ -1,9 +1,9 @@
--- `tag_scan::claim` meets its contract.
+-- `used_numbers::claim` meets its contract.
 use native.Mathlib.Omega.{arith}
-use Rattle.tag_scan.proofs.Numbers.{key-bound}
+use Rattle.used_numbers.proofs.Numbers.{key-bound}
 use borrow.Author.Needs.{needs}
-use Rattle.tag_scan.proofs.claim.Statement.{statement}
-use Rattle.tag_scan.proofs.claim.Tie as tie
+use Rattle.used_numbers.proofs.claim.Statement.{statement}
+use Rattle.used_numbers.proofs.claim.Tie as tie
 
 key-of-requires : tie.Need-key-of-requires
 key-of-requires c κs = search needs

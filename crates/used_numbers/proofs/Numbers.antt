@@ -17,7 +17,7 @@ use Rattle.sets.specs.declared.Side.{Side}
 use Rattle.sets.specs.declared.Side.the-variants.{Left, Right}
 use Rattle.tag_file.specs.Records.{TagRecord, sameSide}
 use Rattle.tag_file.specs.Loading.{numberUsed}
-use Rattle.tag_scan.specs.Scan.{usedWords, keyOf}
+use Rattle.used_numbers.specs.Keys.{usedWords, keyOf}
 
 pub key-bound : (side : Side) (number : ℕ) → number < halfWords → keyOf side number < 64 * usedWords
 key-bound Left number h = omega arith

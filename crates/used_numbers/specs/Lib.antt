@@ -1,0 +1,2 @@
+-- Contents: where a used number is noted.
+pub mod Keys
