@@ -1,3 +1,2 @@
--- Contents: lists written into the work list, and the keys of the sorts of sets.
-pub mod Writing
+-- Contents: the sets in the work list, and the keys of their sorts.
 pub mod SetKeys
