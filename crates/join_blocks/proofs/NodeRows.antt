@@ -22,7 +22,7 @@ use Rattle.join_check.specs.Checks.{areCandidates}
 use Rattle.join_index.proofs.Orders.{order-left, order-within, lead-pass, lead-fail, lead-nil}
 use Rattle.kept_rows.specs.Kept.{containedAt, containing}
 use Rattle.kept_rows.specs.Keeping.{ListThere}
-use Rattle.kept_rows.specs.Recording.{RecordThere}
+use Rattle.checked_rows.specs.Recording.{RecordThere}
 use Rattle.join_nodes.specs.declared.Progress.{Progress}
 use Rattle.join_nodes.specs.declared.Settings.{Settings}
 use Rattle.join_nodes.proofs.Prefixes.{prefix-length}

@@ -19,7 +19,7 @@ use Rattle.join_check.specs.Checks.{rowCount, runCount, RunsThere}
 use Rattle.join_check.specs.declared.Tally.{Tally}
 use Rattle.kept_rows.specs.Kept.{RowsKept}
 use Rattle.kept_rows.specs.Keeping.{ListKept}
-use Rattle.kept_rows.specs.Recording.{RecordThere}
+use Rattle.checked_rows.specs.Recording.{RecordThere}
 use Rattle.join_nodes.specs.Rows.{goes}
 use Rattle.join_nodes.specs.Narrowing.{candidateList}
 use Rattle.join_nodes.specs.Visiting.{Underway, Merged, Framed}

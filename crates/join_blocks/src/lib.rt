@@ -1,4 +1,5 @@
 // What becomes of the left sets of a node that have no child to visit: checks, and pairs by path, with the rows that are kept.
+use checked_rows::record_row;
 use join_check::Tally;
 use join_gather::gather;
 use join_index::Layout;
@@ -7,7 +8,6 @@ use join_keys::keys::run_end;
 use join_nodes::Progress;
 use join_nodes::Settings;
 use join_nodes::Walked;
-use kept_rows::record::record_row;
 use kept_rows::rows::keep_list;
 use word_lists::words::word_at;
 ghost use mathlib.Core.List.{List};
@@ -20,7 +20,7 @@ ghost use Rattle.join_index.specs.Runs.{run};
 ghost use Rattle.join_check.specs.Checks.{RunsThere};
 ghost use Rattle.join_check.specs.Counters.{checksIn};
 ghost use Rattle.kept_rows.specs.Keeping.{ListThere};
-ghost use Rattle.kept_rows.specs.Recording.{RecordThere};
+ghost use Rattle.checked_rows.specs.Recording.{RecordThere};
 ghost use Rattle.join_nodes.specs.Rows.{pathPairs};
 ghost use Rattle.join_nodes.specs.Narrowing.{SomePath};
 ghost use Rattle.join_nodes.specs.Visiting.{RunVisited, Merged};

@@ -27,8 +27,8 @@ use Rattle.join_index.specs.Asking.{LeftThere}
 use Rattle.join_index.specs.Runs.{run}
 use Rattle.join_check.specs.declared.Tally.{Tally}
 use Rattle.kept_rows.specs.Kept.{containedAt, containing}
-use Rattle.kept_rows.specs.Recording.{RecordThere, RowRecorded}
-use Rattle.kept_rows.specs.declared.record.Recorded.{Recorded}
+use Rattle.checked_rows.specs.Recording.{RecordThere, RowRecorded}
+use Rattle.checked_rows.specs.declared.Recorded.{Recorded}
 use Rattle.join_nodes.specs.Rows.{row as counted, pathPairs}
 use Rattle.join_nodes.specs.Visiting.{Merged, RunVisited}
 use Rattle.join_nodes.specs.declared.Progress.{Progress}

@@ -1,5 +1,6 @@
 // A left set that is alone at its node, under the rule that always goes on: it pairs by path with exactly the right sets that
 // contain it, however many of its ranks are left, so they are found at once.
+use checked_rows::record_row;
 use join_blocks::add_paths;
 use join_check::Tally;
 use join_index::Layout;
@@ -7,7 +8,6 @@ use join_keys::keys::key_at;
 use join_nodes::Progress;
 use join_nodes::Settings;
 use join_spec::Rule;
-use kept_rows::record::record_row;
 use word_lists::words::word_at;
 ghost use mathlib.Core.Bool.{true, false};
 ghost use mathlib.Core.Path.{_≡_};

@@ -2,4 +2,3 @@
 pub mod RowLaws
 pub mod Clearing
 pub mod Sharing
-pub mod RecordLaws

@@ -3,36 +3,22 @@
 use Prim.Native.Nat.{ℕ, _+_, _-_, _≤_, _<_}
 use mathlib.Core.Path.{_≡_, refl, sym, ap, subst, _∙_}
 use mathlib.Core.List.{List}
-use mathlib.Core.Bool.{true}
 use native.Mathlib.Omega.{arith}
 use lib.ListN.{length, take}
 use Rattle.lists.specs.Lists.{slice}
-use Rattle.lists.proofs.Throughout.{all-intro}
-use Rattle.lists.proofs.Filtering.{keep-all}
 use Rattle.lists.proofs.Slices.{frame-less, frame-at}
 use Rattle.join_spec.specs.Query.{Query}
 use Rattle.join_index.specs.declared.Layout.{Layout}
 use Rattle.word_lists.specs.Words.{Word}
 use Rattle.word_flags.specs.Flags.{Behind}
-use Rattle.word_flags.proofs.Keeping.{Keeping, keeping-end}
+use Rattle.word_copies.specs.Copies.{Copied}
 use Rattle.join_index.specs.Asking.{Some, Index}
 use Rattle.join_index.specs.Runs.{leftIn}
 use Rattle.join_index.proofs.Orders.{order-within, run-left}
 use Rattle.kept_rows.specs.Kept.{containing, RowIs, RowsKept}
-use Rattle.kept_rows.specs.Keeping.{WordsRoom, rowStored, Copied, ShareThere, Shared, ListThere, ListKept}
+use Rattle.kept_rows.specs.Keeping.{WordsRoom, rowStored, ShareThere, Shared, ListThere, ListKept}
 use Rattle.kept_rows.proofs.RowLaws.{index-kept, row-moved, rows-grown, rows-stored, words-room}
 use Rattle.kept_rows.proofs.RowLaws.{stored-slice, stored-frame, stored-size}
-
--- a copy of the whole part
-pub copying-end : {w₀ w : List ℕ} {from to top i n : ℕ} → Keeping (λ s. true) w₀ from to top w i n → n + (to - i) ≡ top + (to - from)
-    → to ≤ i → Copied from to top w₀ w n
-copying-end {w₀} {w} {from} {to} {top} {i} {n} so past low =
-    let kept = keeping-end so low in
-    record {
-      changed = kept .changed;
-      past = omega (arith, past, low);
-      is = kept .is ∙ keep-all (λ s. true) (slice from to w₀) (all-intro (λ s. true) (slice from to w₀) (λ s m. refl));
-    }
 
 -- the left set at a place of the order stays
 order-stays : {lay : Layout} {q : Query} {w : List ℕ} (v : List ℕ) (i : ℕ) → Index lay q w → i < length (q .lefts)

@@ -1,10 +1,9 @@
 -- Inner: what the functions that keep rows as they stand ask and answer. Nothing below the rows' words changes.
-use Prim.Native.Nat.{ℕ, _+_, _-_, _≤_, _<_}
+use Prim.Native.Nat.{ℕ, _+_, _≤_, _<_}
 use mathlib.Core.Path.{_≡_}
 use mathlib.Core.List.{List}
 use lib.ListN.{length, set, take}
 use Rattle.lists.specs.Lists.{slice}
-use Rattle.lists.specs.Parts.{Changed}
 use Rattle.sets.specs.Limits.{fullWords}
 use Rattle.join_spec.specs.Query.{Query}
 use Rattle.join_index.specs.declared.Layout.{Layout}
@@ -33,12 +32,6 @@ pub record WordsRoom (lay : Layout) (k from to : ℕ) (w : List ℕ) : Type 0 wh
 -- the words of the row of k say from where up to where it lies
 abbrev pub rowStored : Layout → ℕ → ℕ → ℕ → List ℕ → List ℕ
 rowStored lay k from to w = set (set w (lay .«row_starts» + k) from) (lay .«row_ends» + k) to
-
--- w became w′: from top up to r stands a copy of the part
-pub record Copied (from to top : ℕ) (w w′ : List ℕ) (r : ℕ) : Type 0 where
-  pub changed : Changed top (top + (to - from)) w w′
-  pub past : r ≡ top + (to - from)
-  pub is : slice top r w′ ≡ slice from to w
 
 -- the part of the work list, at the end of the rows, is the row of each of the left sets at the places lo up to hi of the order
 pub record ShareThere (lay : Layout) (q : Query) (w : List ℕ) (lo hi from to : ℕ) : Type 0 where

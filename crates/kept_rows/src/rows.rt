@@ -1,11 +1,10 @@
 // Rows that are kept as they stand: no row at first, and then one shared row for left sets that the same right sets contain.
 use join_index::Layout;
+use word_copies::copy_words;
 use word_lists::words::word_at;
 ghost use mathlib.Core.Path.{_≡_};
-ghost use Rattle.word_flags.specs.Flags.{Behind};
 ghost use Rattle.join_index.specs.Asking.{Some};
-ghost use Rattle.kept_rows.specs.Keeping.{ClearThere, Cleared, WordsRoom, rowStored, Copied};
-ghost use Rattle.kept_rows.specs.Keeping.{ShareThere, Shared, ListThere, ListKept};
+ghost use Rattle.kept_rows.specs.Keeping.{ClearThere, Cleared, WordsRoom, rowStored, ShareThere, Shared, ListThere, ListKept};
 
 // No left set has a row.
 pub fn clear_rows(work: &mut [u32], lay: Layout, lefts: usize)
@@ -27,22 +26,6 @@ pub fn keep_row(work: &mut [u32], lay: Layout, k: usize, from: usize, to: usize)
 {
     work[lay.row_starts + k] = from as u32;
     work[lay.row_ends + k] = to as u32;
-}
-
-// Copies a part of the work list to the words from top on, and returns where the copy ends.
-fn copy_words(work: &mut [u32], from: usize, to: usize, top: usize) -> usize
-    requires { ⌜ Behind from to top (now work) ⌝ }
-    ensures { λ r. ⌜ Copied from to top (now (work .entry)) (now (work .exit)) r ⌝ }
-{
-    let mut i = from;
-    let mut n = top;
-    while i < to {
-        let s = work[i];
-        work[n] = s;
-        n += 1;
-        i += 1;
-    }
-    n
 }
 
 // The left sets at the places lo up to hi of the order share one row, which lies from one place of the work list up to another.

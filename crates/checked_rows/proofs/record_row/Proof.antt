@@ -1,13 +1,13 @@
--- `kept_rows::record::record_row` meets its contract. The invariant is `Recording`: the confirmed ones of the places so far stand
+-- `checked_rows::record_row` meets its contract. The invariant is `Recording`: the confirmed ones of the places so far stand
 -- from top on, and the counters have their checks. The measure is how many places are to come.
 use Prim.Native.Nat.{_+_, _-_, _<_}
 use native.Mathlib.Omega.{arith}
 use lib.ListN.{length, set}
 use Rattle.sets.specs.Limits.{fullWords}
-use Rattle.kept_rows.proofs.RecordLaws.{Recording, recording-start, recording-step, recording-end, recording-grows}
-use Rattle.kept_rows.proofs.RecordLaws.{recording-read, recording-room, recording-right, recording-rising, row-room}
-use Rattle.kept_rows.proofs.record.record_row.Statement.{statement}
-use Rattle.kept_rows.proofs.record.record_row.Tie as tie
+use Rattle.checked_rows.proofs.RecordLaws.{Recording, recording-start, recording-step, recording-end, recording-grows}
+use Rattle.checked_rows.proofs.RecordLaws.{recording-read, recording-room, recording-right, recording-rising, row-room}
+use Rattle.checked_rows.proofs.record_row.Statement.{statement}
+use Rattle.checked_rows.proofs.record_row.Tie as tie
 
 abbrev Inv-loop : tie.InvT-loop
 Inv-loop work₀ lay k e from to top p r₀ n₀ i₀ work r n i = Recording lay work₀ k e from to top r₀ work r n i

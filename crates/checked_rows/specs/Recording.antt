@@ -8,8 +8,8 @@ use Rattle.join_spec.specs.Query.{Query}
 use Rattle.join_index.specs.declared.Layout.{Layout}
 use Rattle.join_check.specs.declared.Tally.{Tally}
 use Rattle.join_check.specs.Checks.{RowThere, RowChecked}
 use Rattle.kept_rows.specs.Kept.{containedAt, containing, RowsKept}
-use Rattle.kept_rows.specs.declared.record.Recorded.{Recorded}
+use Rattle.checked_rows.specs.declared.Recorded.{Recorded}
 
 -- the left set k can be checked so, no right set that contains it is missing from the places, in their order, and from top on
 -- there is room for all of them

@@ -1,15 +1,16 @@
-// A row that is kept while its left set is checked.
-use crate::rows::keep_row;
+// Rows that are kept while their left set is checked: the places of the right sets that a check confirms, stored at the end of the
+// kept rows as they are found.
 use join_check::Tally;
 use join_check::checks::check_one;
 use join_check::checks::probe_left;
 use join_index::Layout;
+use kept_rows::rows::keep_row;
 use word_lists::words::word_at;
 ghost use Prim.Native.Nat.{_+_, _-_, _<_};
 ghost use Rattle.sets.specs.Limits.{fullWords};
 ghost use Rattle.join_index.specs.Asking.{Some};
 ghost use Rattle.join_check.specs.Counters.{checksIn};
-ghost use Rattle.kept_rows.specs.Recording.{RecordThere, RowRecorded};
+ghost use Rattle.checked_rows.specs.Recording.{RecordThere, RowRecorded};
 
 // The counters after the checks of a row, and where the kept rows end.
 pub struct Recorded {

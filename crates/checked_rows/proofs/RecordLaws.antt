@@ -27,10 +27,10 @@ use Rattle.join_check.specs.Probes.{Probed, OneChecked, probeOutcome}
 use Rattle.join_index.proofs.Places.{place-right}
 use Rattle.join_check.proofs.Tallying.{tallied-same, probe-rising, probe-check}
 use Rattle.join_check.proofs.RowChecks.{RowChecking, row-start, row-step, row-end, check-confirmed}
 use Rattle.kept_rows.specs.Kept.{containedAt, containing, RowIs, RowsKept}
 use Rattle.kept_rows.specs.Keeping.{WordsRoom, rowStored}
-use Rattle.kept_rows.specs.Recording.{RecordThere, RowRecorded}
 use Rattle.kept_rows.proofs.RowLaws.{index-kept, rows-grown, rows-stored, words-room, stored-frame, stored-size}
+use Rattle.checked_rows.specs.Recording.{RecordThere, RowRecorded}
 
 -- the confirmed ones of the places up to i stand from top up to n
 pub record Recording (lay : Layout) (w₀ : List ℕ) (k e from to top : ℕ) (tally : Tally) (w : List ℕ) (r : Tally) (n i : ℕ)

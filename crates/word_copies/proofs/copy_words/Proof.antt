@@ -1,13 +1,13 @@
--- `kept_rows::rows::copy_words` meets its contract. The invariant: what was written, with the rest of the part, is the part. The
+-- `word_copies::copy_words` meets its contract. The invariant: what was written, with the rest of the part, is the part. The
 -- measure is what remains of it.
 use Prim.Native.Nat.{_+_, _-_}
 use mathlib.Core.Path.{_≡_, refl}
 use mathlib.Core.Bool.{true}
 use native.Mathlib.Omega.{arith}
 use Rattle.word_flags.proofs.Keeping.{Keeping, keeping-start, keeping-step}
-use Rattle.kept_rows.proofs.Sharing.{copying-end}
-use Rattle.kept_rows.proofs.rows.copy_words.Statement.{statement}
-use Rattle.kept_rows.proofs.rows.copy_words.Tie as tie
+use Rattle.word_copies.proofs.Copying.{copying-end}
+use Rattle.word_copies.proofs.copy_words.Statement.{statement}
+use Rattle.word_copies.proofs.copy_words.Tie as tie
 
 abbrev Inv-loop : tie.InvT-loop
 Inv-loop work₀ from to top i₀ n₀ work i n = Keeping (λ s. true) work₀ from to top work i n × (n + (to - i) ≡ top + (to - from))

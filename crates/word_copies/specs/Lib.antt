@@ -1,0 +1,2 @@
+-- Contents: a part of a list of words and its copy.
+pub mod Copies
