@@ -1,30 +1,26 @@
 -- After the walk: it can begin over the index that was built, the pairs are those by path and those confirmed, and its counters
 -- make the answer.
 use Prim.Native.Nat.{ℕ, _+_, _*_, _≤_, _<_}
-use mathlib.Core.Path.{_≡_, refl, sym, ap, _∙_}
+use mathlib.Core.Path.{_≡_, refl, sym, _∙_}
 use mathlib.Core.List.{List}
-use mathlib.Core.Bool.{Bool, true, false, cond}
+use mathlib.Core.Bool.{Bool, false}
 use native.Mathlib.Omega.{arith}
-use borrow.Author.Tests.{lt-ltb, le-ltb}
-use lib.Dec.{ltb}
 use lib.ListN.{length}
 use Rattle.sets.specs.Limits.{maxPairs, fullWords}
 use Rattle.sets.proofs.Good.{good-places}
 use Rattle.sets.proofs.Ordered.{items-below}
 use Rattle.join_spec.specs.declared.Rule.{Rule}
 use Rattle.join_spec.specs.declared.Counts.{Counts}
-use Rattle.sets.specs.declared.Refusal.the-variants.{Spent, ShortPairs}
 use Rattle.join_spec.specs.declared.JoinAnswer.{JoinAnswer}
-use Rattle.join_spec.specs.declared.JoinAnswer.the-variants.{Joined, Refused}
 use Rattle.join_spec.specs.PairList.{pairCount}
 use Rattle.inputs.specs.Input.{Input}
 use Rattle.join_spec.specs.Query.{Query, query}
 use Rattle.join_spec.specs.Walk.{Outcome}
-use Rattle.join_spec.specs.Counting.{total, checksOf, countsOf, isByPath, isConfirmed, isDropped, isFalse}
+use Rattle.join_spec.specs.Counting.{total, countsOf, isByPath, isConfirmed, isDropped, isFalse}
 use Rattle.join_spec.specs.Kinds.{pathPair, confirmedCheck, droppedCheck, falseCheck}
-use Rattle.join_spec.specs.Answer.{walkAnswer, workKept}
+use Rattle.join_spec.specs.Answer.{walkAnswer}
 use Rattle.join_spec.proofs.Demand.{pairs-met, checks-end, total-small}
-use Rattle.join_spec.proofs.Accepted.{Tests, spent-above, within-joined}
+use Rattle.join_spec.proofs.Accepted.{Tests}
 use Rattle.sets.proofs.Between.{length-sets}
 use Rattle.inputs.proofs.TestLaws.{words-for}
 use Rattle.join_build.specs.Building.{BuildRoom}
@@ -35,7 +31,10 @@ use Rattle.join_nodes.specs.declared.Walked.{Walked}
 use Rattle.join_nodes.proofs.FrameLaws.{index-framed}
 use Rattle.join_walk.specs.Partitions.{WalkReady, WalkDone}
 use Rattle.join_pairs.specs.Writing.{PairsRoom}
+use Rattle.tally_answer.specs.Answering.{SumsFit, tallyCounts, tallyAnswer}
+use Rattle.tally_answer.proofs.AnswerLaws.{joined-enough, refused-clears, tally-walk}
 use Rattle.join.specs.Ready.{Accepted}
+use Rattle.join_output.specs.Output.{AnswerRoom}
 
 -- the query of an input and the settings that bear on the walk
 abbrev pub queryBy : Input → ℕ → List ℕ → Rule → Query
@@ -48,23 +47,6 @@ counts-same : {a a′ b b′ c c′ d d′ e e′ f f′ : ℕ} → a ≡ a′ �
     (record { pairs = a′; «by_path» = b′; confirmed = c′; checks = d′; dropped = e′; «false_drops» = f′ })
 counts-same p q r s t u =
     λ i. record { pairs = p i; «by_path» = q i; confirmed = r i; checks = s i; dropped = t i; «false_drops» = u i }
-
--- fewer places than the pairs need
-pub short-places : (q : Query) (budget room : ℕ) → checksOf q ≤ budget → room < 2 * pairCount (q .lefts) (q .rights)
-    → Refused ShortPairs ≡ walkAnswer q budget room
-unfolding walkAnswer
-short-places q budget room within short =
-    rw (le-ltb budget (checksOf q) within, lt-ltb room (2 * pairCount (q .lefts) (q .rights)) short)
-
--- a walk's answer never leaves the work list as it was by promise
-pub walk-uses : (q : Query) (budget room : ℕ) {r : JoinAnswer} → r ≡ walkAnswer q budget room → workKept r ≡ false
-unfolding walkAnswer
-walk-uses q budget room is = ap workKept is ∙ go (ltb budget (checksOf q)) (ltb room (2 * pairCount (q .lefts) (q .rights)))
-  where
-    go : (a b : Bool) → workKept (cond a (Refused Spent) (cond b (Refused ShortPairs) (Joined (countsOf q)))) ≡ false
-    go true b = refl
-    go false true = refl
-    go false false = refl
 
 module _ {i : Input} {limit : ℕ} {ranks : List ℕ} {words : ℕ} (ok : Tests i limit ranks words) (rule : Rule) where
   abbrev q : Query
@@ -121,9 +103,6 @@ module _ {i : Input} {limit : ℕ} {ranks : List ℕ} {words : ℕ} {rule : Rule
   abbrev asked : Query
   asked = queryBy i limit ranks rule
 
-  pub answer-spent : (places : ℕ) → r .spent ≡ true → Refused Spent ≡ walkAnswer asked budget places
-  answer-spent places spent = sym (spent-above asked budget places (done .counted .beyond spent))
-
   module _ (calm : r .spent ≡ false) where
     pub count-is : r .at .tally .«by_path» + r .at .tally .confirmed ≡ pairCount (asked .lefts) (asked .rights)
     count-is = omega (arith, done .counted .counts calm pathPair, done .counted .counts calm confirmedCheck, all-met ok rule)
@@ -150,10 +129,6 @@ module _ {i : Input} {limit : ℕ} {ranks : List ℕ} {words : ℕ} {rule : Rule
           small ok rule isConfirmed,
         )
 
-    pub answer-short : (places : ℕ) → places < 2 * (r .at .tally .«by_path» + r .at .tally .confirmed)
-        → Refused ShortPairs ≡ walkAnswer asked budget places
-    answer-short places short = short-places asked budget places (done .counted .within calm) (omega (arith, short, count-is))
-
     pub pairs-room : Index lay asked w → (pairs : List ℕ) → 2 * (r .at .tally .«by_path» + r .at .tally .confirmed) ≤ length pairs
         → PairsRoom lay asked w′ (length (i .left .ends)) pairs
     pairs-room index pairs enough =
@@ -165,20 +140,10 @@ module _ {i : Input} {limit : ℕ} {ranks : List ℕ} {words : ℕ} {rule : Rule
           room = omega (arith, count-is);
         }
 
-    pub answer-joined : (places : ℕ) → 2 * (r .at .tally .«by_path» + r .at .tally .confirmed) ≤ places
-        → Joined (record {
-          pairs = r .at .tally .«by_path» + r .at .tally .confirmed;
-          «by_path» = r .at .tally .«by_path»;
-          confirmed = r .at .tally .confirmed;
-          checks = r .at .tally .dropped + (r .at .tally .«false_drops» + r .at .tally .confirmed);
-          dropped = r .at .tally .dropped;
-          «false_drops» = r .at .tally .«false_drops»;
-        })
-        ≡ walkAnswer asked budget places
-    answer-joined places enough =
+    pub counts-are : tallyCounts (r .at .tally) ≡ countsOf asked
+    counts-are =
         let counted = done .counted in
-        ap Joined
-        (counts-same count-is (counted .counts calm pathPair) (counted .counts calm confirmedCheck)
+        counts-same count-is (counted .counts calm pathPair) (counted .counts calm confirmedCheck)
         (omega (
           arith,
           counted .counts calm droppedCheck,
@@ -186,8 +151,29 @@ module _ {i : Input} {limit : ℕ} {ranks : List ℕ} {words : ℕ} {rule : Rule
           counted .counts calm confirmedCheck,
           checks-end asked,
         ))
-        (counted .counts calm droppedCheck) (counted .counts calm falseCheck))
-        ∙ sym (within-joined asked budget places (done .counted .within calm) (omega (arith, enough, count-is)))
+        (counted .counts calm droppedCheck) (counted .counts calm falseCheck)
+
+  pub sums-fit : SumsFit (r .spent) (r .at .tally)
+  sums-fit = record { pairs = count-small; checks = checks-small }
+
+  -- the answer by the counters is the walk's
+  pub answer-is : (places : ℕ) {answer : JoinAnswer} → answer ≡ tallyAnswer (r .spent) (r .at .tally) places
+      → answer ≡ walkAnswer asked budget places
+  answer-is places is =
+      is
+      ∙ tally-walk asked budget (r .spent) (r .at .tally) places (done .counted .beyond) (done .counted .within) counts-are
+
+  -- and there is room for what it has written
+  pub answer-room : Index lay asked w → (pairs : List ℕ) {answer : JoinAnswer}
+      → answer ≡ tallyAnswer (r .spent) (r .at .tally) (length pairs)
+      → AnswerRoom lay asked w′ (length (i .left .ends)) answer pairs
+  answer-room index pairs is =
+      record {
+        joined = λ counts has.
+            let enough = joined-enough (r .spent) (r .at .tally) (length pairs) (sym is ∙ has) in
+            pairs-room (enough .0) index pairs (enough .1);
+        refused = λ why has. refused-clears (r .spent) (r .at .tally) (length pairs) (sym is ∙ has);
+      }
 
 -- what the index asks of an input that passed the tests
 pub build-room : {i : Input} {limit : ℕ} {ranks w : List ℕ} → Accepted i limit ranks w

@@ -1,12 +1,17 @@
--- A join whose rule is a number: the rule of each, and a call where the number is above 2 and where it isn't.
-use Prim.Native.Nat.{ℕ, _≤_, _<_}
+-- A join whose rule is a number: the rule of each, and a call where the number's test fails and where it passes.
+use Prim.Native.Nat.{ℕ}
 use mathlib.Core.Path.{_≡_, refl, sym, ap, subst, _∙_}
 use mathlib.Core.List.{List}
-use mathlib.Core.Bool.{Bool, cond}
-use borrow.Author.Tests.{eq-eqb, ne-eqb, lt-ltb, le-ltb}
-use lib.Dec.{eqb}
-use Rattle.sets.specs.Refusals.{refuseIf, unless}
+use mathlib.Core.Bool.{Bool, true, false, cond}
+use native.Mathlib.Omega.{arith}
+use borrow.Author.Tests.{eq-eqb, ne-eqb}
+use lib.Dec.{eqb, ltb}
+use Rattle.sets.specs.Refusals.{refuseIf, unless, clears}
+use Rattle.sets.specs.declared.Refusal.{Refusal}
 use Rattle.sets.specs.declared.Refusal.the-variants.{BadSettings}
+use Rattle.sets.specs.declared.Tested.{Tested}
+use Rattle.sets.specs.declared.Tested.the-variants.{Passed, Failed}
+use Rattle.sets.proofs.Testing.{failed-same}
 use Rattle.inputs.specs.Input.{Input}
 use Rattle.join_spec.specs.declared.Rule.{Rule}
 use Rattle.join_spec.specs.declared.Rule.the-variants.{Merge, Check, Weighed}
@@ -36,31 +41,35 @@ rule-weighed number weights n e =
 
 module _ (i : Input) (limit : ℕ) (ranks : List ℕ) (budget number : ℕ) (weights : Weights) (work pairs : List ℕ) where
   -- the answer by what the test of the number says
-  by-test : Bool → JoinAnswer
-  by-test above =
-      unless Refused (refuseIf above BadSettings)
-      (joinAnswer i (settingsOf limit ranks budget (ruleOf number weights)) (roomOf work pairs))
+  by-test : Tested → JoinAnswer
+  by-test tested =
+      unless Refused tested (joinAnswer i (settingsOf limit ranks budget (ruleOf number weights)) (roomOf work pairs))
 
   abbrev right : JoinAnswer
   right = numberedAnswer i limit ranks budget number weights (roomOf work pairs)
 
-  -- a greater number changes nothing
-  pub number-above : 2 < number → JoinCall right i work pairs work pairs (Refused BadSettings)
+  -- what its test refuses changes nothing
+  pub number-failed : {why : Refusal} → refuseIf (ltb 2 number) BadSettings ≡ Failed why
+      → JoinCall right i work pairs work pairs (Refused why)
   unfolding numberedAnswer by-test
-  number-above above =
-      record { answer = sym (ap by-test (lt-ltb 2 number above)); pairs = refl; work-size = refl; work-kept = λ kept. refl }
+  number-failed {why} e =
+      record { answer = sym (ap by-test e); pairs = sym (rw (keeps (ltb 2 number) e)); work-size = refl; work-kept = λ kept. refl }
+    where
+      keeps : (above : Bool) → refuseIf above BadSettings ≡ Failed why → clears why ≡ false
+      keeps true h = ap clears (sym (failed-same BadSettings why h))
+      keeps false h = let z : _≡_ {A = ℕ} 0 1 = cc in absurd (omega arith)
 
-  -- and one up to 2 is the run under its rule
-  pub number-within : (rule : Rule) {work′ pairs′ : List ℕ} {r : JoinAnswer} → number ≤ 2 → rule ≡ ruleOf number weights
-      → RunCall i (settingsOf limit ranks budget rule) work pairs work′ pairs′ r
+  -- and a number that passes it is the run under its rule
+  pub number-passed : (rule : Rule) {work′ pairs′ : List ℕ} {r : JoinAnswer} → refuseIf (ltb 2 number) BadSettings ≡ Passed
+      → rule ≡ ruleOf number weights → RunCall i (settingsOf limit ranks budget rule) work pairs work′ pairs′ r
       → JoinCall right i work pairs work′ pairs′ r
   unfolding numberedAnswer by-test
-  number-within rule within is call =
+  number-passed rule passed is call =
       record {
         answer =
             call .answer
             ∙ ap (λ (r : Rule). joinAnswer i (settingsOf limit ranks budget r) (roomOf work pairs)) is
-            ∙ sym (ap by-test (le-ltb 2 number within));
+            ∙ sym (ap by-test passed);
         pairs = call .pairs;
         work-size = call .work-size;
         work-kept = call .work-kept;

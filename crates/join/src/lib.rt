@@ -3,16 +3,15 @@ use join_build::build;
 use join_index::Layout;
 use join_nodes::Settings;
 use join_nodes::Walked;
-use join_pairs::write_pairs;
-use join_spec::Counts;
+use join_output::write_answer;
 use join_spec::JoinAnswer;
 use join_spec::Rule;
 use join_spec::Weights;
 use join_tests::test_join;
+use join_tests::test_rule;
 use join_walk::walk;
-use lists::zero_u16;
-use sets::Refusal;
 use sets::Tested;
+use tally_answer::answer_tally;
 use word_flags::clear_flags;
 ghost use mathlib.Core.Path.{_≡_};
 ghost use lib.ListN.{length};
@@ -24,7 +23,7 @@ ghost use Rattle.join_spec.specs.Answer.{roomOf, walkAnswer, pairsAfter, JoinCa
 ghost use Rattle.join.specs.Ready.{Accepted};
 ghost use Rattle.join.specs.Numbered.{ruleOf, numberedAnswer};
 
-// The join of an input that passed those tests: the index, the walk, and then 8, 9 or the pair list.
+// The join of an input that passed the tests before the walk: the index, the walk, the answer by its counters, and the pair list.
 fn join_ready(
     t: u32,
     left_ends: &[u32],
@@ -67,25 +66,9 @@ fn join_ready(
     };
     let mut flags = clear_flags();
     let walked = walk(work, &mut flags, lay, st, lefts);
-    if walked.spent {
-        zero_u16(pairs);
-        return JoinAnswer::Refused(Refusal::Spent);
-    }
-    let tally = walked.at.tally;
-    let count = tally.by_path + tally.confirmed;
-    if pairs.len() < 2 * (count as usize) {
-        zero_u16(pairs);
-        return JoinAnswer::Refused(Refusal::ShortPairs);
-    }
-    write_pairs(work, &mut flags, lay, lefts, pairs);
-    JoinAnswer::Joined(Counts {
-        pairs: count,
-        by_path: tally.by_path,
-        confirmed: tally.confirmed,
-        checks: tally.dropped + (tally.false_drops + tally.confirmed),
-        dropped: tally.dropped,
-        false_drops: tally.false_drops,
-    })
+    let answer = answer_tally(walked.spent, walked.at.tally, pairs.len());
+    write_answer(work, &mut flags, lay, lefts, answer, pairs);
+    answer
 }
 
 // The join of two collections under a limit, a rank table, a budget of checks and a merge rule, over a lent work list and pair
@@ -171,21 +154,24 @@ pub fn run_numbered(
         (inputOf t (now («left_ends» .entry)) (now («left_items» .entry)) (now («right_ends» .entry)) (now («right_items» .entry)))
         (now (work .entry)) (now (pairs .entry)) (now (work .exit)) (now (pairs .exit)) r ⌝ }
 {
-    if 2 < number {
-        return JoinAnswer::Refused(Refusal::BadSettings);
+    let tested = test_rule(number);
+    match tested {
+        Tested::Failed(why) => JoinAnswer::Refused(why),
+        Tested::Passed => {
+            let rule = rule_of(number, weights);
+            run(
+                t,
+                left_ends,
+                left_items,
+                right_ends,
+                right_items,
+                limit,
+                ranks,
+                budget,
+                rule,
+                work,
+                pairs,
+            )
+        }
     }
-    let rule = rule_of(number, weights);
-    run(
-        t,
-        left_ends,
-        left_items,
-        right_ends,
-        right_items,
-        limit,
-        ranks,
-        budget,
-        rule,
-        work,
-        pairs,
-    )
 }

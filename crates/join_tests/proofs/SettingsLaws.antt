@@ -1,11 +1,13 @@
--- The settings' four tests one by one, and the tests of a join in their order.
+-- The settings' four tests one by one, the tests of a join in their order, and the test of a rule's number.
 use Prim.Native.Nat.{ℕ, _≤_, _<_}
 use mathlib.Core.Path.{_≡_}
 use mathlib.Core.List.{List}
 use mathlib.Core.Bool.{true, false, not}
+use lib.Dec.{ltb}
 use borrow.Author.Tests.{lt-ltb, le-ltb, eq-eqb, ne-eqb}
 use Rattle.sets.specs.Limits.{maxItems, maxLimit}
 use Rattle.sets.specs.Ordered.{isPermutation}
+use Rattle.sets.specs.Refusals.{refuseIf}
 use Rattle.sets.specs.declared.Refusal.{Refusal}
 use Rattle.sets.specs.declared.Refusal.the-variants.{BadSettings}
 use Rattle.sets.specs.declared.Tested.the-variants.{Passed, Failed}
@@ -54,3 +56,11 @@ module _ (i : Input) (limit : ℕ) (ranks : List ℕ) (words : ℕ) where
     -- what was tested so far keeps the sizes small
     pub sizes : setsTest i ≡ Passed → Sized (i .T) (i .left .ends) (i .right .ends)
     sizes passed = sized i (good-settings (i .T) limit ranks good .few-items) (sets-good i passed)
+
+-- a rule's number
+module _ (number : ℕ) where
+  pub rule-above : 2 < number → Failed BadSettings ≡ refuseIf (ltb 2 number) BadSettings
+  rule-above above = rw (lt-ltb 2 number above)
+
+  pub rule-within : number ≤ 2 → Passed ≡ refuseIf (ltb 2 number) BadSettings
+  rule-within within = rw (le-ltb 2 number within)

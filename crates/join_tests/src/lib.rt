@@ -1,4 +1,5 @@
-// The tests of a join before its walk, in the table's order: settings, sets of each side, work list.
+// The tests of a join before its walk, in the table's order: settings, sets of each side, work list; and of a rule that is a
+// number.
 use inputs::test_sets;
 use inputs::test_work;
 use rank_tests::is_permutation;
@@ -7,6 +8,9 @@ use sets::MAX_LIMIT;
 use sets::Refusal;
 use sets::Tested;
 ghost use mathlib.Core.Path.{_≡_};
+ghost use lib.Dec.{ltb};
+ghost use Rattle.sets.specs.Refusals.{refuseIf};
+ghost use Rattle.sets.specs.declared.Refusal.the-variants.{BadSettings};
 ghost use Rattle.inputs.specs.Input.{inputOf};
 ghost use Rattle.join_spec.specs.Answer.{badSettings, joinTests};
 
@@ -48,4 +52,14 @@ pub fn test_join(
         Tested::Failed(why) => Tested::Failed(why),
         Tested::Passed => test_work(t, left_ends, left_items, right_ends, right_items, words),
     }
+}
+
+// The test of a rule's number: one above 2 is a bad setting.
+pub fn test_rule(number: u32) -> Tested
+    ensures { λ r. ⌜ r ≡ refuseIf (ltb 2 number) BadSettings ⌝ }
+{
+    if 2 < number {
+        return Tested::Failed(Refusal::BadSettings);
+    }
+    Tested::Passed
 }

@@ -1,18 +1,31 @@
 -- `run_numbered` meets its contract: a number above 2 is a bad setting, and else it is the run. The underscores are the join's
 -- inputs, which each goal names.
-use Rattle.join.proofs.ByNumber.{number-above, number-within}
+use mathlib.Core.Path.{sym, _∙_}
+use Rattle.join.proofs.ByNumber.{number-failed, number-passed}
 use borrow.Author.Needs.{needs}
 use Rattle.join.proofs.run_numbered.Statement.{statement}
 use Rattle.join.proofs.run_numbered.Tie as tie
 
-returns : tie.Need-returns
-returns c = number-above _ _ _ _ _ _ _ _ (c .if1 .taken)
+test-rule-requires : tie.Need-test-rule-requires
+test-rule-requires c κs = search needs
+
+enum-known-tested : tie.Need-enum-known-tested
+enum-known-tested c = search needs
+
+enum-told : tie.Need-enum-told
+enum-told c = search needs
 
 rule-of-requires : tie.Need-rule-of-requires
 rule-of-requires c κs = search needs
 
 run-requires : tie.Need-run-requires
 run-requires c κs = search needs
+
+returns : tie.Need-returns
+returns c =
+    let told = c .before in
+    let tested = told .before .before in
+    number-failed _ _ _ _ _ _ _ _ (sym (tested .test-rule .ensures) ∙ told .tested .given .1)
 
 same-length : tie.Need-same-length
 same-length c = search needs
@@ -24,9 +37,21 @@ returns-2 : tie.Need-returns-2
 returns-2 c =
     let joined = c .before .before .before .before in
     let ruled = joined .before .before .before in
-    let test = ruled .before in
-    number-within _ _ _ _ _ _ _ _ _ (test .if1 .left) (ruled .rule-of .ensures) (joined .run .ensures)
+    let told = ruled .before in
+    let tested = told .before .before in
+    number-passed _ _ _ _ _ _ _ _ _ (sym (tested .test-rule .ensures) ∙ told .enum-told .given .1) (ruled .rule-of .ensures)
+    (joined .run .ensures)
 
 pub run-numbered-spec : {M : Type 1} → statement M
 run-numbered-spec =
-    tie.close (tie.spec returns rule-of-requires run-requires same-length same-length-2 returns-2)
+    tie.close
+    (tie.spec
+    test-rule-requires
+    enum-known-tested
+    enum-told
+    rule-of-requires
+    run-requires
+    returns
+    same-length
+    same-length-2
+    returns-2)

@@ -1,0 +1,2 @@
+-- Laws of the pair list after an answer.
+pub mod OutputLaws

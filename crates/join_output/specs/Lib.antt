@@ -1,0 +1,2 @@
+-- Contents: what the function of this crate asks.
+pub mod Output
