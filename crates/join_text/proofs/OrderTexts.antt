@@ -26,7 +26,8 @@ use Rattle.join_spec.specs.Answer.{badSettings, joinTests}
 use Rattle.join_spec.proofs.Accepted.{answer-refused}
 use Rattle.tag_file.specs.declared.Repeats.{Repeats}
 use Rattle.text_lines.specs.Lines.{refusalLine}
-use Rattle.join_text.specs.JoinText.{programRoom, workWords, programSettings, answerText, joinText}
+use Rattle.answer_text.specs.AnswerText.{answerText}
+use Rattle.join_text.specs.JoinText.{programRoom, workWords, programSettings, joinText}
 
 -- a refused order failed its test
 failed-test : (t : Tested) (why : Refusal) → order.Refused why ≡ unless order.Refused t order.Ordered → t ≡ Failed why

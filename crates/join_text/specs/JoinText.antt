@@ -1,23 +1,21 @@
 -- The text that the program kitlist prints for a join of two numbered collections, with the repeats that were read with them: how
--- it joins, and its lines. Document 01, "The program kitlist"; document 02, C-15. Kits are left sets here and stacks right sets.
--- Its lines are defined in `text_lines`; the rank table and the join's answer are those of the operations.
+-- it joins. Document 01, "The program kitlist"; document 02, C-15. Kits are left sets here and stacks right sets. The text of an
+-- answer is defined in `answer_text`; the rank table and the join's answer are those of the operations.
 use Prim.Native.Nat.{ℕ, _*_, _-_, _≤_}
 use mathlib.Core.Path.{_≡_}
-use mathlib.Core.List.{List, _++_}
+use mathlib.Core.List.{List}
 use mathlib.Core.Bool.{false}
 use lib.ListN.{length}
 use Rattle.sets.specs.Limits.{fullWords}
 use Rattle.sets.specs.Lent.{filledOver}
 use Rattle.inputs.specs.Input.{Input, leftSets, rightSets}
 use Rattle.order_spec.specs.Order.{rankTable}
-use Rattle.join_spec.specs.declared.JoinAnswer.{JoinAnswer}
-use Rattle.join_spec.specs.declared.JoinAnswer.the-variants.{Joined, Refused}
 use Rattle.join_spec.specs.declared.Rule.the-variants.{Merge}
 use Rattle.join_spec.specs.PairList.{pairList}
 use Rattle.join_spec.specs.Query.{Settings, settingsOf}
 use Rattle.join_spec.specs.Answer.{Room, joinAnswer}
 use Rattle.tag_file.specs.declared.Repeats.{Repeats}
-use Rattle.text_lines.specs.Lines.{refusalLine, countsLine, repeatsLine, pairLines}
+use Rattle.answer_text.specs.AnswerText.{answerText}
 
 -- the words of the work list, and the places of the pair list: two for each of 8,192 pairs
 abbrev pub workWords : ℕ
@@ -36,12 +34,6 @@ settingsUnder ranks = settingsOf 2 ranks (fullWords - 1) Merge
 -- the same with ranks by rising frequency
 abbrev pub programSettings : Input → Settings
 programSettings i = settingsUnder (rankTable false (i .T) (leftSets i) (rightSets i))
-
--- the text of a join's answer: the counts, the repeats and a line for each pair, by its records' numbers; or the refusal alone
-abbrev pub answerText : Repeats → List ℕ → List ℕ → List ℕ → JoinAnswer → List ℕ
-answerText repeats leftNumbers rightNumbers pairs (Joined counts) =
-    countsLine counts ++ (repeatsLine repeats ++ pairLines leftNumbers rightNumbers pairs)
-answerText repeats leftNumbers rightNumbers pairs (Refused why) = refusalLine why
 
 -- the text of a join of two numbered collections
 unfoldable pub joinText : Repeats → List ℕ → List ℕ → Input → Settings → List ℕ

@@ -1,14 +1,11 @@
 // The text of a join of two numbered collections, written into a lent list of bytes: orders their items by rising frequency, joins
 // them, and writes the counts, the repeats that were read with them and a line for each pair, or why there is no list. What the
 // text is is defined in specs/.
-use join_spec::JoinAnswer;
+use answer_text::put_answer;
 use join_spec::Rule;
+use number_lines::put_refusal;
 use order_spec::OrderAnswer;
 use tag_file::Repeats;
-use text_lines::put_counts;
-use text_lines::put_pairs;
-use text_lines::put_refusal;
-use text_lines::put_repeats;
 ghost use mathlib.Core.Path.{_≡_};
 ghost use lib.ListN.{length};
 ghost use Rattle.inputs.specs.Input.{inputOf};
@@ -71,15 +68,7 @@ fn list_ordered(
         &mut work,
         &mut pairs,
     );
-    match answer {
-        JoinAnswer::Joined(counts) => {
-            let n = put_counts(text, counts);
-            let m = put_repeats(text, n, repeats);
-            let places = 2 * (counts.pairs as usize);
-            put_pairs(text, m, &pairs[..places], left_numbers, right_numbers)
-        }
-        JoinAnswer::Refused(why) => put_refusal(text, why),
-    }
+    put_answer(text, answer, repeats, &pairs, left_numbers, right_numbers)
 }
 
 // The text of a join of collections: their items are ordered by rising frequency first.

@@ -3,6 +3,7 @@
 // What the text is is defined in specs/.
 use join_text::MAX_PAIRS;
 use join_text::list_loaded;
+use number_lines::put_refusal;
 use sets::MAX_ITEMS;
 use sets::MAX_SETS;
 use sets::Refusal;
@@ -10,7 +11,6 @@ use tag_file::LoadAnswer;
 use tag_file::Loaded;
 use tag_file::Repeats;
 use tag_file::TAG_LENGTH;
-use text_lines::put_refusal;
 ghost use mathlib.Core.Path.{_≡_};
 ghost use Prim.Native.Nat.{_≤_};
 ghost use lib.ListN.{length};

@@ -1,5 +1,3 @@
--- Contents: decimal numbers, the bytes that a line takes at most, and pairs of places.
+-- Contents: decimal numbers, and the bytes that a word before a number takes at most.
 pub mod Decimals
 pub mod LineBounds
-pub mod PairPlaces
-pub mod LineSteps

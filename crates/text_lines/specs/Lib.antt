@@ -1,3 +1,3 @@
--- Contents: what the program kitlist prints, line by line, and the room that its lines need.
+-- Contents: what the program kitlist prints, line by line, and the room that two numbers need.
 pub mod Lines
 pub mod Room

@@ -25,49 +25,40 @@ Inv-loop text₀ at word n₀ i₀ text n i = Writing text₀ at word text n (dr
 abbrev μ-loop : tie.MeasureT-loop
 μ-loop text₀ at word n₀ i₀ text n i = length word - i
 
--- src/lib.rt:21:5
 loop-holds : tie.Need-loop-holds Inv-loop μ-loop
 loop-holds c = writing-start _ _ _ (c .pre)
 
 byte-room : (c : tie.After-shared-slice-known Inv-loop μ-loop) → c .before .before .loop .n + 1 ≤ length (c .before .before .loop .text)
 byte-room c = writing-room (c .before .before .loop .inv) (_ ∷ []) _ (byte-next _ _ (c .before .loop-test .taken))
 
--- src/lib.rt:22:19
 shared-slice-read-text : tie.Need-shared-slice-read-text Inv-loop μ-loop
 shared-slice-read-text c =
     c .before .loop-test .taken
 
--- src/lib.rt:22:9
 slice-write-text : tie.Need-slice-write-text Inv-loop μ-loop
 slice-write-text c =
     omega (arith, byte-room c)
 
--- src/lib.rt:23:9
 add-n : tie.Need-add-n Inv-loop μ-loop
 add-n c =
     omega (arith, byte-room c)
 
--- src/lib.rt:24:9
 add-i : tie.Need-add-i Inv-loop μ-loop
 add-i c =
     omega arith
 
--- src/lib.rt:21:5
 loop-less : tie.Need-loop-less Inv-loop μ-loop
 loop-less c =
     omega arith
 
--- src/lib.rt:21:5
 loop-again : tie.Need-loop-again Inv-loop μ-loop
 loop-again c =
     writing-step (c .before .before .loop .inv) (byte-next _ _ (c .before .loop-test .taken)) (put-byte _ _ _)
 
--- src/lib.rt:15:1
 same-length : tie.Need-same-length Inv-loop μ-loop
 same-length c =
     c .before .loop .inv .same
 
--- src/lib.rt:15:1
 returns : tie.Need-returns Inv-loop μ-loop
 returns c =
     writing-end (c .before .loop .inv) (drop-of-length-le (c .before .before .args .word .now) {i = c .before .loop .i} (c .loop-test .left))

@@ -1,0 +1,3 @@
+-- Contents: the text of an answer; then what its function asks for.
+pub mod AnswerText
+pub mod Inner

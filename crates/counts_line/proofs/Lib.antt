@@ -1,0 +1,2 @@
+-- Contents: the two halves of the line.
+pub mod CountHalves

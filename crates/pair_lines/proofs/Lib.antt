@@ -1,0 +1,3 @@
+-- Contents: pairs of places, and their lines one after the other.
+pub mod PairPlaces
+pub mod LineSteps

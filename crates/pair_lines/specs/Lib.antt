@@ -1,0 +1,2 @@
+-- Contents: the room that the lines of pairs need.
+pub mod Room
