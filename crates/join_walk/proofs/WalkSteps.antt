@@ -38,7 +38,8 @@ use Rattle.join_nodes.proofs.VisitLaws.{checks-added}
 use Rattle.join_nodes.proofs.FrameLaws.{framed-none}
 use Rattle.join_blocks.specs.Blocks.{MergedEnd}
 use Rattle.join_blocks.proofs.GroupSteps.{endedAt, goingOn, ended-keys, going-keys, beginners-grouped, ended-cut}
-use Rattle.join_walk.specs.Partitions.{Partitions, PartVisited, WalkReady, WalkDone}
+use Rattle.join_partition.specs.Partition.{PartVisited}
+use Rattle.join_walk.specs.Partitions.{Partitions, WalkReady, WalkDone}
 use Rattle.join_walk.proofs.Totals.{start, total-order, start-empty, start-row}
 
 -- every left set begins with no rank at all

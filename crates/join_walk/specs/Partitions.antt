@@ -2,7 +2,7 @@
 -- answers.
 use Prim.Native.Nat.{ℕ, _≤_, _<_}
 use mathlib.Core.Path.{_≡_}
-use mathlib.Core.List.{List, [], _∷_}
+use mathlib.Core.List.{List, []}
 use mathlib.Core.Bool.{true, false}
 use lib.ListN.{length}
 use Rattle.sets.specs.Limits.{maxLimit}
@@ -12,31 +12,15 @@ use Rattle.join_spec.specs.Kinds.{Kind, isOf}
 use Rattle.join_index.specs.declared.Layout.{Layout}
 use Rattle.join_index.specs.Asking.{Index}
 use Rattle.join_check.specs.Counters.{counter}
-use Rattle.join_check.specs.declared.Tally.{Tally}
 use Rattle.kept_rows.specs.Kept.{RowsKept}
-use Rattle.join_nodes.specs.Visiting.{Children, Framed, RunVisited}
+use Rattle.join_nodes.specs.Visiting.{Children, Framed}
 use Rattle.join_nodes.specs.declared.Progress.{Progress}
 use Rattle.join_nodes.specs.declared.Settings.{Settings}
 use Rattle.join_nodes.specs.declared.Walked.{Walked}
-use Rattle.join_visit.specs.Child.{Child}
-
--- one partition: the left sets at the places lo up to hi of the order are those with a first rank r
-abbrev pub Partition : Layout → Settings → Query → List ℕ → ℕ → ℕ → Progress → ℕ → Type 0
-Partition lay st q w lo hi p r = Child lay st q (r ∷ []) w 1 lo hi p
-
--- there are a query and a rank of which it holds
-pub record SomeRank (P : Query → ℕ → Type 0) : Type 0 where
-  pub query : Query
-  pub rank : ℕ
-  pub holds : P query rank
 
 -- partitions: the children of the path without ranks
 abbrev pub Partitions : Layout → Settings → Query → List ℕ → ℕ → ℕ → Progress → Type 0
 Partitions lay st q w lo hi p = Children lay st q [] w 0 lo hi p
-
--- partitions were visited: only slots changed
-abbrev pub PartVisited : Layout → Settings → Query → List ℕ → List ℕ → ℕ → ℕ → Tally → Walked → Type 0
-PartVisited lay st q w w′ lo hi tally r = RunVisited lay q (st .budget) (lay .slots) 1 w w′ lo hi tally r
 
 -- the walk can begin
 pub record WalkReady (lay : Layout) (st : Settings) (q : Query) (w : List ℕ) (lefts : ℕ) : Type 0 where

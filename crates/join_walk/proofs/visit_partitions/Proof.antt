@@ -7,7 +7,7 @@ use Rattle.word_flags.specs.Flags.{Clear}
 use Rattle.join_nodes.proofs.PartLoop.{Continuing, continuing-start, continuing-step, continuing-spent, continuing-end}
 use Rattle.join_visit.proofs.ChildSteps.{kids-run, childRank, first-child}
 use Rattle.join_walk.specs.Partitions.{Partitions}
-use Rattle.join_walk.proofs.PartitionSteps.{partitions-done}
+use Rattle.join_walk.proofs.PartitionRuns.{partitions-done}
 use Rattle.join_walk.proofs.visit_partitions.Statement.{statement}
 use Rattle.join_walk.proofs.visit_partitions.Tie as tie
 

@@ -11,11 +11,11 @@ use Rattle.join_spec.specs.Query.{Query}
 use Rattle.join_index.specs.Ground.{invertedList, seenCount, asksSeen}
 use Rattle.join_index.specs.Asking.{RankThere}
 use Rattle.join_index.proofs.Orders.{run-left}
-use Rattle.join_walk.specs.Partitions.{Partition}
-use Rattle.join_walk.proofs.PartitionSteps.{partition-run, partition-key, seen-word, partition-node, partition-visited}
-use Rattle.join_walk.proofs.PartitionSteps.{unasked-node, unheld-list, unheld-visited}
-use Rattle.join_walk.proofs.visit_partition.Statement.{statement}
-use Rattle.join_walk.proofs.visit_partition.Tie as tie
+use Rattle.join_partition.specs.Partition.{Partition}
+use Rattle.join_partition.proofs.PartitionSteps.{partition-run, partition-key, seen-word, partition-node, partition-visited}
+use Rattle.join_partition.proofs.PartitionSteps.{unasked-node, unheld-list, unheld-visited}
+use Rattle.join_partition.proofs.visit_partition.Statement.{statement}
+use Rattle.join_partition.proofs.visit_partition.Tie as tie
 
 add-word-at : tie.Need-add-word-at
 add-word-at c = search needs

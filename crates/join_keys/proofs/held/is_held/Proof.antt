@@ -1,4 +1,4 @@
--- `is_held` meets its contract: the list of a rank is empty where it ends at its beginning.
+-- `join_keys::held::is_held` meets its contract: the list of a rank is empty where it ends at its beginning.
 use Prim.Native.Nat.{ℕ, suc, _+_, _≤_}
 use mathlib.Core.Path.{_≡_, sym, ap, _∙_}
 use native.Mathlib.Omega.{arith}
@@ -7,8 +7,8 @@ use borrow.Author.Tests.{ltb-false}
 use lib.ListN.{getD}
 use Rattle.lists.proofs.Slices.{slice-past}
 use Rattle.join_index.specs.Ground.{offsetOf}
-use Rattle.join_walk.proofs.is_held.Statement.{statement}
-use Rattle.join_walk.proofs.is_held.Tie as tie
+use Rattle.join_keys.proofs.held.is_held.Statement.{statement}
+use Rattle.join_keys.proofs.held.is_held.Tie as tie
 
 add-word-at : tie.Need-add-word-at
 add-word-at c = search needs

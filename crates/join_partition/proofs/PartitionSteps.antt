@@ -1,8 +1,8 @@
--- The partitions: the children of the path without ranks. A partition is a node of depth 1 whose candidates are the right sets
+-- A partition is a node of depth 1 whose candidates are the right sets
 -- seen at its rank, which stand first in the list by least rank; or a node without candidates, where the rule doesn't ask for these,
 -- and its visit is over where no right set holds its rank.
-use Prim.Native.Nat.{ℕ, suc, _+_, _≤_, _<_}
-use mathlib.Core.Path.{_≡_, refl, sym, ap, subst, _∙_}
+use Prim.Native.Nat.{ℕ, suc, _+_, _≤_}
+use mathlib.Core.Path.{_≡_, sym, ap, subst, _∙_}
 use mathlib.Core.List.{List, [], _∷_}
 use mathlib.Core.Bool.{true, false, and-true}
 use native.Mathlib.Omega.{arith}
@@ -18,7 +18,7 @@ use Rattle.join_index.specs.Ground.{Listing, seenCount, invertedList, asksSeen}
 use Rattle.join_index.specs.declared.Layout.{Layout}
 use Rattle.join_index.specs.Asking.{RunThere, LeftThere}
 use Rattle.word_lists.specs.Words.{Word}
-use Rattle.join_index.specs.Runs.{leftIn, RunEnd}
+use Rattle.join_index.specs.Runs.{leftIn}
 use Rattle.join_check.specs.declared.Tally.{Tally}
 use Rattle.join_index.proofs.Orders.{run-key}
 use Rattle.kept_rows.specs.Keeping.{ListThere, ListKept}
@@ -30,13 +30,11 @@ use Rattle.join_nodes.specs.declared.Walked.{Walked}
 use Rattle.join_nodes.proofs.Narrowing.{listing-same, listing-few, narrow-first}
 use Rattle.join_nodes.proofs.NodeFacts.{on-key, unasked-goes}
 use Rattle.join_nodes.proofs.RunLaws.{begins-first}
-use Rattle.join_nodes.proofs.PartLoop.{PartDone}
 use Rattle.join_nodes.proofs.FrameLaws.{framed-none, framed-lower}
 use Rattle.join_blocks.proofs.NodeRows.{empty-list}
 use Rattle.join_enter.proofs.NodeSteps.{Onward, onward-going, limit-visited}
 use Rattle.join_enter.proofs.EmptyNodes.{empty-kept}
-use Rattle.join_visit.proofs.ChildSteps.{childRank, first-child, kids-next}
-use Rattle.join_walk.specs.Partitions.{Partitions, Partition, PartVisited}
+use Rattle.join_partition.specs.Partition.{Partition, PartVisited}
 
 -- a partition as a node of depth 1
 module _ {lay : Layout} {st : Settings} {q : Query} {w : List ℕ} {lo hi : ℕ} {p : Progress} {r : ℕ}
@@ -157,19 +155,3 @@ pub partition-visited : {lay : Layout} (st : Settings) {q : Query} (r : ℕ) {w 
     {one : Walked}
     → NodeVisited lay st q (r ∷ []) w w′ 1 lo hi tally one → PartVisited lay st q w w′ lo hi tally one
 partition-visited st r done = record { framed = framed-lower (omega arith) (done .framed); visited = done .visited; rows = done .rows }
-
--- the first of the partitions, visited, as a part of them
-pub partitions-done : {lay : Layout} {st : Settings} {w w′ : List ℕ} {i j hi : ℕ} {p : Progress} {one : Walked} → i < hi
-    → RunEnd lay w 0 i hi j
-    → ((q : Query) (r : ℕ) → Partition lay st q w i j p r → PartVisited lay st q w w′ i j (p .tally) one)
-    → (q : Query) (path : List ℕ) → Partitions lay st q w i hi p
-    → PartDone lay (st .budget) 1 hi (λ path w. lay .slots) (λ q path w i r. Partitions lay st q w i hi r) q path w i p w′
-    j one
-partitions-done more end each q path parts =
-    let visit = each q (childRank parts more) (first-child parts more end) in
-    record {
-      facts = record { index = parts .index; few = parts .few; slots = omega arith };
-      visit = visit;
-      steady = refl;
-      next = λ calm. kids-next parts more end (omega arith) visit calm;
-    }

@@ -1,0 +1,2 @@
+-- Contents: one partition, and what its visit answers.
+pub mod Partition
