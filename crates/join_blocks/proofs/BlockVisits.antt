@@ -27,7 +27,7 @@ use Rattle.join_nodes.specs.declared.Progress.{Progress}
 use Rattle.join_nodes.specs.declared.Walked.{Walked}
 use Rattle.join_nodes.proofs.RowLaws.{MetOnly}
 use Rattle.join_nodes.proofs.PathLaws.{sum-const}
-use Rattle.join_blocks.specs.Blocks.{Blocked}
+use Rattle.block_checks.specs.BlockChecks.{Blocked}
 
 -- a check is one
 check-is : (drop holds : Bool) → isCheck (cond drop dropped (cond holds confirmed falseDrop)) ≡ true

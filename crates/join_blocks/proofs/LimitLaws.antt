@@ -39,7 +39,8 @@ use Rattle.join_nodes.proofs.VisitLaws.{underway-next}
 use Rattle.join_nodes.proofs.FrameLaws.{framed-none, index-framed, run-framed}
 use Rattle.join_nodes.proofs.PartLoop.{PartDone}
 use Rattle.join_nodes.proofs.PathLaws.{merged-checks}
-use Rattle.join_blocks.specs.Blocks.{Small, Blocked, Going, AtLimit, PairsKept, RowFinished}
+use Rattle.block_checks.specs.BlockChecks.{Small, Blocked}
+use Rattle.join_blocks.specs.Blocks.{Going, AtLimit, PairsKept, RowFinished}
 use Rattle.join_blocks.proofs.BlockLaws.{Begin, rows-merge, key-longer, left-goes, listing-left}
 use Rattle.join_blocks.proofs.BlockVisits.{block-visited, checks-all, merged-added}
 use Rattle.join_blocks.proofs.GoingLaws.{going-run, going-rooted, going-length, going-few, going-listing, going-there, going-room}

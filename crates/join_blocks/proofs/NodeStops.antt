@@ -29,7 +29,7 @@ use Rattle.join_nodes.specs.declared.Walked.{Walked}
 use Rattle.join_nodes.proofs.RunLaws.{run-length}
 use Rattle.join_nodes.proofs.NodeFacts.{stop-asks}
 use Rattle.join_nodes.proofs.FrameLaws.{framed-none}
-use Rattle.join_blocks.specs.Blocks.{Small, Blocked}
+use Rattle.block_checks.specs.BlockChecks.{Small, Blocked}
 use Rattle.join_blocks.proofs.BlockLaws.{Begin, Rooted, runs-there, rows-stop}
 use Rattle.join_blocks.proofs.BlockVisits.{block-visited}
 

@@ -1,7 +1,8 @@
 // What becomes of the left sets of a node that have no child to visit: checks, and pairs by path, with the rows that are kept.
+use block_checks::check_block;
+use block_checks::covers;
 use checked_rows::record_row;
 use join_check::Tally;
-use join_gather::gather;
 use join_index::Layout;
 use join_keys::keys::key_at;
 use join_keys::keys::run_end;
@@ -17,63 +18,18 @@ ghost use Rattle.join_spec.specs.Query.{Query};
 ghost use Rattle.join_index.specs.Asking.{Some, RunThere};
 ghost use Rattle.join_spec.specs.Counting.{isByPath};
 ghost use Rattle.join_index.specs.Runs.{run};
-ghost use Rattle.join_check.specs.Checks.{RunsThere};
 ghost use Rattle.join_check.specs.Counters.{checksIn};
 ghost use Rattle.kept_rows.specs.Keeping.{ListThere};
 ghost use Rattle.checked_rows.specs.Recording.{RecordThere};
 ghost use Rattle.join_nodes.specs.Rows.{pathPairs};
 ghost use Rattle.join_nodes.specs.Narrowing.{SomePath};
 ghost use Rattle.join_nodes.specs.Visiting.{RunVisited, Merged};
-ghost use Rattle.join_blocks.specs.Blocks.{Covered, Small, Blocked, MergedEnd, PairsKept, RowFinished, Going, AtLimit, Settles};
+ghost use Rattle.join_blocks.specs.Blocks.{MergedEnd, PairsKept, RowFinished, Going, AtLimit, Settles};
 
 // The left sets up to place mid were paired by path.
 pub struct Settled {
     pub mid: usize,
     pub at: Progress,
-}
-
-// Whether the budget covers so many checks more.
-fn covers(budget: u32, tally: Tally, checks: usize) -> bool
-    requires { ⌜ checksIn tally ≤ budget ⌝ }
-    ensures { λ r. ⌜ Covered budget tally checks r ⌝ }
-{
-    let made = tally.confirmed + tally.dropped + tally.false_drops;
-    let spare = budget - made;
-    checks <= (spare as usize)
-}
-
-// Checks the left sets at the places lo up to hi, which share their first d ranks, after e ranks against every candidate. No
-// check is made where all of them would pass the budget.
-pub fn check_block(
-    work: &[u32],
-    lay: Layout,
-    st: Settings,
-    d: usize,
-    e: usize,
-    lo: usize,
-    hi: usize,
-    from: usize,
-    to: usize,
-    p: Progress,
-) -> Walked
-    requires { ⌜ Some (λ q. RunsThere lay q (now work) e lo hi from to) ⌝ }
-    requires { ⌜ Small (st .budget) lo hi from to (p .tally) ⌝ }
-    ensures { λ r. ⌜ Blocked lay (now (work .entry)) (st .budget) e lo hi from to p r ⌝ }
-{
-    let limit = st.limit;
-    let tally = p.tally;
-    let checks = (hi - lo) * (to - from);
-    if !covers(st.budget, tally, checks) {
-        return Walked { at: p, spent: true };
-    }
-    let r = gather(work, lay, limit, d, e, lo, hi, from, to, tally);
-    Walked {
-        at: Progress {
-            tally: r,
-            top: p.top,
-        },
-        spent: false,
-    }
 }
 
 // Where the left sets end that have no rank after depth d; they stand first.

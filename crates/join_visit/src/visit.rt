@@ -3,7 +3,7 @@
 // others has at most half of the node's left sets, so that calls lie above each other only as often as these can be halved,
 // whatever the limit.
 use crate::heavy::heaviest_run;
-use join_blocks::check_block;
+use block_checks::check_block;
 use join_enter::enter_node;
 use join_index::Layout;
 use join_keys::keys::run_end;

@@ -25,7 +25,7 @@ use Rattle.join_visit.proofs.ChildSteps.{kids-run, childPath}
 use Rattle.join_visit.proofs.ChildNodes.{next-node, children-done}
 use Rattle.join_visit.proofs.Descents.{Descending, descending-start, node-left, descending-end, ask-below, spent-below, ask-above, spent-above, descending-step, descending-only}
 use Rattle.join_keys.proofs.keys.run_end.Reads as run-end
-use Rattle.join_blocks.proofs.check_block.Reads as check-block
+use Rattle.block_checks.proofs.check_block.Reads as check-block
 use Rattle.join_nodes.proofs.decide.decide.Reads as decide
 use Rattle.join_enter.proofs.enter_node.Reads as enter-node
 use Rattle.join_visit.proofs.heavy.heaviest_run.Reads as heaviest-run

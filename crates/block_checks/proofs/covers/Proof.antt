@@ -4,8 +4,8 @@ use native.Mathlib.Omega.{arith}
 use borrow.Author.Needs.{needs}
 use borrow.Author.Tests.{leb-true, leb-false}
 use Rattle.lists.specs.Lists.{sum}
-use Rattle.join_blocks.proofs.covers.Statement.{statement}
-use Rattle.join_blocks.proofs.covers.Tie as tie
+use Rattle.block_checks.proofs.covers.Statement.{statement}
+use Rattle.block_checks.proofs.covers.Tie as tie
 
 add-made : tie.Need-add-made
 unfolding sum

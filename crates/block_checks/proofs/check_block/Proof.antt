@@ -6,8 +6,8 @@ use borrow.Author.Needs.{needs}
 use borrow.Author.Tests.{not-true, not-false}
 use Rattle.lists.specs.Lists.{sum}
 use Rattle.lists.proofs.Bools.{true-false}
-use Rattle.join_blocks.proofs.check_block.Statement.{statement}
-use Rattle.join_blocks.proofs.check_block.Tie as tie
+use Rattle.block_checks.proofs.check_block.Statement.{statement}
+use Rattle.block_checks.proofs.check_block.Tie as tie
 
 sub-checks : tie.Need-sub-checks
 sub-checks c = search needs

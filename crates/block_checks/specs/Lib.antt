@@ -1,0 +1,2 @@
+-- Contents: a block of checks, within the budget.
+pub mod BlockChecks
