@@ -23,9 +23,9 @@ use Rattle.tag_file.proofs.RecordLaws.{records-next}
 use Rattle.tag_pooling.specs.Pooling.{pooled}
 use Rattle.tag_pooling.proofs.Sides.{numbers-pooled}
 use Rattle.tag_index.specs.Index.{tableOf}
-use Rattle.tag_fill.specs.declared.Filled.{Filled}
-use Rattle.tag_fill.specs.Fill.{markWords, Unmarked}
-use Rattle.tag_fill.proofs.Marks.{unmarked-zeros}
+use Rattle.record_items.specs.declared.Filled.{Filled}
+use Rattle.record_items.specs.Marks.{markWords, Unmarked}
+use Rattle.record_items.proofs.Marks.{unmarked-zeros}
 use Rattle.right_slots.specs.Slots.{slotOf, AtSlots}
 use Rattle.right_slots.proofs.Splits.{two-splits}
 use Rattle.pool_fill.specs.Pool.{placeWord, PoolFillReady}

@@ -16,8 +16,8 @@ use Rattle.tag_file.specs.Loading.{numberUsed, numbersOf}
 use Rattle.tag_pooling.specs.Pooling.{pooled}
 use Rattle.tag_pooling.proofs.OneMore.{used-keep}
 use Rattle.tag_index.specs.Index.{tableOf}
-use Rattle.tag_fill.specs.declared.Filled.{Filled}
-use Rattle.tag_fill.specs.Fill.{Unmarked, TagsKnown, RoomForOne, OneFilled}
+use Rattle.record_items.specs.declared.Filled.{Filled}
+use Rattle.record_items.specs.Marks.{Unmarked, TagsKnown, RoomForOne, OneFilled}
 use Rattle.tag_file.proofs.RecordLaws.{memb-tagsAt}
 use Rattle.right_slots.proofs.Found.{missed-right}
 use Rattle.pool_fill.specs.Pool.{PoolFillReady}

@@ -22,8 +22,8 @@ use Rattle.tag_file.proofs.RecordLaws.{memb-tagsAt, read-past, read-within, rea
 use Rattle.tag_file.proofs.FoundRecords.{found-number}
 use Rattle.tag_pooling.specs.Pooling.{unitedWith, pooled}
 use Rattle.tag_index.specs.Index.{tableOf}
-use Rattle.tag_fill.specs.declared.Filled.{Filled}
-use Rattle.tag_fill.specs.Fill.{Unmarked, TagsKnown}
+use Rattle.record_items.specs.declared.Filled.{Filled}
+use Rattle.record_items.specs.Marks.{Unmarked, TagsKnown}
 use Rattle.right_slots.specs.Slots.{slotOf, AtSlots}
 use Rattle.right_slots.proofs.Counted.{slot-below}
 use Rattle.right_slots.proofs.Found.{noted-member}

@@ -22,8 +22,8 @@ use Rattle.tag_file.proofs.FaultFree.{side-own, side-other}
 use Rattle.tag_file.proofs.RecordLaws.{read-past, read-within, read-number, records-next}
 use Rattle.tag_pooling.specs.Pooling.{sameSet, pooled}
 use Rattle.tag_index.specs.Index.{tableOf}
-use Rattle.tag_fill.specs.declared.Filled.{Filled}
-use Rattle.tag_fill.specs.Fill.{Unmarked}
+use Rattle.record_items.specs.declared.Filled.{Filled}
+use Rattle.record_items.specs.Marks.{Unmarked}
 use Rattle.right_slots.specs.Slots.{slotOf, AtSlots}
 use Rattle.pool_fill.specs.Pool.{placeWord, PoolFillReady}
 use Rattle.pool_fill.proofs.Laying.{Block, wholes, parts}

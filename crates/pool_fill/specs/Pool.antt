@@ -15,7 +15,7 @@ use Rattle.tag_file.specs.Records.{totalLength, records, ofSide, allTags, items
 use Rattle.tag_file.specs.Loading.{numbersOf, endsFrom, join}
 use Rattle.tag_pooling.specs.Pooling.{pooled}
 use Rattle.tag_index.specs.Index.{tableOf, Sorted, Ranked}
-use Rattle.tag_fill.specs.declared.Filled.{Filled}
+use Rattle.record_items.specs.declared.Filled.{Filled}
 use Rattle.right_slots.specs.Slots.{slotOf, BlocksCounted, NumbersNoted, NumbersOnce, AtSlots, pooledMark, slotWord}
 
 -- the length that a right set of the first file takes, by the word of its slot and how many items it has by itself

@@ -22,9 +22,10 @@ use Rattle.tag_file.specs.Loading.{numbersOf, endsFrom, join}
 use Rattle.tag_file.specs.declared.ReadAnswer.the-variants.{Record}
 use Rattle.tag_file.proofs.RecordLaws.{memb-tagsAt, read-past, read-within, records-next}
 use Rattle.tag_index.specs.Index.{tableOf, Sorted, Ranked}
-use Rattle.tag_fill.specs.Fill.{markWords, Unmarked, MarkedMore, TagsKnown, RoomForOne, OneFilled, FillReady}
-use Rattle.tag_fill.specs.declared.Filled.{Filled}
-use Rattle.tag_fill.proofs.Marks.{unmarked-zeros, more-fresh, marked-items}
+use Rattle.record_items.specs.Marks.{markWords, Unmarked, MarkedMore, TagsKnown, RoomForOne, OneFilled}
+use Rattle.record_items.specs.declared.Filled.{Filled}
+use Rattle.record_items.proofs.Marks.{unmarked-zeros, more-fresh, marked-items}
+use Rattle.tag_fill.specs.Fill.{FillReady}
 use Rattle.tag_fill.proofs.Runs.{join-one, numbers-cons, sets-cons, join-onto, ends-onto}
 
 pub record SideFilling (file : List ℕ) (side : Side) (table numbers₀ ends₀ items₀ : List ℕ)

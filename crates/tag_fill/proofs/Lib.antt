@@ -1,5 +1,3 @@
--- Laws of filling the loader's lists; each function that needs a proof file has its folder beside them.
-pub mod Marks
+-- Laws of filling the loader's lists of a side; each function that needs a proof file has its folder beside them.
 pub mod Runs
 pub mod Filling
-pub mod TableBytes

@@ -1,2 +1,2 @@
--- Contents: what the functions that fill the loader's lists ask and promise.
+-- Contents: what filling the loader's lists of a side asks.
 pub mod Fill

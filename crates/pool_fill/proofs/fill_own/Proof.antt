@@ -1,7 +1,7 @@
 -- `pool_fill::fill_own` meets its contract: what is marked are the items of the record's tags.
 use mathlib.Core.List.{[]}
 use Rattle.tag_index.specs.Index.{tableOf}
-use Rattle.tag_fill.proofs.Marks.{unmarked-marked}
+use Rattle.record_items.proofs.Marks.{unmarked-marked}
 use Rattle.pool_fill.proofs.Recalling.{fresh-wide, fresh-items}
 use borrow.Author.Needs.{needs}
 use Rattle.pool_fill.proofs.fill_own.Statement.{statement}

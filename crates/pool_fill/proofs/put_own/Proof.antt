@@ -4,7 +4,7 @@ use Prim.Native.Nat.{ℕ, _+_, _-_}
 use native.Mathlib.Omega.{arith}
 use lib.ListN.{length, getD, set}
 use Rattle.bit_sets.specs.BitSets.{members}
-use Rattle.tag_fill.proofs.Marks.{unmarked-zeros}
+use Rattle.record_items.proofs.Marks.{unmarked-zeros}
 use Rattle.pool_fill.specs.Pool.{lengthBy, placeWord}
 use borrow.Author.Needs.{needs}
 use Rattle.pool_fill.proofs.put_own.Statement.{statement}

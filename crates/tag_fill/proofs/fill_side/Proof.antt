@@ -12,9 +12,9 @@ use Rattle.tag_file.proofs.Ended.{no-records}
 use Rattle.tag_file.proofs.RecordLaws.{read-less}
 use Rattle.tag_index.specs.Index.{tableOf}
 use Rattle.tag_index.proofs.Ids.{sorted-size}
+use Rattle.record_items.proofs.Marks.{unmarked-marked}
 use Rattle.tag_fill.proofs.Filling.{SideFilling, side-filling-start, filled-numbers, filled-ends, filled-items}
 use Rattle.tag_fill.proofs.Filling.{filling-known, filling-wide, filling-items, filling-room, filling-own, filling-other}
-use Rattle.tag_fill.proofs.Marks.{unmarked-marked}
 use Rattle.tag_fill.proofs.fill_side.Statement.{statement}
 use Rattle.tag_fill.proofs.fill_side.Tie as tie
 

@@ -1,9 +1,9 @@
--- `tag_fill::put_number` meets its contract. The invariant: with the bytes still to come the whole number is written
+-- `tag_table::put_number` meets its contract. The invariant: with the bytes still to come the whole number is written
 -- (`PuttingBytes`). The measure is how many bytes are left.
 use native.Mathlib.Omega.{arith}
-use Rattle.tag_fill.proofs.TableBytes.{PuttingBytes, putting-start, putting-step, putting-end}
-use Rattle.tag_fill.proofs.put_number.Statement.{statement}
-use Rattle.tag_fill.proofs.put_number.Tie as tie
+use Rattle.tag_table.proofs.TableBytes.{PuttingBytes, putting-start, putting-step, putting-end}
+use Rattle.tag_table.proofs.put_number.Statement.{statement}
+use Rattle.tag_table.proofs.put_number.Tie as tie
 
 abbrev Inv-loop : tie.InvT-loop
 Inv-loop number width tags₀ at rest₀ left₀ tags rest left =

@@ -1,4 +1,4 @@
--- `tag_fill::fill_tags` meets its contract. The invariant: the tags written and those still to come are together the table
+-- `tag_table::fill_tags` meets its contract. The invariant: the tags written and those still to come are together the table
 -- (`Writing`). The measure is how many are left.
 use mathlib.Core.Path.{sym, ap}
 use Prim.Native.Nat.{_+_, _-_, _<_, _≤_}
@@ -9,9 +9,9 @@ use Rattle.tag_file.specs.Format.{bytesOf, tagBytes, tagLength}
 use Rattle.tag_file.proofs.ItemCount.{length-bytesOf}
 use Rattle.tag_index.specs.Index.{indexRoom, tableOf}
 use Rattle.tag_index.proofs.Ids.{sorted-size, sorted-at}
-use Rattle.tag_fill.proofs.TableBytes.{table-next, table-end}
-use Rattle.tag_fill.proofs.fill_tags.Statement.{statement}
-use Rattle.tag_fill.proofs.fill_tags.Tie as tie
+use Rattle.tag_table.proofs.TableBytes.{table-next, table-end}
+use Rattle.tag_table.proofs.fill_tags.Statement.{statement}
+use Rattle.tag_table.proofs.fill_tags.Tie as tie
 
 abbrev Inv-loop : tie.InvT-loop
 Inv-loop heads tails order n tags₀ i₀ at₀ tags i at =
