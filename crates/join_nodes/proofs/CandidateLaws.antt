@@ -21,7 +21,7 @@ use Rattle.join_index.specs.declared.Layout.{Layout}
 use Rattle.join_index.proofs.GroundLaws.{slot-bound}
 use Rattle.word_lists.specs.Words.{Word}
 use Rattle.word_lists.specs.Merges.{Rising}
-use Rattle.word_flags.specs.Sharing.{Apart, Intersected}
+use Rattle.shared_words.specs.Sharing.{Apart, Intersected}
 use Rattle.word_flags.specs.Flags.{flagRoom, Below}
 use Rattle.join_index.proofs.Places.{places-below}
 use Rattle.join_nodes.specs.Narrowing.{Candidates, Narrowed, candidateList}

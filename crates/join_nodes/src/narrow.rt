@@ -1,6 +1,6 @@
 // From the candidates before a node to those after it.
 use join_index::Layout;
-use word_flags::intersect;
+use shared_words::intersect;
 use word_lists::words::word_at;
 ghost use mathlib.Core.Path.{_≡_};
 ghost use Rattle.join_spec.specs.Query.{Query};

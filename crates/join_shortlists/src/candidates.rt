@@ -2,7 +2,7 @@
 // other ranks while that costs less than to look at each.
 use crate::ranks::holders;
 use join_index::Layout;
-use word_flags::intersect;
+use shared_words::intersect;
 use word_lists::words::word_at;
 ghost use Rattle.word_flags.specs.Flags.{Clear};
 ghost use Rattle.join_index.specs.Asking.{Some, RankThere};

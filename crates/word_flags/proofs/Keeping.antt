@@ -1,26 +1,19 @@
--- The words of a part that a table of flags keeps: the invariant of `keep_flagged`, with its start, step and end; and that what is
--- kept of the second of two rising parts by the flags of the first is what they share.
+-- The words of a part that pass a test, written behind it: the invariant of `keep_flagged`, with its start, step and end.
 use Prim.Native.Nat.{ℕ, _+_, _-_, _≤_, _<_}
 use mathlib.Core.Path.{_≡_, sym, ap, subst, _∙_}
 use mathlib.Core.List.{List, [], _++_, append-nil}
-use mathlib.Core.Bool.{Bool, true, and-comm}
+use mathlib.Core.Bool.{Bool}
 use native.Mathlib.Omega.{arith}
 use native.Mathlib.Numerals.{add-one}
-use lib.Dec.{ltb}
 use lib.ListN.{length, getD, set}
 use lib.Seq.{append-snoc}
-use borrow.Author.Tests.{ltb-true}
-use Rattle.lists.specs.Lists.{one, onto, all, keep, memb, rising, slice}
+use Rattle.lists.specs.Lists.{one, onto, keep, slice}
 use Rattle.lists.specs.Parts.{Changed}
 use Rattle.lists.proofs.Bools.{by-test}
-use Rattle.lists.proofs.Filtering.{keep-same-where, memb-keep}
-use Rattle.lists.proofs.Rising.{rising-keep, rising-same}
-use Rattle.lists.proofs.Slices.{frame-slice, slice-past, slice-none, slice-next, slice-set-above, slice-set-end}
+use Rattle.lists.proofs.Slices.{slice-past, slice-none, slice-next, slice-set-above, slice-set-end}
 use Rattle.lists.proofs.Slices.{changed-none, changed-store, changed-at-low}
-use Rattle.word_lists.specs.Merges.{Rising}
-use Rattle.word_flags.specs.Sharing.{Intersected}
-use Rattle.word_flags.specs.Flags.{Below, Flagged, isFlagged, Behind, Kept}
-use Rattle.word_flags.proofs.Flagging.{word-below, flag-tells, flagged-same}
+use Rattle.word_flags.specs.Flags.{Below, Behind, Kept}
+use Rattle.word_flags.proofs.Flagging.{word-below}
 
 -- what was written, with what is to be kept of the rest, is what is to be kept
 pub record Keeping (test : ℕ → Bool) (w₀ : List ℕ) (c e out : ℕ) (w : List ℕ) (j n : ℕ) : Type 0 where
@@ -105,54 +98,3 @@ module _ {test : ℕ → Bool} {w₀ : List ℕ} {c e out : ℕ} where
                 ∙ ap (λ (l : List ℕ). slice out n w ++ l) (sym (next ∙ ap (λ (b : Bool). onto b x rest) t))
                 ∙ s .is;
           })
-
--- what two rising lists share is the same, taken from either
-pub share-swap : (xs ys : List ℕ) → rising xs ≡ true → rising ys ≡ true
-    → keep (λ s. memb s xs) ys ≡ keep (λ s. memb s ys) xs
-share-swap xs ys rx ry =
-    rising-same (keep (λ s. memb s xs) ys) (keep (λ s. memb s ys) xs) (rising-keep (λ s. memb s xs) ys ry)
-    (rising-keep (λ s. memb s ys) xs rx)
-    (λ s.
-    memb-keep (λ x. memb x xs) ys s ∙ and-comm (memb s ys) (memb s xs) ∙ sym (memb-keep (λ y. memb y ys) xs s))
-
--- the words of the second part that are among those of the first
-pub found-shared : {a b c e out : ℕ} {w w′ : List ℕ} {r : ℕ} → Rising a b w → Rising c e w
-    → Kept (λ s. memb s (slice a b w)) c e out w w′ r → Intersected a b c e out w w′ r
-found-shared {a} {b} {c} {e} {w = w} first second k =
-    record {
-      changed = k .changed;
-      low = k .low;
-      high = k .high;
-      is = k .is ∙ share-swap (slice a b w) (slice c e w) (first .rise) (second .rise);
-    }
-
--- the words of the second part that are kept by the flags of the first
-pub kept-shared : {a b c e out : ℕ} {w w′ flags : List ℕ} {r : ℕ} → Rising a b w → Rising c e w → Below (length flags) c e w
-    → Flagged (λ s. memb s (slice a b w)) flags → Kept (isFlagged flags) c e out w w′ r → Intersected a b c e out w w′ r
-kept-shared {a} {b} {c} {e} {out} {w} {w′} {flags} {r} first second places f k =
-    record {
-      changed = k .changed;
-      low = k .low;
-      high = k .high;
-      is =
-          k .is
-          ∙ keep-same-where (λ s. ltb s (length flags)) (isFlagged flags) (λ s. memb s (slice a b w)) (slice c e w) (places .below)
-          (λ s low. flag-tells f s (ltb-true s (length flags) low))
-          ∙ share-swap (slice a b w) (slice c e w) (first .rise) (second .rise);
-    }
-
--- a part below what was written is as it was: its words have their flags still, and these are known
-module _ (a : ℕ) {b out hi : ℕ} {w w′ : List ℕ} (low : b ≤ out) (changed : Changed out hi w w′) where
-  part-same : slice a b w′ ≡ slice a b w
-  part-same = frame-slice a b out w w′ low (changed .low)
-
-  pub below-changed : {bound : ℕ} → Below bound a b w → Below bound a b w′
-  below-changed {bound} p =
-      record {
-        order = p .order;
-        within = omega (arith, p .within, changed .size);
-        below = ap (all (λ s. ltb s bound)) part-same ∙ p .below;
-      }
-
-  pub flagged-changed : {flags : List ℕ} → Flagged (λ s. memb s (slice a b w)) flags → Flagged (λ s. memb s (slice a b w′)) flags
-  flagged-changed f = flagged-same f (λ s. sym (ap (memb s) part-same))

@@ -1,3 +1,2 @@
 -- Contents: what the functions of this crate ask and answer.
 pub mod Flags
-pub mod Sharing

@@ -1,15 +1,10 @@
-// Tables of flags, one for each number below their length, the words of a part of a list that are kept by one, and the words that
-// two rising parts share. A table is lent all clear and comes back all clear.
-use crate::found::keep_found;
+// Tables of flags, one for each number below their length: the words of a part of a list are flagged, those of a part that are
+// flagged are kept, and the flags are taken away again.
 use word_lists::words::word_at;
 ghost use mathlib.Core.Bool.{false};
 ghost use lib.ListN.{length};
 ghost use Rattle.lists.specs.Lists.{memb, slice};
-ghost use Rattle.word_lists.specs.Merges.{Rising};
-ghost use Rattle.word_flags.specs.Sharing.{Apart, Intersected};
-ghost use Rattle.word_flags.specs.Flags.{flagRoom, Below, Flagged, isFlagged, Clear, Behind, Kept};
-
-mod found;
+ghost use Rattle.word_flags.specs.Flags.{Below, Flagged, isFlagged, Clear, Behind, Kept};
 
 // How many flags a table has.
 const FLAG_ROOM: usize = 4096;
@@ -66,39 +61,4 @@ pub fn unflag_words(work: &[u32], a: usize, b: usize, flags: &mut [u8])
         flags[s] = 0;
         i += 1;
     }
-}
-
-// Whether a part of so many words is far shorter than another: to find each of its words there takes less time than to flag all.
-fn is_far_shorter(short: usize, long: usize) -> bool {
-    short < long / 32
-}
-
-// Writes from out on the words of the first part that are among those of the second, and returns where they end: the words of the
-// first part are flagged, those of the second that are flagged are written, and the flags are taken away again. Where the second part
-// is far shorter, its words are looked for in the first.
-pub fn intersect(
-    work: &mut [u32],
-    flags: &mut [u8],
-    a: usize,
-    b: usize,
-    c: usize,
-    e: usize,
-    out: usize,
-) -> usize
-    requires { ⌜ Rising a b (now work) ⌝ }
-    requires { ⌜ Rising c e (now work) ⌝ }
-    requires { ⌜ Apart b c e out (now work) ⌝ }
-    requires { ⌜ Below flagRoom a b (now work) ⌝ }
-    requires { ⌜ Below flagRoom c e (now work) ⌝ }
-    requires { ⌜ Clear (now flags) ⌝ }
-    ensures shared { λ r. ⌜ Intersected a b c e out (now (work .entry)) (now (work .exit)) r ⌝ }
-    ensures clear { λ _. ⌜ Clear (now (flags .exit)) ⌝ }
-{
-    if is_far_shorter(e - c, b - a) {
-        return keep_found(work, a, b, c, e, out);
-    }
-    flag_words(work, a, b, flags);
-    let r = keep_flagged(work, c, e, out, flags);
-    unflag_words(work, a, b, flags);
-    r
 }

@@ -1,17 +1,10 @@
--- Inner: where a word would stand in a rising part of a list of words, and what two parts share, written behind them.
-use Prim.Native.Nat.{ℕ, _+_, _-_, _≤_, _<_}
+-- Inner: what two parts of a list of words share, written behind them.
+use Prim.Native.Nat.{ℕ, _+_, _-_, _≤_}
 use mathlib.Core.Path.{_≡_}
 use mathlib.Core.List.{List}
-use lib.ListN.{length, getD}
+use lib.ListN.{length}
 use Rattle.lists.specs.Lists.{keep, memb, slice}
 use Rattle.lists.specs.Parts.{Changed}
-
--- the words from a up to r are below x, and those from r up to b are not
-pub record Parted (a b x : ℕ) (w : List ℕ) (r : ℕ) : Type 0 where
-  pub low : a ≤ r
-  pub high : r ≤ b
-  pub under : (i : ℕ) → a ≤ i → i < r → getD w i 0 < x
-  pub over : (i : ℕ) → r ≤ i → i < b → x ≤ getD w i 0
 
 -- parts that end at b and e lie below out, and from out on there is room for the second, which begins at c
 pub record Apart (b c e out : ℕ) (w : List ℕ) : Type 0 where

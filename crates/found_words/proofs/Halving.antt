@@ -13,7 +13,7 @@ use Rattle.lists.proofs.Membership.{Place, memb-at, memb-place}
 use Rattle.lists.proofs.Rising.{rising-below}
 use Rattle.lists.proofs.Slices.{length-slice, getD-slice}
 use Rattle.word_lists.specs.Merges.{Rising}
-use Rattle.word_flags.specs.Sharing.{Parted}
+use Rattle.found_words.specs.Halving.{Parted}
 
 module _ {a b : ℕ} {w : List ℕ} (part : Rising a b w) where
   -- a word of the part, by its place there

@@ -1,4 +1,4 @@
--- `word_flags::intersect` meets its contract: what is found of the second part in the first is what they share, and so is what the
+-- `shared_words::intersect` meets its contract: what is found of the second part in the first is what they share, and so is what the
 -- flags of the first part keep of the second; the first part lies below what was written, so that its flags are found again and taken
 -- away.
 use Prim.Native.Nat.{ℕ}
@@ -6,11 +6,11 @@ use mathlib.Core.Path.{_≡_, _∙_}
 use lib.ListN.{length}
 use native.Mathlib.Omega.{arith}
 use borrow.Author.Needs.{needs}
 use Rattle.word_flags.specs.Flags.{flagRoom}
 use Rattle.word_flags.proofs.Flagging.{below-length, flagged-own}
-use Rattle.word_flags.proofs.Keeping.{found-shared, kept-shared, below-changed, flagged-changed}
-use Rattle.word_flags.proofs.intersect.Statement.{statement}
-use Rattle.word_flags.proofs.intersect.Tie as tie
+use Rattle.shared_words.proofs.Sharing.{found-shared, kept-shared, below-changed, flagged-changed}
+use Rattle.shared_words.proofs.intersect.Statement.{statement}
+use Rattle.shared_words.proofs.intersect.Tie as tie
 
 sub-is-far-shorter : tie.Need-sub-is-far-shorter
 sub-is-far-shorter c = let start = c .before .before in omega (arith, start .pre .1 .1 .1 .1 .0 .order)

@@ -5,8 +5,8 @@ ghost use mathlib.Core.Path.{_≡_};
 ghost use Prim.Native.Nat.{_≤_};
 ghost use Rattle.lists.specs.Lists.{memb, slice};
 ghost use Rattle.word_lists.specs.Merges.{Rising};
-ghost use Rattle.word_flags.specs.Sharing.{Parted};
+ghost use Rattle.found_words.specs.Halving.{Parted};
 ghost use Rattle.word_flags.specs.Flags.{Behind, Kept};
 
 // Where the first word of a rising part lies that is not below x; its end where there is none.
 fn lower(work: &[u32], a: usize, b: usize, x: usize) -> usize

@@ -1,11 +1,11 @@
--- `word_flags::found::lower` meets its contract. The invariant: x goes between lo and hi. The measure is their distance.
+-- `found_words::lower` meets its contract. The invariant: x goes between lo and hi. The measure is their distance.
 use Prim.Native.Nat.{ℕ, _+_, _-_, _/_, _<_, _≤_}
 use mathlib.Core.Path.{_≡_, ap}
 use native.Mathlib.Omega.{arith}
 use lib.ListN.{length}
-use Rattle.word_flags.proofs.Halving.{Halving, halving-start, halving-up, halving-down, halving-end}
-use Rattle.word_flags.proofs.found.lower.Statement.{statement}
-use Rattle.word_flags.proofs.found.lower.Tie as tie
+use Rattle.found_words.proofs.Halving.{Halving, halving-start, halving-up, halving-down, halving-end}
+use Rattle.found_words.proofs.lower.Statement.{statement}
+use Rattle.found_words.proofs.lower.Tie as tie
 
 abbrev Inv-loop : tie.InvT-loop
 Inv-loop work a b x lo₀ hi₀ lo hi = Halving a b x work lo hi

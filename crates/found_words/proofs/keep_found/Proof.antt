@@ -1,4 +1,4 @@
--- `word_flags::found::keep_found` meets its contract. The invariant is `Keeping`: what was written, with what is among the first part of
+-- `found_words::keep_found` meets its contract. The invariant is `Keeping`: what was written, with what is among the first part of
 -- the rest, is what is among it of the second. The first part lies below what is written, and stays. The measure is what remains of
 -- the second part.
 use Prim.Native.Nat.{ℕ, _-_, _≤_}
@@ -11,9 +11,9 @@ use lib.ListN.{length, getD, set}
 use Rattle.lists.specs.Lists.{one, memb, rising, slice}
 use Rattle.lists.proofs.Slices.{frame-slice}
 use Rattle.word_lists.specs.Merges.{Rising}
 use Rattle.word_flags.proofs.Keeping.{Keeping, keeping-start, keeping-step, keeping-end}
-use Rattle.word_flags.proofs.found.keep_found.Statement.{statement}
-use Rattle.word_flags.proofs.found.keep_found.Tie as tie
+use Rattle.found_words.proofs.keep_found.Statement.{statement}
+use Rattle.found_words.proofs.keep_found.Tie as tie
 
 abbrev Inv-loop : tie.InvT-loop
 Inv-loop work₀ a b c e out j₀ n₀ work j n = Keeping (λ s. memb s (slice a b work₀)) work₀ c e out work j n

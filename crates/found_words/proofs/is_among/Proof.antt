@@ -1,11 +1,11 @@
--- `word_flags::found::is_among` meets its contract: a word is among others just where it stands at the place where it goes.
+-- `found_words::is_among` meets its contract: a word is among others just where it stands at the place where it goes.
 use mathlib.Core.Path.{ap, _∙_}
 use native.Mathlib.Omega.{arith}
 use Prim.Native.Nat.{ℕ}
 use lib.Dec.{eqb}
-use Rattle.word_flags.proofs.Halving.{among-none, among-at}
-use Rattle.word_flags.proofs.found.is_among.Statement.{statement}
-use Rattle.word_flags.proofs.found.is_among.Tie as tie
+use Rattle.found_words.proofs.Halving.{among-none, among-at}
+use Rattle.found_words.proofs.is_among.Statement.{statement}
+use Rattle.found_words.proofs.is_among.Tie as tie
 
 lower-requires : tie.Need-lower-requires
 lower-requires c κs = (c .before .pre .0, c .before .pre .1)

@@ -1,0 +1,2 @@
+-- Contents: where a word would stand in a part.
+pub mod Halving

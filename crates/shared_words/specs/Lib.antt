@@ -1,0 +1,2 @@
+-- Contents: what two parts share.
+pub mod Sharing
