@@ -20,8 +20,8 @@ use Rattle.kept_rows.specs.Kept.{containedAt, RowIs}
 use Rattle.kept_rows.proofs.RowLaws.{row-moved}
 use Rattle.row_pairs.specs.Containing.{pairsWith}
 use Rattle.row_pairs.specs.Writing.{KeptRoom}
-use Rattle.join_pairs.specs.Writing.{rowAt, LeftRoom}
-use Rattle.join_pairs.proofs.LeftPairs.{row-whole}
+use Rattle.left_search.specs.LeftRows.{rowAt, LeftRoom}
+use Rattle.left_search.proofs.LeftPairs.{row-whole}
 
 module _ {lay : Layout} {q : Query} {w : List ℕ} {k at : ℕ} {was : List ℕ} (there : LeftRoom lay q w k at was) where
   -- the two words of the row are there

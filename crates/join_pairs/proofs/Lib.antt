@@ -1,5 +1,4 @@
--- Laws on the pairs of a left set, and on what its candidates and its kept row come to; each function that needs a proof file has
--- its folder beside them.
-pub mod LeftPairs
-pub mod Finding
+-- Laws on the pairs of the left sets from a place on, and on what a kept row comes to; each function that needs a proof file has its
+-- folder beside them.
+pub mod PairRows
 pub mod Copying

@@ -1,2 +1,2 @@
--- Contents: what the functions of this crate ask and answer.
+-- Contents: what writing the pair list asks.
 pub mod Writing

@@ -16,9 +16,10 @@ use Rattle.join_index.specs.declared.Layout.{Layout}
 use Rattle.word_flags.specs.Flags.{Clear}
 use Rattle.join_index.proofs.Reading.{index-frame}
 use Rattle.kept_rows.proofs.RowLaws.{rows-framed}
-use Rattle.join_pairs.specs.Writing.{rowAt, LeftRoom, LeftWritten, PairsRoom}
 use Rattle.join_shortlists.proofs.Meeting.{changed-then}
-use Rattle.join_pairs.proofs.LeftPairs.{pairs-next, pairs-none}
+use Rattle.left_search.specs.LeftRows.{rowAt, LeftRoom, LeftWritten}
+use Rattle.join_pairs.specs.Writing.{PairsRoom}
+use Rattle.join_pairs.proofs.PairRows.{pairs-next, pairs-none}
 use Rattle.join_pairs.proofs.write_pairs.Statement.{statement}
 use Rattle.join_pairs.proofs.write_pairs.Tie as tie
 

@@ -1,12 +1,12 @@
--- `join_pairs::rows::search_left` meets its contract: an empty left set has no pair, any other those with the candidates that contain
+-- `left_search::search_left` meets its contract: an empty left set has no pair, any other those with the candidates that contain
 -- it.
 use mathlib.Core.Path.{refl}
 use native.Mathlib.Omega.{arith}
 use Rattle.lists.proofs.Slices.{changed-none}
-use Rattle.join_pairs.proofs.Finding.{ranks-there, find-there, empty-put, shortlist-room, shortlist-put}
+use Rattle.left_search.proofs.Finding.{ranks-there, find-there, empty-put, shortlist-room, shortlist-put}
 use borrow.Author.Needs.{needs}
-use Rattle.join_pairs.proofs.rows.search_left.Statement.{statement}
-use Rattle.join_pairs.proofs.rows.search_left.Tie as tie
+use Rattle.left_search.proofs.search_left.Statement.{statement}
+use Rattle.left_search.proofs.search_left.Tie as tie
 
 -- the beginning, and the left set as it was found
 abbrev start : tie.After-probe-left → tie.Start

@@ -30,8 +30,8 @@ use Rattle.kept_rows.specs.Kept.{containedAt}
 use Rattle.row_pairs.specs.Containing.{pairsWith, rowOf}
 use Rattle.row_pairs.specs.Writing.{RowRoom}
 use Rattle.join_shortlists.specs.Shortlists.{RanksThere, FindThere, ShortlistOf, Shortlisted}
-use Rattle.join_pairs.specs.Writing.{rowAt, LeftRoom}
-use Rattle.join_pairs.proofs.LeftPairs.{row-whole, row-empty}
+use Rattle.left_search.specs.LeftRows.{rowAt, LeftRoom}
+use Rattle.left_search.proofs.LeftPairs.{row-whole, row-empty}
 
 rising-rest : (w : List ℕ) (from to rest : ℕ) → from ≤ rest → rising (slice from to w) ≡ true → rising (slice rest to w) ≡ true
 unfolding slice

@@ -1,7 +1,7 @@
--- The pairs of one left set with all right places, and those of the left sets from a place on.
-use Prim.Native.Nat.{ℕ, zero, suc, _+_, _≤_, _<_}
+-- The pairs of one left set with all right places.
+use Prim.Native.Nat.{ℕ, zero, suc, _+_}
 use mathlib.Core.Path.{_≡_, refl, ap, _∙_}
-use mathlib.Core.List.{List, [], _∷_, _++_}
+use mathlib.Core.List.{List, [], _∷_}
 use mathlib.Core.Bool.{Bool, true, false}
 use native.Mathlib.Omega.{arith}
 use lib.Dec.{ltb}
@@ -14,13 +14,13 @@ use Rattle.lists.proofs.Ranges.{all-upto}
 use Rattle.sets.specs.Collections.{contained}
 use Rattle.sets.proofs.Containment.{contained-none}
 use Rattle.join_spec.specs.Query.{Query}
-use Rattle.join_spec.specs.PairList.{ontoPair, rowFrom, pairsFrom}
+use Rattle.join_spec.specs.PairList.{ontoPair, rowFrom}
 use Rattle.join_index.specs.Grouping.{leftAt, rightAt}
 use Rattle.join_index.specs.declared.Layout.{Layout}
 use Rattle.join_index.specs.Asking.{LeftThere}
 use Rattle.kept_rows.specs.Kept.{containedAt}
 use Rattle.row_pairs.specs.Containing.{pairsWith, rowOf}
-use Rattle.join_pairs.specs.Writing.{rowAt}
+use Rattle.left_search.specs.LeftRows.{rowAt}
 
 -- a row of the pair list, as the right places that are kept
 row-from : (k : ℕ) (left : List ℕ) (rights : List (List ℕ)) (r n : ℕ) → r + n ≡ length rights
@@ -41,19 +41,6 @@ row-from k left rights r (suc n) e =
 
 pub row-whole : (q : Query) (k : ℕ) → rowAt q k ≡ rowOf q k (upto (length (q .rights)))
 row-whole q k = row-from k (getD (q .lefts) k []) (q .rights) 0 (length (q .rights)) (omega arith)
-
--- the pairs of the left sets from place k on
-pub pairs-next : (q : Query) (k : ℕ) → k < length (q .lefts)
-    → pairsFrom contained k (drop k (q .lefts)) (q .rights) ≡ rowAt q k ++ pairsFrom contained (k + 1) (drop (k + 1) (q .lefts)) (q .rights)
-unfolding pairsFrom
-pairs-next q k below =
-    let next : suc k ≡ k + 1 = omega arith in
-    rw (drop-cons (q .lefts) k [] below)
-    (ap (λ (n : ℕ). rowAt q k ++ pairsFrom contained n (drop n (q .lefts)) (q .rights)) next)
-
-pub pairs-none : (q : Query) (k : ℕ) → length (q .lefts) ≤ k → pairsFrom contained k (drop k (q .lefts)) (q .rights) ≡ []
-unfolding pairsFrom
-pairs-none q k past = rw (drop-of-length-le (q .lefts) {i = k} past)
 
 module _ {lay : Layout} {q : Query} {w : List ℕ} {k : ℕ} (there : LeftThere lay q w k) where
   -- a left set without ranks is contained in no right set

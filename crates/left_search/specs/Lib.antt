@@ -1,0 +1,2 @@
+-- Contents: the pairs of one left set.
+pub mod LeftRows
