@@ -49,7 +49,7 @@ pub extern "C" fn kitfinder_join(
         limit (now (ranks .entry)) budget number (weightsOf a b g h) (roomOf (now (work .entry)) (now (pairs .entry)))) ⌝ }
 {
     let weights = Weights { a, b, g, h };
-    *answer = join_spec::join_words(join::run_numbered(
+    *answer = join_answers::join_words(join::run_numbered(
         t,
         left_ends,
         left_items,

@@ -1,6 +1,6 @@
 // The text that the program kitlist prints (document 01), written into a lent list of bytes: loads a tag file, and writes the text of
 // the join of its left sets (kits) with its right sets (stacks), with the repeats that the loader counted, or why there is no list.
-// What the text is is defined in specs/.
+// What the text is is defined in `listing_spec`.
 use join_text::MAX_PAIRS;
 use join_text::list_loaded;
 use number_lines::put_refusal;
@@ -21,8 +21,8 @@ ghost use Rattle.tag_file.specs.Loading.{fileFault};
 ghost use Rattle.text_lines.specs.Lines.{refusalLine};
 ghost use Rattle.join_text.specs.JoinText.{Fills};
 ghost use Rattle.join_text.specs.Inner.{textRoom};
-ghost use Rattle.listing.specs.Listing.{maxFile, recordsText, listing};
-ghost use Rattle.listing.specs.Inner.{tableBytes, sideItems, Within, cutText};
+ghost use Rattle.listing_spec.specs.Listing.{maxFile, recordsText, listing};
+ghost use Rattle.listing_spec.specs.Inner.{tableBytes, sideItems, Within, cutText};
 
 // The longest file that is read.
 pub const MAX_FILE: usize = 65536;

@@ -46,8 +46,8 @@ use Rattle.tag_containment.proofs.LoadedPairs.{tagsContained, sets-tags}
 use Rattle.text_lines.specs.Lines.{refusalLine, countsLine, repeatsLine, pairLines}
 use Rattle.answer_text.specs.AnswerText.{answerText}
 use Rattle.join_text.specs.JoinText.{workWords, pairPlaces, programRoom, programSettings, joinText}
-use Rattle.listing.specs.Listing.{recordsInput, recordsText, lengthTest, listing}
-use Rattle.listing.proofs.LoadRoom.{fault-free}
+use Rattle.listing_spec.specs.Listing.{recordsInput, recordsText, lengthTest, listing}
+use Rattle.listing_spec.proofs.LoadRoom.{fault-free}
 use Rattle.listing_cases.proofs.Sizes.{recordsSize, words-records}
 
 -- the sets of a side's records, by place

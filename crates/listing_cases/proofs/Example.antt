@@ -20,7 +20,7 @@ use Rattle.tag_file.specs.Repeats.{repeatsIn}
 use Rattle.tag_file.specs.Loading.{fileFault, firstFault, faultOf, tooMany, endsFrom, join}
 use Rattle.text_lines.specs.Lines.{ascii, decimalFrom, decimal, refusedLine, countsLine, repeatsLine, pairLine, pairLines}
 use Rattle.join_text.specs.JoinText.{joinText}
-use Rattle.listing.specs.Listing.{listing}
+use Rattle.listing_spec.specs.Listing.{listing}
 
 -- a tag: eleven zero bytes and the one shown
 abbrev tag : ℕ → List ℕ

@@ -8,8 +8,8 @@ use borrow.Author.Tests.{ltb-true, ltb-false}
 use lib.Dec.{ltb}
 use lib.ListN.{length, take}
 use lib.Seq.{length-take-le, take-all}
-use Rattle.listing.specs.Listing.{maxFile, listing}
-use Rattle.listing.proofs.Texts.{listing-long}
+use Rattle.listing_spec.specs.Listing.{maxFile, listing}
+use Rattle.listing_spec.proofs.Texts.{listing-long}
 
 pub listing-read : (file : List ℕ) → listing (take (maxFile + 1) file) ≡ listing file
 listing-read file = by-size (ltb maxFile (length file)) refl

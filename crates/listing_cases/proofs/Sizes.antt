@@ -12,7 +12,7 @@ use Rattle.inputs.proofs.TestLaws.{words-for}
 use Rattle.tag_file.specs.Records.{TagRecord, ofSide, tagTable, entriesOf, setsOfSide}
 use Rattle.tag_file.specs.Loading.{endsFrom, endsOf, join}
 use Rattle.tag_file.proofs.ItemCount.{length-endsOf, length-joinedItems}
-use Rattle.listing.specs.Listing.{recordsInput}
+use Rattle.listing_spec.specs.Listing.{recordsInput}
 
 last-joined : (start : ℕ) (sets : List (List ℕ)) → lastEnd start (endsFrom start sets) ≡ start + length (join sets)
 unfolding lastEnd endsFrom join

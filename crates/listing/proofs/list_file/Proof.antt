@@ -2,7 +2,7 @@
 use mathlib.Core.Path.{sym}
 use native.Mathlib.Omega.{arith}
 use Rattle.join_text.proofs.Texts.{put-fills, fills-same}
-use Rattle.listing.proofs.Texts.{listing-long, listing-short}
+use Rattle.listing_spec.proofs.Texts.{listing-long, listing-short}
 use borrow.Author.Needs.{needs}
 use Rattle.listing.proofs.list_file.Statement.{statement}
 use Rattle.listing.proofs.list_file.Tie as tie

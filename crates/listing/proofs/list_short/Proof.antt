@@ -3,8 +3,8 @@
 use native.Mathlib.Omega.{arith}
 use Rattle.tag_file.specs.Loading.{Lists, listsOf}
 use Rattle.join_text.proofs.Texts.{put-fills, fills-same}
-use Rattle.listing.proofs.LoadRoom.{ProgramLists}
-use Rattle.listing.proofs.LoadTexts.{loaded-text, loaded-within, refused-load}
+use Rattle.listing_spec.proofs.LoadRoom.{ProgramLists}
+use Rattle.listing_spec.proofs.LoadTexts.{loaded-text, loaded-within, refused-load}
 use borrow.Author.Needs.{needs}
 use Rattle.listing.proofs.list_short.Statement.{statement}
 use Rattle.listing.proofs.list_short.Tie as tie

@@ -9,7 +9,7 @@ use Rattle.tag_file.specs.declared.Loaded.{Loaded}
 use Rattle.tag_file.specs.declared.Repeats.{Repeats}
 use Rattle.join_text.specs.JoinText.{joinText, programSettings}
 use Rattle.join_text.specs.Inner.{textRoom}
-use Rattle.listing.specs.Listing.{maxFile}
+use Rattle.listing_spec.specs.Listing.{maxFile}
 
 -- the bytes of the tag table, and the items of a side: the tags that the longest file can have
 abbrev pub tableBytes : ℕ

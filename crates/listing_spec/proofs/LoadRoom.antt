@@ -20,8 +20,8 @@ use Rattle.tag_file.proofs.ItemCount.{length-tagBytes, length-numbersOf, length
 use Rattle.tag_round_trip.proofs.Sorted.{length-collapse}
 use Rattle.tag_file.proofs.FaultFree.{FaultFree, file-free}
 use Rattle.tag_containment.proofs.Covered.{records-cover}
-use Rattle.listing.specs.Listing.{maxFile}
-use Rattle.listing.specs.Inner.{tableBytes, sideItems}
+use Rattle.listing_spec.specs.Listing.{maxFile}
+use Rattle.listing_spec.specs.Inner.{tableBytes, sideItems}
 
 -- the entries of a side stand for twelve bytes each
 entries-bytes : (side : Side) (rs : List TagRecord) → tagLength * entriesOf side rs ≤ totalLength rs

@@ -1,10 +1,10 @@
 -- `join_words` meets its contract: a case for each variant.
 use mathlib.Core.Path.{sym, ap, _∙_}
 use Rattle.join_spec.specs.Answer.{joinWords}
 use Rattle.sets.proofs.Words.{refused-words}
 use borrow.Author.Needs.{needs}
-use Rattle.join_spec.proofs.join_words.Statement.{statement}
-use Rattle.join_spec.proofs.join_words.Tie as tie
+use Rattle.join_answers.proofs.join_words.Statement.{statement}
+use Rattle.join_answers.proofs.join_words.Tie as tie
 
 enum-known-answer : tie.Need-enum-known-answer
 enum-known-answer c = search needs

@@ -24,9 +24,9 @@ use Rattle.text_lines.specs.Lines.{refusalLine}
 use Rattle.inputs.specs.Input.{inputOf}
 use Rattle.join_text.specs.JoinText.{programSettings, joinText}
 use Rattle.join_text.specs.Inner.{textRoom}
-use Rattle.listing.specs.Listing.{maxFile, recordsText}
-use Rattle.listing.specs.Inner.{Within, cutText}
-use Rattle.listing.proofs.LoadRoom.{ProgramLists, fault-free, never-short}
+use Rattle.listing_spec.specs.Listing.{maxFile, recordsText}
+use Rattle.listing_spec.specs.Inner.{Within, cutText}
+use Rattle.listing_spec.proofs.LoadRoom.{ProgramLists, fault-free, never-short}
 
 -- the text of T items and seven lists as a load fills them, with these repeats
 abbrev listsText : Repeats → ℕ → Lists → List ℕ
