@@ -17,8 +17,8 @@ use Rattle.join_nodes.specs.declared.Walked.{Walked}
 use Rattle.join_nodes.proofs.PartLoop.{continuing-start, continuing-end}
 use Rattle.join_enter.specs.Entering.{NodeEntered}
 use Rattle.join_enter.specs.declared.Entered.{Entered}
-use Rattle.join_visit.specs.Heaviest.{RunChosen}
-use Rattle.join_visit.specs.declared.heavy.Span.{Span}
+use Rattle.heaviest_runs.specs.Heaviest.{RunChosen}
+use Rattle.heaviest_runs.specs.declared.Span.{Span}
 use Rattle.join_visit.proofs.HeavyChild.{kids-below, below-spent, kids-above, above-spent, none-chosen}
 use Rattle.join_visit.proofs.HeavyChild.{chosenPath, chosen-node, chosen-visited}
 

@@ -29,9 +29,9 @@ use Rattle.join_nodes.specs.declared.Walked.{Walked}
 use Rattle.join_nodes.proofs.RunLaws.{run-length, run-split}
 use Rattle.join_nodes.proofs.VisitLaws.{added-none, underway-next, visited-then, visited-before, visited-early, visited-late}
 use Rattle.join_nodes.proofs.FrameLaws.{index-framed, slot-framed, run-framed, framed-then}
-use Rattle.join_visit.specs.Heaviest.{PartedAt, RunBegins, RunChosen}
-use Rattle.join_visit.specs.declared.heavy.Span.{Span}
-use Rattle.join_visit.proofs.RunParts.{chosen-begins}
+use Rattle.heaviest_runs.specs.Heaviest.{PartedAt, RunBegins, RunChosen}
+use Rattle.heaviest_runs.specs.declared.Span.{Span}
+use Rattle.heaviest_runs.proofs.RunParts.{chosen-begins}
 use Rattle.join_visit.proofs.ChildSteps.{underway-less}
 use Rattle.join_visit.proofs.ChildNodes.{next-node, slot-beyond}
 

@@ -1,5 +1,4 @@
 -- Laws of a visit, without code: from a node to its children and to the heaviest of them.
-pub mod RunParts
 pub mod ChildSteps
 pub mod ChildNodes
 pub mod HeavyChild

@@ -1,3 +1,2 @@
--- Contents: the left sets of a child, and the heaviest of the children.
+-- Contents: the left sets of a child.
 pub mod Child
-pub mod Heaviest

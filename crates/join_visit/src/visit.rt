@@ -2,8 +2,8 @@
 // depth falls. The child with most left sets is left out of these calls: the visit goes on with it in place of the node. Each of the
 // others has at most half of the node's left sets, so that calls lie above each other only as often as these can be halved,
 // whatever the limit.
-use crate::heavy::heaviest_run;
 use block_checks::check_block;
+use heaviest_runs::heaviest_run;
 use join_enter::enter_node;
 use join_index::Layout;
 use join_keys::keys::run_end;

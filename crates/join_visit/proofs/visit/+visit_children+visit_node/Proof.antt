@@ -28,7 +28,7 @@ use Rattle.join_keys.proofs.keys.run_end.Reads as run-end
 use Rattle.block_checks.proofs.check_block.Reads as check-block
 use Rattle.join_nodes.proofs.decide.decide.Reads as decide
 use Rattle.join_enter.proofs.enter_node.Reads as enter-node
-use Rattle.join_visit.proofs.heavy.heaviest_run.Reads as heaviest-run
+use Rattle.heaviest_runs.proofs.heaviest_run.Reads as heaviest-run
 use Rattle.join_visit.proofs.visit.visit_children.Reads as visit-children
 use Rattle.join_visit.proofs.visit.visit_children.Kinds as children-kinds
 use Rattle.join_visit.proofs.visit.visit_node.Reads as visit-node

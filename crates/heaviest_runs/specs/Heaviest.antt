@@ -8,7 +8,7 @@ use Rattle.join_index.specs.Grouping.{keyAt}
 use Rattle.join_index.specs.declared.Layout.{Layout}
 use Rattle.join_index.specs.Asking.{RunThere}
 use Rattle.join_index.specs.Runs.{run, RunEnd}
-use Rattle.join_visit.specs.declared.heavy.Span.{Span}
+use Rattle.heaviest_runs.specs.declared.Span.{Span}
 
 -- the groups of n keys from x on, at the places lo up to hi, are parted at place i: those of lesser keys stand before it
 pub record PartedAt (lay : Layout) (q : Query) (w : List ℕ) (d x n : ℕ) (rest : List ℕ) (lo i hi : ℕ) : Type 0 where

@@ -23,8 +23,8 @@ use Rattle.join_keys.proofs.RunEnds.{reaching-start, reaching-end}
 use Rattle.join_nodes.proofs.Groups.{FirstGroup}
 use Rattle.join_nodes.proofs.RunLaws.{Cut, run-split}
 use Rattle.join_blocks.proofs.GroupSteps.{group-first, group-cut}
-use Rattle.join_visit.specs.Heaviest.{PartedAt, RunBegins, RunChosen}
-use Rattle.join_visit.specs.declared.heavy.Span.{Span}
+use Rattle.heaviest_runs.specs.Heaviest.{PartedAt, RunBegins, RunChosen}
+use Rattle.heaviest_runs.specs.declared.Span.{Span}
 
 -- lists that are the same with the same list behind them
 append-cancel : (xs ys zs : List ℕ) → xs ++ zs ≡ ys ++ zs → xs ≡ ys

@@ -1,9 +1,9 @@
--- `join_visit::heavy::longer` meets its contract.
+-- `heaviest_runs::longer` meets its contract.
 use mathlib.Core.Path.{refl}
 use borrow.Author.Needs.{needs}
 use borrow.Author.Tests.{lt-ltb, le-ltb}
-use Rattle.join_visit.proofs.heavy.longer.Statement.{statement}
-use Rattle.join_visit.proofs.heavy.longer.Tie as tie
+use Rattle.heaviest_runs.proofs.longer.Statement.{statement}
+use Rattle.heaviest_runs.proofs.longer.Tie as tie
 
 sub-if1 : tie.Need-sub-if1
 sub-if1 c = search needs

@@ -1,12 +1,12 @@
--- `join_visit::heavy::heaviest_run` meets its contract. The invariant: a run begins at place i, and one of the runs, or none, is
+-- `heaviest_runs::heaviest_run` meets its contract. The invariant: a run begins at place i, and one of the runs, or none, is
 -- chosen. The measure is how many left sets are still to be looked at.
 use Prim.Native.Nat.{_-_}
 use native.Mathlib.Omega.{arith}
 use lib.Dec.{ltb}
-use Rattle.join_visit.specs.Heaviest.{RunBegins, RunChosen}
-use Rattle.join_visit.proofs.RunParts.{begins-start, begins-step, chosen-only, chosen-none, chosen-step}
-use Rattle.join_visit.proofs.heavy.heaviest_run.Statement.{statement}
-use Rattle.join_visit.proofs.heavy.heaviest_run.Tie as tie
+use Rattle.heaviest_runs.specs.Heaviest.{RunBegins, RunChosen}
+use Rattle.heaviest_runs.proofs.RunParts.{begins-start, begins-step, chosen-only, chosen-none, chosen-step}
+use Rattle.heaviest_runs.proofs.heaviest_run.Statement.{statement}
+use Rattle.heaviest_runs.proofs.heaviest_run.Tie as tie
 
 abbrev Inv-loop : tie.InvT-loop
 Inv-loop work lay d lo hi best₀ i₀ best i = RunBegins lay work d lo hi i × RunChosen lay work d lo hi best

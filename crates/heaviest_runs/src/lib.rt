@@ -6,7 +6,7 @@ ghost use mathlib.Core.Bool.{cond};
 ghost use Prim.Native.Nat.{_-_, _≤_};
 ghost use lib.Dec.{ltb};
 ghost use Rattle.join_index.specs.Asking.{Some, RunThere};
-ghost use Rattle.join_visit.specs.Heaviest.{RunChosen};
+ghost use Rattle.heaviest_runs.specs.Heaviest.{RunChosen};
 
 // At a depth below this no child is preferred to another. Visits lie above each other at most so often there, whatever the limit,
 // and the nodes with many children, whose runs would be looked for twice, stand there.

@@ -1,0 +1,2 @@
+-- Contents: the heaviest of the children.
+pub mod Heaviest
