@@ -1,99 +1,73 @@
-// The two lines of a vector: its name and the answer, then the seven lists.
-use sets::Refusal;
-use sets::head_of;
-use tag_file::LoadAnswer;
-use tag_file::Loaded;
-
-const STDOUT: i32 = 1;
+// The two lines of a vector: after its name the answer, then the seven lists.
+use crate::reading::at_most;
+use libc::STDOUT_FILENO;
+ghost use Prim.Native.Nat.{_≤_};
 
 // A space and a number.
-fn print_number(n: usize) {
-    io::write_all(STDOUT, b" ");
-    io::print_decimal(STDOUT, n as u64);
+fn print_number(n: u64) {
+    io::write_all(STDOUT_FILENO, b" ");
+    io::print_decimal(STDOUT_FILENO, n);
 }
 
-// The number of a refusal and what returns with it: one detail, for each that the loader has.
-fn print_refusal(why: Refusal) {
-    let head = head_of(why);
-    print_number(head.number as usize);
-    print_number(head.first as usize);
-}
-
-fn print_counts(counts: Loaded) {
-    print_number(counts.left_sets);
-    print_number(counts.right_sets);
-    print_number(counts.left_entries);
-    print_number(counts.right_entries);
-    print_number(counts.tags);
-}
-
-fn print_answer(answer: LoadAnswer) {
-    match answer {
-        LoadAnswer::Loaded(counts, repeats) => {
-            io::write_all(STDOUT, b": loaded");
-            print_counts(counts);
-            io::write_all(STDOUT, b" repeats");
-            print_number(repeats.left);
-            print_number(repeats.right);
-        }
-        LoadAnswer::Refused(why) => {
-            io::write_all(STDOUT, b": refused");
-            print_refusal(why);
-        }
+// The words of an answer from one place up to another.
+fn print_words(words: &[u64; 10], from: usize, to: usize)
+    requires { ⌜ to ≤ 10 ⌝ }
+{
+    for i in from..to {
+        print_number(words[i]);
     }
 }
 
-fn print_bytes(list: &[u8]) {
-    let mut i: usize = 0;
-    while i < list.len() {
-        io::print_hex(STDOUT, list[i] as u64, 2);
-        i += 1;
+// How much was filled and how many reads were repeats, or the number of a refusal and what returns with it: one detail, for each
+// that a load has.
+pub fn print_answer(words: &[u64; 10]) {
+    if words[0] == 0 {
+        io::write_all(STDOUT_FILENO, b": loaded");
+        print_words(words, 3, 8);
+        io::write_all(STDOUT_FILENO, b" repeats");
+        print_words(words, 8, 10);
+    } else {
+        io::write_all(STDOUT_FILENO, b": refused");
+        print_words(words, 0, 2);
+    }
+    io::write_all(STDOUT_FILENO, b"\n  ");
+}
+
+fn wide_byte(x: u8) -> u64 {
+    x as u64
+}
+
+fn wide_half(x: u16) -> u64 {
+    x as u64
+}
+
+fn wide(x: u32) -> u64 {
+    x as u64
+}
+
+pub fn print_bytes(list: &[u8], shown: usize) {
+    for i in 0..at_most(shown, list.len()) {
+        io::print_hex(STDOUT_FILENO, wide_byte(list[i]), 2);
     }
 }
 
-fn print_bar() {
-    io::write_all(STDOUT, b" |");
-}
-
-fn print_halves(list: &[u16]) {
-    print_bar();
-    let mut i: usize = 0;
-    while i < list.len() {
-        print_number(list[i] as usize);
-        i += 1;
+fn print_halves(list: &[u16], shown: usize) {
+    io::write_all(STDOUT_FILENO, b" |");
+    for i in 0..at_most(shown, list.len()) {
+        print_number(wide_half(list[i]));
     }
 }
 
-fn print_words(list: &[u32]) {
-    print_bar();
-    let mut i: usize = 0;
-    while i < list.len() {
-        print_number(list[i] as usize);
-        i += 1;
+fn print_ends(list: &[u32], shown: usize) {
+    io::write_all(STDOUT_FILENO, b" |");
+    for i in 0..at_most(shown, list.len()) {
+        print_number(wide(list[i]));
     }
 }
 
-// The two lines of a vector.
-pub fn print_load(
-    name: &[u8],
-    answer: LoadAnswer,
-    tags: &[u8],
-    left_numbers: &[u16],
-    left_ends: &[u32],
-    left_items: &[u16],
-    right_numbers: &[u16],
-    right_ends: &[u32],
-    right_items: &[u16],
-) {
-    io::write_all(STDOUT, name);
-    print_answer(answer);
-    io::write_all(STDOUT, b"\n  ");
-    print_bytes(tags);
-    print_halves(left_numbers);
-    print_words(left_ends);
-    print_halves(left_items);
-    print_halves(right_numbers);
-    print_words(right_ends);
-    print_halves(right_items);
-    io::write_all(STDOUT, b"\n");
+// The three lists of a side.
+pub fn print_side(numbers: &[u16], ends: &[u32], items: &[u16], shown: usize) {
+    print_halves(numbers, shown);
+    print_ends(ends, shown);
+    print_halves(items, shown);
 }

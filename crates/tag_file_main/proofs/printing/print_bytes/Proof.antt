@@ -1,28 +1,27 @@
--- `print_bytes` is safe and ends: the index stays within the list, and what is left of it falls.
-use Prim.Native.Nat.{_≤_, _-_}
-use native.Mathlib.Omega.{arith}
-use borrow.Author.Needs.{needs}
+-- `print_bytes` is safe and ends: what is shown lies within the list, and what is left of it falls.
+use Prim.Native.Nat.{_-_, _≤_}
 use lib.ListN.{length}
+use borrow.Author.Needs.{needs}
 use Rattle.tag_file_main.proofs.printing.print_bytes.Statement.{statement}
 use Rattle.tag_file_main.proofs.printing.print_bytes.Tie as tie
 
 abbrev Inv-loop : tie.InvT-loop
-Inv-loop list i₀ i =
-    i ≤ length list
+Inv-loop list shown i₀ i-end i = i-end ≤ length list
 
 abbrev μ-loop : tie.MeasureT-loop
-μ-loop list i₀ i =
-    length list - i
+μ-loop list shown i₀ i-end i = i-end - i
+
+at-most-requires : tie.Need-at-most-requires Inv-loop μ-loop
+at-most-requires c κs = search needs
 
 loop-holds : tie.Need-loop-holds Inv-loop μ-loop
 loop-holds c = search needs
 
-shared-slice-read-print-hex : tie.Need-shared-slice-read-print-hex Inv-loop μ-loop
-shared-slice-read-print-hex c = search needs
+shared-slice-read-wide-byte : tie.Need-shared-slice-read-wide-byte Inv-loop μ-loop
+shared-slice-read-wide-byte c = search needs
 
-cast-print-hex : tie.Need-cast-print-hex Inv-loop μ-loop
-cast-print-hex c =
-    omega (arith, c .shared-slice-known2 .given (c .before .before .loop .i))
+wide-byte-requires : tie.Need-wide-byte-requires Inv-loop μ-loop
+wide-byte-requires c κs = search needs
 
 print-hex-requires : tie.Need-print-hex-requires Inv-loop μ-loop
 print-hex-requires c κs = search needs
@@ -45,9 +44,10 @@ print-bytes-spec =
     (tie.spec
     Inv-loop
     μ-loop
+    at-most-requires
     loop-holds
-    shared-slice-read-print-hex
-    cast-print-hex
+    shared-slice-read-wide-byte
+    wide-byte-requires
     print-hex-requires
     add-i
     loop-less

@@ -1,34 +1,36 @@
--- `print_halves` is safe and ends: the index stays within the list, and what is left of it falls.
-use Prim.Native.Nat.{_≤_, _-_}
-use native.Mathlib.Omega.{arith}
-use borrow.Author.Needs.{needs}
+-- `print_halves` is safe and ends: what is shown lies within the list, and what is left of it falls.
+use Prim.Native.Nat.{_-_, _≤_}
 use lib.ListN.{length}
+use borrow.Author.Needs.{needs}
 use Rattle.tag_file_main.proofs.printing.print_halves.Statement.{statement}
 use Rattle.tag_file_main.proofs.printing.print_halves.Tie as tie
 
 abbrev Inv-loop : tie.InvT-loop
-Inv-loop list i₀ i =
-    i ≤ length list
+Inv-loop list shown i₀ i-end i = i-end ≤ length list
 
 abbrev μ-loop : tie.MeasureT-loop
-μ-loop list i₀ i =
-    length list - i
+μ-loop list shown i₀ i-end i = i-end - i
 
-print-bar-requires : tie.Need-print-bar-requires Inv-loop μ-loop
-print-bar-requires c κs = search needs
+slice-aggregate-write-all : tie.Need-slice-aggregate-write-all Inv-loop μ-loop
+slice-aggregate-write-all c = search needs
+
+write-all-requires : tie.Need-write-all-requires Inv-loop μ-loop
+write-all-requires c κs = search needs
+
+at-most-requires : tie.Need-at-most-requires Inv-loop μ-loop
+at-most-requires c κs = search needs
 
 loop-holds : tie.Need-loop-holds Inv-loop μ-loop
 loop-holds c = search needs
 
-mul-print-number : tie.Need-mul-print-number Inv-loop μ-loop
-mul-print-number c = search needs
+mul-wide-half : tie.Need-mul-wide-half Inv-loop μ-loop
+mul-wide-half c = search needs
 
-shared-slice-read-print-number : tie.Need-shared-slice-read-print-number Inv-loop μ-loop
-shared-slice-read-print-number c = search needs
+shared-slice-read-wide-half : tie.Need-shared-slice-read-wide-half Inv-loop μ-loop
+shared-slice-read-wide-half c = search needs
 
-cast-print-number : tie.Need-cast-print-number Inv-loop μ-loop
-cast-print-number c =
-    omega (arith, c .shared-slice-known2 .given (c .before .before .loop .i))
+wide-half-requires : tie.Need-wide-half-requires Inv-loop μ-loop
+wide-half-requires c κs = search needs
 
 print-number-requires : tie.Need-print-number-requires Inv-loop μ-loop
 print-number-requires c κs = search needs
@@ -51,11 +53,13 @@ print-halves-spec =
     (tie.spec
     Inv-loop
     μ-loop
-    print-bar-requires
+    slice-aggregate-write-all
+    write-all-requires
+    at-most-requires
     loop-holds
-    mul-print-number
-    shared-slice-read-print-number
-    cast-print-number
+    mul-wide-half
+    shared-slice-read-wide-half
+    wide-half-requires
     print-number-requires
     add-i
     loop-less

@@ -1,21 +1,14 @@
--- `print_words` is safe and ends: the index stays within the list, and what is left of it falls.
-use Prim.Native.Nat.{_≤_, _-_}
-use native.Mathlib.Omega.{arith}
+-- `print_words` is safe and ends: the words that are left get fewer.
+use Prim.Native.Nat.{_-_, _≤_}
 use borrow.Author.Needs.{needs}
-use lib.ListN.{length}
 use Rattle.tag_file_main.proofs.printing.print_words.Statement.{statement}
 use Rattle.tag_file_main.proofs.printing.print_words.Tie as tie
 
 abbrev Inv-loop : tie.InvT-loop
-Inv-loop list i₀ i =
-    i ≤ length list
+Inv-loop words from to i₀ i = to ≤ 10
 
 abbrev μ-loop : tie.MeasureT-loop
-μ-loop list i₀ i =
-    length list - i
-
-print-bar-requires : tie.Need-print-bar-requires Inv-loop μ-loop
-print-bar-requires c κs = search needs
+μ-loop words from to i₀ i = to - i
 
 loop-holds : tie.Need-loop-holds Inv-loop μ-loop
 loop-holds c = search needs
@@ -23,12 +16,8 @@ loop-holds c = search needs
 mul-print-number : tie.Need-mul-print-number Inv-loop μ-loop
 mul-print-number c = search needs
 
-shared-slice-read-print-number : tie.Need-shared-slice-read-print-number Inv-loop μ-loop
-shared-slice-read-print-number c = search needs
-
-cast-print-number : tie.Need-cast-print-number Inv-loop μ-loop
-cast-print-number c =
-    omega (arith, c .shared-slice-known2 .given (c .before .before .loop .i))
+element-copy-out-print-number : tie.Need-element-copy-out-print-number Inv-loop μ-loop
+element-copy-out-print-number c = search needs
 
 print-number-requires : tie.Need-print-number-requires Inv-loop μ-loop
 print-number-requires c κs = search needs
@@ -51,11 +40,9 @@ print-words-spec =
     (tie.spec
     Inv-loop
     μ-loop
-    print-bar-requires
     loop-holds
     mul-print-number
-    shared-slice-read-print-number
-    cast-print-number
+    element-copy-out-print-number
     print-number-requires
     add-i
     loop-less
