@@ -20,7 +20,8 @@ ghost use Rattle.tag_loader.specs.Passes.{AllFilled, Fillable};
 // A hint that leads to no id.
 const NO_ID: u16 = 65535;
 
-// The first pass over one file, with the numbers noted here.
+// The first pass over one file. The numbers that it notes are in a function of their own: the compiler puts what is needed later into
+// the same place.
 pub fn scan(
     file: &[u8],
     heads: &mut [usize; INDEX_ROOM],

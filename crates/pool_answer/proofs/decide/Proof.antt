@@ -1,8 +1,8 @@
--- `pool_loader::decide` meets its contract: case by case.
-use Rattle.pool_loader.proofs.Ends.{decided-short, decided-long, decided-loaded}
+-- `pool_answer::decide` meets its contract: case by case.
+use Rattle.pool_answer.proofs.Cases.{decided-short, decided-long, decided-loaded}
 use borrow.Author.Needs.{needs}
-use Rattle.pool_loader.proofs.decide.Statement.{statement}
-use Rattle.pool_loader.proofs.decide.Tie as tie
+use Rattle.pool_answer.proofs.decide.Statement.{statement}
+use Rattle.pool_answer.proofs.decide.Tie as tie
 
 enum-known-answer : tie.Need-enum-known-answer
 enum-known-answer c = search needs

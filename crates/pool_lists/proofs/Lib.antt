@@ -1,5 +1,7 @@
 -- Laws of the pooled load.
--- the answer, and a call by its ends
+-- the answer
+pub mod Answers
+-- a call by its ends
 pub mod Ends
 -- the second passes
 pub mod Filling

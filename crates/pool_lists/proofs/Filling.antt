@@ -24,7 +24,7 @@ use Rattle.tag_fill.specs.Fill.{FillReady}
 use Rattle.tag_loader.proofs.Rooms.{memb-side-tags}
 use Rattle.right_slots.proofs.Accepted.{once-accepted, short-accepted}
 use Rattle.pool_fill.specs.Pool.{PoolFillReady}
-use Rattle.pool_loader.specs.Deciding.{PoolFillable}
+use Rattle.pool_lists.specs.Judging.{PoolFillable}
 
 module _ {first second heads tails order : List ℕ} {n : ℕ} {used counts slots : List ℕ} {lent : Lists}
     (f : PoolFillable first second heads tails order n used counts slots lent) where

@@ -1,0 +1,3 @@
+-- Laws of the answer.
+-- case by case
+pub mod Cases

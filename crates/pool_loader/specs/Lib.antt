@@ -1,2 +1,0 @@
--- Contents: what the functions of the pooled load ask and promise.
-pub mod Deciding
