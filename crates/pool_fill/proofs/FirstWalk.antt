@@ -28,7 +28,8 @@ use Rattle.record_items.specs.Marks.{markWords, Unmarked}
 use Rattle.record_items.proofs.Marks.{unmarked-zeros}
 use Rattle.right_slots.specs.Slots.{slotOf, AtSlots}
 use Rattle.right_slots.proofs.Splits.{two-splits}
-use Rattle.pool_fill.specs.Pool.{placeWord, PoolFillReady}
+use Rattle.pool_sets.specs.Own.{placeWord}
+use Rattle.pool_fill.specs.Pool.{PoolFillReady}
 use Rattle.pool_fill.proofs.Laying.{Block, size}
 use Rattle.pool_fill.proofs.Placing.{Placing, placing-start}
 use Rattle.pool_fill.proofs.Unions.{keep-without, partOf}

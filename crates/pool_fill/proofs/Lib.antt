@@ -1,8 +1,6 @@
 -- Laws of the second pass over the right sets of two files; each function that needs a proof file has its folder beside them.
 -- sets laid out in a list, each with what stands there now and what will
 pub mod Laying
--- items put back into the marks
-pub mod Recalling
 -- the lists of a side written set by set, each with room for its whole
 pub mod Placing
 -- records of two files, and the unions of their right sets

@@ -24,10 +24,12 @@ use Rattle.tag_pooling.proofs.OneMore.{used-alike}
 use Rattle.tag_index.specs.Index.{tableOf}
 use Rattle.record_items.specs.declared.Filled.{Filled}
 use Rattle.record_items.specs.Marks.{Unmarked, TagsKnown}
-use Rattle.right_slots.specs.Slots.{slotOf}
+use Rattle.right_slots.specs.Slots.{slotOf, HasSlot}
 use Rattle.right_slots.proofs.Counted.{slot-below}
 use Rattle.right_slots.proofs.Found.{FoundRight, found-right, met-right}
-use Rattle.pool_fill.specs.Pool.{placeWord, HasSlot, standing, SomeStanding, PooledAt, PoolFillReady}
+use Rattle.pool_merge.specs.Standing.{standing, SomeStanding, PooledAt}
+use Rattle.pool_sets.specs.Own.{placeWord}
+use Rattle.pool_fill.specs.Pool.{PoolFillReady}
 use Rattle.pool_fill.proofs.Laying.{Block, size, withPart, Laid, laid-at}
 use Rattle.pool_fill.proofs.Placing.{Placing, placing-reach}
 use Rattle.pool_fill.proofs.Placing.{placing-again}

@@ -24,11 +24,12 @@ use Rattle.tag_pooling.specs.Pooling.{unitedWith, pooled}
 use Rattle.tag_index.specs.Index.{tableOf}
 use Rattle.record_items.specs.declared.Filled.{Filled}
 use Rattle.record_items.specs.Marks.{Unmarked, TagsKnown}
-use Rattle.right_slots.specs.Slots.{slotOf, AtSlots}
+use Rattle.right_slots.specs.Slots.{slotOf, AtSlots, HasSlot}
 use Rattle.right_slots.proofs.Counted.{slot-below}
 use Rattle.right_slots.proofs.Found.{noted-member}
 use Rattle.right_slots.proofs.Putting.{at-slots-put}
-use Rattle.pool_fill.specs.Pool.{lengthBy, placeWord, RoomForOwn, OwnFilled, HasSlot, PoolFillReady}
+use Rattle.pool_sets.specs.Own.{lengthBy, placeWord, RoomForOwn, OwnFilled}
+use Rattle.pool_fill.specs.Pool.{PoolFillReady}
 use Rattle.pool_fill.proofs.Laying.{Block}
 use Rattle.pool_fill.proofs.Placing.{Placing, placing-bound, placing-room, placing-number, placing-end}
 use Rattle.pool_fill.proofs.Placing.{placing-next}

@@ -19,7 +19,7 @@ use Rattle.tag_pooling.specs.Pooling.{sameSet, unitedWith, unmet, pooled}
 use Rattle.tag_pooling.proofs.OneMore.{used-alike, used-keep, used-behind, memb-around}
 use Rattle.tag_pooling.proofs.Sides.{right-pooled}
 use Rattle.right_slots.specs.Slots.{NumbersOnce, pooledMark, slotWord}
-use Rattle.pool_fill.specs.Pool.{lengthBy}
+use Rattle.pool_sets.specs.Own.{lengthBy}
 use Rattle.pool_fill.proofs.Unions.{keep-around, partOf, part-alone}
 
 -- whether a record's set is not among records

@@ -25,7 +25,8 @@ use Rattle.tag_index.specs.Index.{tableOf}
 use Rattle.record_items.specs.declared.Filled.{Filled}
 use Rattle.record_items.specs.Marks.{Unmarked}
 use Rattle.right_slots.specs.Slots.{slotOf, AtSlots}
-use Rattle.pool_fill.specs.Pool.{placeWord, PoolFillReady}
+use Rattle.pool_sets.specs.Own.{placeWord}
+use Rattle.pool_fill.specs.Pool.{PoolFillReady}
 use Rattle.pool_fill.proofs.Laying.{Block, wholes, parts}
 use Rattle.pool_fill.proofs.Placing.{Placing}
 use Rattle.pool_fill.proofs.Placing.{placed-numbers, placed-ends, placed-items}

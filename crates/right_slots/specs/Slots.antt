@@ -57,6 +57,11 @@ pub record Slotted (file used counts slots : List ℕ) : Type 0 where
   pub size : length slots ≡ maxSets
   pub places : AtSlots (λ before r. totalLength before) (records file) used slots
 
+-- the slots can be looked up, and this number has one
+pub record HasSlot (used counts slots : List ℕ) (number : ℕ) : Type 0 where
+  pub counted : BlocksCounted used counts
+  pub within : slotOf used number < length slots
+
 -- a file whose right sets can have slots: not too many, each number once, and places that fit
 pub record Slottable (file : List ℕ) : Type 0 where
   pub few : length (ofSide Right (records file)) ≤ maxSets

@@ -18,8 +18,10 @@ ghost use Rattle.tag_file.specs.Records.{records, ofSide};
 ghost use Rattle.right_slots.specs.Slots.{numberWords, blockLength, blocks, slotOf, BlocksCounted, NumbersNoted};
 ghost use Rattle.right_slots.specs.Slots.{Slotted, Slottable};
 
-// The words of the bit set of numbers: a member for each of 65,536.
-pub const NUMBER_WORDS: usize = 65536 / 64;
+// How many numbers 16 bits have.
+pub const HALF_WORDS: usize = 65536;
+// The words of the bit set of numbers: a member for each.
+pub const NUMBER_WORDS: usize = HALF_WORDS / 64;
 // The words of a block.
 const BLOCK_WORDS: usize = 2;
 // How many blocks there are.

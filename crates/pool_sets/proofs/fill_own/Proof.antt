@@ -1,11 +1,11 @@
--- `pool_fill::fill_own` meets its contract: what is marked are the items of the record's tags.
+-- `pool_sets::fill_own` meets its contract: what is marked are the items of the record's tags.
 use mathlib.Core.List.{[]}
 use Rattle.tag_index.specs.Index.{tableOf}
 use Rattle.record_items.proofs.Marks.{unmarked-marked}
-use Rattle.pool_fill.proofs.Recalling.{fresh-wide, fresh-items}
+use Rattle.pool_sets.proofs.Fresh.{fresh-wide, fresh-items}
 use borrow.Author.Needs.{needs}
-use Rattle.pool_fill.proofs.fill_own.Statement.{statement}
-use Rattle.pool_fill.proofs.fill_own.Tie as tie
+use Rattle.pool_sets.proofs.fill_own.Statement.{statement}
+use Rattle.pool_sets.proofs.fill_own.Tie as tie
 
 mark-tags-requires : tie.Need-mark-tags-requires
 mark-tags-requires c κs =

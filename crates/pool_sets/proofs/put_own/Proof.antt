@@ -1,14 +1,14 @@
--- `pool_fill::put_own` meets its contract.
+-- `pool_sets::put_own` meets its contract.
 use mathlib.Core.Path.{_≡_, refl, ap, _∙_}
 use Prim.Native.Nat.{ℕ, _+_, _-_}
 use native.Mathlib.Omega.{arith}
 use lib.ListN.{length, getD, set}
 use Rattle.bit_sets.specs.BitSets.{members}
 use Rattle.record_items.proofs.Marks.{unmarked-zeros}
-use Rattle.pool_fill.specs.Pool.{lengthBy, placeWord}
+use Rattle.pool_sets.specs.Own.{lengthBy, placeWord}
 use borrow.Author.Needs.{needs}
-use Rattle.pool_fill.proofs.put_own.Statement.{statement}
-use Rattle.pool_fill.proofs.put_own.Tie as tie
+use Rattle.pool_sets.proofs.put_own.Statement.{statement}
+use Rattle.pool_sets.proofs.put_own.Tie as tie
 
 -- how many items the set has by itself, and the length that it takes
 owned : (c : tie.After-length-by)

@@ -1,10 +1,10 @@
--- `pool_fill::length_by` meets its contract: by the mark.
+-- `pool_sets::length_by` meets its contract: by the mark.
 use borrow.Author.Tests.{lt-ltb, le-ltb}
 use native.Mathlib.Omega.{arith}
 use borrow.Author.Needs.{needs}
 use Rattle.right_slots.specs.Slots.{pooledMark}
-use Rattle.pool_fill.proofs.length_by.Statement.{statement}
-use Rattle.pool_fill.proofs.length_by.Tie as tie
+use Rattle.pool_sets.proofs.length_by.Statement.{statement}
+use Rattle.pool_sets.proofs.length_by.Tie as tie
 
 cast-result : tie.Need-cast-result
 cast-result c = search needs

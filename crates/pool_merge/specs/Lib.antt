@@ -1,0 +1,2 @@
+-- Contents: what the function of this crate asks and promises.
+pub mod Standing

@@ -1,0 +1,2 @@
+-- Contents: what the functions of this crate ask and promise.
+pub mod Own
