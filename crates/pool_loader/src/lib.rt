@@ -4,12 +4,30 @@ use pool_lists::pool_second;
 use tag_file::LoadAnswer;
 use tag_index::HINT_SLOTS;
 use tag_index::INDEX_ROOM;
-use tag_loader::scan;
+use tag_scan::scan_records;
+use used_numbers::USED_WORDS;
 ghost use Rattle.tag_file.specs.Loading.{listsOf};
 ghost use Rattle.tag_pooling.specs.Pooling.{PooledCall};
+ghost use Rattle.tag_scan.specs.Scan.{Lengths, Scanned};
 
 // A hint that leads to no id.
 const NO_ID: u16 = 65535;
+
+// The first pass over the first file. The numbers that it notes are in a function of their own: the compiler puts what is needed later
+// into the same place.
+fn scan_first(
+    first: &[u8],
+    heads: &mut [usize; INDEX_ROOM],
+    tails: &mut [u32; INDEX_ROOM],
+    order: &mut [u16; INDEX_ROOM],
+    hints: &mut [u16; HINT_SLOTS],
+) -> LoadAnswer
+    requires { ⌜ Lengths (now heads) (now tails) (now order) ⌝ }
+    ensures { λ r. ⌜ Scanned (now (first .entry)) (now (heads .exit)) (now (tails .exit)) (now (order .exit)) r ⌝ }
+{
+    let mut used = [0u64; USED_WORDS];
+    scan_records(first, &mut used, heads, tails, order, hints)
+}
 
 // Loads two tag files into seven lent lists: the left sets of the first, and the right sets of both, united by number, over one tag
 // table.
@@ -36,7 +54,7 @@ pub fn load_pooled(
     let mut tails = [0u32; INDEX_ROOM];
     let mut order = [0u16; INDEX_ROOM];
     let mut hints = [NO_ID; HINT_SLOTS];
-    let answer = scan(first, &mut heads, &mut tails, &mut order, &mut hints);
+    let answer = scan_first(first, &mut heads, &mut tails, &mut order, &mut hints);
     pool_second(
         answer,
         first,

@@ -22,7 +22,7 @@ const NO_ID: u16 = 65535;
 
 // The first pass over one file. The numbers that it notes are in a function of their own: the compiler puts what is needed later into
 // the same place.
-pub fn scan(
+fn scan(
     file: &[u8],
     heads: &mut [usize; INDEX_ROOM],
     tails: &mut [u32; INDEX_ROOM],

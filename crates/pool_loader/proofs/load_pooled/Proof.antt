@@ -5,8 +5,8 @@ use Rattle.tag_index.specs.Index.{indexRoom}
 use Rattle.pool_loader.proofs.load_pooled.Statement.{statement}
 use Rattle.pool_loader.proofs.load_pooled.Tie as tie
 
-scan-requires : tie.Need-scan-requires
-scan-requires c κs =
+scan-first-requires : tie.Need-scan-first-requires
+scan-first-requires c κs =
     record {
       heads-full = length-replicate {A = ℕ} indexRoom 0;
       tails-full = length-replicate {A = ℕ} indexRoom 0;
@@ -14,7 +14,7 @@ scan-requires c κs =
     }
 
 pool-second-requires : tie.Need-pool-second-requires
-pool-second-requires c κs = c .before .before .before .before .before .before .before .before .before .before .before .scan .ensures
+pool-second-requires c κs = c .before .before .before .before .before .before .before .before .before .before .before .scan-first .ensures
 
 -- where `pool_second` has come back
 abbrev pooled : tie.After-slice-known14 → tie.After-pool-second
@@ -49,7 +49,7 @@ pub load-pooled-spec : {M : Type 1} → statement M
 load-pooled-spec =
     tie.close
     (tie.spec
-    scan-requires
+    scan-first-requires
     pool-second-requires
     same-length
     same-length-2
