@@ -25,7 +25,7 @@ use Rattle.tag_scan.specs.Scan.{Taken, Scanned}
 use Rattle.tag_loader.proofs.Rooms.{room-counted}
 use Rattle.right_slots.specs.Slots.{NumbersNoted, BlocksCounted}
 use Rattle.pool_answer.specs.Deciding.{decided, LimitedIf}
-use Rattle.pool_scan.specs.declared.Second.{Second}
+use Rattle.pool_counts.specs.declared.Second.{Second}
 use Rattle.pool_scan.specs.Second.{SecondScanned}
 use Rattle.pool_lists.specs.Judging.{PoolFillable, PoolDecided, LentLengths}
 

@@ -24,7 +24,7 @@ use Rattle.tag_scan.specs.Scan.{Taken}
 use Rattle.tag_scan.proofs.Taking.{taken-over, taken-next}
 use Rattle.pool_union.specs.declared.United.{United}
 use Rattle.pool_union.specs.Union.{TakenIn}
-use Rattle.pool_scan.specs.Second.{unitedBy}
+use Rattle.pool_counts.specs.Counting.{unitedBy}
 
 -- what is known of the records with one more right set: whether they pass a limit, and if not, that they are taken in
 pub record OneTaken (is : List TagRecord) (total : Loaded) (heads tails order : List ℕ) : Type 0 where

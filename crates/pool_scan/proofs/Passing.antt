@@ -25,7 +25,7 @@ use Rattle.tag_file.specs.declared.LoadAnswer.the-variants as load
 use Rattle.tag_file.specs.declared.ReadAnswer.the-variants.{Record}
 use Rattle.tag_file.specs.Reading.{readAt, tagsAt}
 use Rattle.tag_file.specs.Records.{TagRecord, totalLength, recordsAt, records, sameSide, allTags, collapse}
-use Rattle.tag_file.specs.Repeats.{repeatsIn, repeatsOf, repeatTotals}
+use Rattle.tag_file.specs.Repeats.{repeatsIn, repeatsOf}
 use Rattle.tag_file.specs.Loading.{numberUsed, tooMany, totalsOf}
 use Rattle.tag_file.proofs.RecordLaws.{length-tagsAt, read-within, read-length, records-next, totalLength-last, totalLength-inside}
 use Rattle.tag_file.proofs.RepeatLaws.{distinct-and-repeats, repeats-are, repeats-bound, repeats-same, repeats-other}
@@ -36,7 +36,10 @@ use Rattle.tag_pooling.proofs.Sides.{right-apart}
 use Rattle.load_totals.specs.Totals.{passes, wordNumbers}
 use Rattle.tag_scan.specs.Scan.{Taken}
 use Rattle.right_slots.specs.Slots.{AtSlots, slotWord}
-use Rattle.pool_scan.specs.declared.Second.{Second}
+use Rattle.pool_union.specs.declared.United.{United}
+use Rattle.pool_counts.specs.declared.Counted.{Counted}
+use Rattle.pool_counts.specs.declared.Second.{Second}
+use Rattle.pool_counts.specs.Counting.{countedFrom, unitedBy, countedBy, acceptedBy}
 use Rattle.pool_scan.specs.Second.{SecondReady, SecondScanned}
 use Rattle.pool_scan.proofs.Counts.{OneTaken}
 use Rattle.pool_scan.proofs.Words.{word-apart, word-start, long-left, long-of, RightNoted, noted-start, noted-tells, noted-left, noted-right}
@@ -50,8 +53,7 @@ lastFault first second =
 abbrev pub overOf : Loaded → Bool
 overOf t = passes (t .«right_sets») (t .«right_entries») (t .tags)
 
-pub record Passing (first second noted used heads tails order slots : List ℕ) (total : Loaded) (repeats : ℕ) (long : Tested) (at : ℕ)
-    : Type 0 where
+pub record Passing (first second noted used heads tails order slots : List ℕ) (counted : Counted) (at : ℕ) : Type 0 where
   pub seen : List TagRecord
   pub split : records second ≡ seen ++ recordsAt second at
   pub place : at ≡ totalLength seen
@@ -59,16 +61,22 @@ pub record Passing (first second noted used heads tails order slots : List ℕ) 
   pub fault : secondFault (records first) (length first) second
       ≡ firstSecondFault (records first) (length first) seen (recordsAt second at) (lastFault first second)
   pub longest : firstOverlong (records first) (length first) [] (records second)
-      ≡ unless Failed long (firstOverlong (records first) (length first) seen (recordsAt second at))
+      ≡ unless Failed (counted .long) (firstOverlong (records first) (length first) seen (recordsAt second at))
   pub numbers : RightNoted noted seen
-  pub taken : Taken (pooled (records first) seen) total heads tails order
-  pub repeated : repeats ≡ repeatsOf Right (records first) + repeatsOf Right seen
+  pub taken : Taken (pooled (records first) seen) (counted .total) heads tails order
+  pub repeated : counted .repeats ≡ pooledRepeats (records first) seen
   pub size : length slots ≡ maxSets
   pub words : AtSlots (slotWord seen) (records first) used slots
 
+-- by what is counted
+pub passing-by : {first second noted used heads tails order slots : List ℕ} {counted was : Counted} {at : ℕ} → counted ≡ was
+    → Passing first second noted used heads tails order slots was at → Passing first second noted used heads tails order slots counted at
+passing-by {first} {second} {noted} {used} {heads} {tails} {order} {slots} {counted} {was} {at} e p =
+    subst (λ (k : Counted). Passing first second noted used heads tails order slots k at) (sym e) p
+
 pub passing-start : {first second used counts heads tails order slots noted : List ℕ} {total : Loaded} {found : Repeats}
     → SecondReady first total found heads tails order used counts slots → RightNoted noted []
-    → Passing first second noted used heads tails order slots total (found .right) Passed 0
+    → Passing first second noted used heads tails order slots (countedFrom total found) 0
 unfolding secondFault sum keep
 passing-start {first} {second} {used} {counts} {heads} {tails} {order} {slots} {noted} {total} {found} r empty =
     record {
@@ -80,7 +88,9 @@ passing-start {first} {second} {used} {counts} {heads} {tails} {order} {slots} {
       longest = refl;
       numbers = empty;
       taken = subst (λ (rs : List TagRecord). Taken rs total heads tails order) (sym (pooled-none (records first))) (r .taken);
-      repeated = ap (λ (q : Repeats). q .right) (r .repeated) ∙ sym (add-zero (repeatsOf Right (records first)));
+      repeated = r .repeated
+          ∙ ap (λ (k : ℕ). record { left = repeatsOf Left (records first); right = k })
+          (sym (add-zero (repeatsOf Right (records first))));
       size = r .slotted .size;
       words = λ b q a e side. r .slotted .places b q a e side ∙ sym (word-start b q);
     }
@@ -111,8 +121,8 @@ unless-passed : (a : Tested) → unless Failed a Passed ≡ a
 unless-passed Passed = refl
 unless-passed (Failed w) = refl
 
-module _ {first second noted used heads tails order slots : List ℕ} {total : Loaded} {repeats : ℕ} {long : Tested} {at : ℕ}
-    (p : Passing first second noted used heads tails order slots total repeats long at) where
+module _ {first second noted used heads tails order slots : List ℕ} {counted : Counted} {at : ℕ}
+    (p : Passing first second noted used heads tails order slots counted at) where
   abbrev A : List TagRecord
   A = records first
 
@@ -134,25 +144,19 @@ module _ {first second noted used heads tails order slots : List ℕ} {total : L
         ∙ ap (λ (k : ℕ). refuseIf (not (eqb k (length second))) (Malformed (placeAfter base k))) at-end
 
     -- at the file's end
-    pub passing-whole : {r : Second} {found : Repeats} → at ≡ length second → found ≡ repeatTotals A
-        → r .answer ≡ load.Loaded total (record { left = found .left; right = repeats }) → r .long ≡ long
+    pub passing-whole : {r : Second} → at ≡ length second → r ≡ acceptedBy counted
         → SecondScanned first second heads tails order used slots r
     unfolding firstOverlong
-    passing-whole {r} {found} end before answer told =
+    passing-whole {r} end told =
         let clean : secondFault A base second ≡ Passed = last-is ∙ rw (eq-eqb at (length second) end) in
-        let lefts : found .left ≡ repeatsOf Left A = ap (λ (q : Repeats). q .left) before in
-        let rights : repeats ≡ repeatsOf Right A + repeatsOf Right (records second) =
-        p .repeated ∙ ap (λ (rs : List TagRecord). repeatsOf Right A + repeatsOf Right rs) (sym all-seen)
-        in
-        let both : _≡_ {A = Repeats} (record { left = found .left; right = repeats }) (pooledRepeats A (records second)) =
-        rw (lefts, rights)
-        in
         record {
-          answer = answer
-              ∙ ap₂ load.Loaded (p .taken .counts ∙ ap (λ (rs : List TagRecord). totalsOf (pooled A rs)) (sym all-seen)) both
+          answer = ap (λ (q : Second). q .answer) told
+              ∙ ap₂ load.Loaded (p .taken .counts ∙ ap (λ (rs : List TagRecord). totalsOf (pooled A rs)) (sym all-seen))
+              (p .repeated ∙ ap (pooledRepeats A) (sym all-seen))
               ∙ rw clean;
-          long = λ n. told ∙ sym (unless-passed long)
-              ∙ ap (λ (l : List TagRecord). unless Failed long (firstOverlong A base (p .seen) l)) (sym stop) ∙ sym (p .longest);
+          long = λ n. ap (λ (q : Second). q .long) told ∙ sym (unless-passed (counted .long))
+              ∙ ap (λ (l : List TagRecord). unless Failed (counted .long) (firstOverlong A base (p .seen) l)) (sym stop)
+              ∙ sym (p .longest);
           taken = λ n. subst (λ (rs : List TagRecord). Taken (pooled A rs) (totalsOf (pooled A rs)) heads tails order) (sym all-seen)
               (subst (λ (t : Loaded). Taken (pooled A (p .seen)) t heads tails order) (p .taken .counts) (p .taken));
           size = p .size;
@@ -181,15 +185,15 @@ module _ {first second noted used heads tails order slots : List ℕ} {total : L
         (records-next second at side n c q next e)
 
     long-here : firstOverlong A base [] (records second)
-        ≡ unless Failed (unless Failed long (refuseIf (isOverlong A this) (Overlong (placeAfter base at))))
+        ≡ unless Failed (unless Failed (counted .long) (refuseIf (isOverlong A this) (Overlong (placeAfter base at))))
         (firstOverlong A base (p .seen ++ (this ∷ [])) (recordsAt second next))
     unfolding firstOverlong
     long-here =
         p .longest
-        ∙ ap (λ (l : List TagRecord). unless Failed long (firstOverlong A base (p .seen) l)) (records-next second at side n c q next e)
-        ∙ ap (λ (k : ℕ). unless Failed long (unless Failed (refuseIf (isOverlong A this) (Overlong (placeAfter base k)))
+        ∙ ap (λ (l : List TagRecord). unless Failed (counted .long) (firstOverlong A base (p .seen) l)) (records-next second at side n c q next e)
+        ∙ ap (λ (k : ℕ). unless Failed (counted .long) (unless Failed (refuseIf (isOverlong A this) (Overlong (placeAfter base k)))
         (firstOverlong A base (p .seen ++ (this ∷ [])) (recordsAt second next)))) (sym (p .place))
-        ∙ unless-twice long (refuseIf (isOverlong A this) (Overlong (placeAfter base at)))
+        ∙ unless-twice (counted .long) (refuseIf (isOverlong A this) (Overlong (placeAfter base at)))
         (firstOverlong A base (p .seen ++ (this ∷ [])) (recordsAt second next))
 
     split-next : records second ≡ (p .seen ++ (this ∷ [])) ++ recordsAt second next
@@ -206,14 +210,14 @@ module _ {first second noted used heads tails order slots : List ℕ} {total : L
 
     -- and lie in the file: with those before there are fewer than bytes in both
     pub passing-repeats : {fresh : ℕ} → fresh ≡ length (collapse (tagsAt c second q)) → length first < wordNumbers
-        → length second < wordNumbers → (fresh ≤ c) × (repeats + (c - fresh) < wordNumbers)
+        → length second < wordNumbers → (fresh ≤ c) × (counted .repeats .right + (c - fresh) < wordNumbers)
     passing-repeats {fresh} distinct fits-first fits-second = (
       omega (arith, distinct, distinct-and-repeats (tagsAt c second q), length-tagsAt c second q),
       omega (
         arith,
         fits-first,
         fits-second,
-        p .repeated,
+        ap (λ (q : Repeats). q .right) (p .repeated),
         p .place,
         repeats-bound Right A,
         totalLength-inside first,
@@ -224,7 +228,7 @@ module _ {first second noted used heads tails order slots : List ℕ} {total : L
     )
 
     -- a left set's: it is passed over
-    pub passing-left : sameSide Right side ≡ false → Passing first second noted used heads tails order slots total repeats long next
+    pub passing-left : sameSide Right side ≡ false → Passing first second noted used heads tails order slots counted next
     unfolding secondFaultOf
     passing-left left =
         record {
@@ -233,10 +237,13 @@ module _ {first second noted used heads tails order slots : List ℕ} {total : L
           place = place-next;
           within = read-within second at e;
           fault = here ∙ rw left;
-          longest = long-here ∙ rw (left, unless-passed long);
+          longest = long-here ∙ rw (left, unless-passed (counted .long));
           numbers = noted-left (p .numbers) this left;
-          taken = subst (λ (rs : List TagRecord). Taken rs total heads tails order) (sym (pooled-left A (p .seen) this left)) (p .taken);
-          repeated = p .repeated ∙ ap (λ (k : ℕ). repeatsOf Right A + k) (sym (repeats-other Right (p .seen) this left));
+          taken = subst (λ (rs : List TagRecord). Taken rs (counted .total) heads tails order) (sym (pooled-left A (p .seen) this left))
+              (p .taken);
+          repeated = p .repeated
+              ∙ ap (λ (k : ℕ). record { left = repeatsOf Left A; right = repeatsOf Right A + k })
+              (sym (repeats-other Right (p .seen) this left));
           size = p .size;
           words = λ b r a is right.
               let apart : sameSet r this ≡ false = rw (right-apart (r .side) side right left) in
@@ -255,24 +262,25 @@ module _ {first second noted used heads tails order slots : List ℕ} {total : L
       passing-used t size answer =
           second-refused (NumberUsed (placeAfter base at)) (here ∙ rw (right, sym tells ∙ t, ← p .place)) size answer
 
-      module _ (free : member noted n ≡ false) {now-total : Loaded} {now-heads now-tails now-order now-slots : List ℕ}
-          (one : OneTaken (pooled A (p .seen ++ (this ∷ []))) now-total now-heads now-tails now-order)
+      module _ (free : member noted n ≡ false) (u : United) {now-heads now-tails now-order now-slots : List ℕ}
+          (one : OneTaken (pooled A (p .seen ++ (this ∷ []))) (unitedBy (counted .total) u (u .met)) now-heads now-tails now-order)
           (size : length now-slots ≡ maxSets) where
-        pub passing-past : {r : Second} → overOf now-total ≡ true → r .answer ≡ load.Refused (TooMany (placeAfter base at))
+        pub passing-past : {r : Second} → overOf (unitedBy (counted .total) u (u .met)) ≡ true
+            → r .answer ≡ load.Refused (TooMany (placeAfter base at))
             → SecondScanned first second now-heads now-tails now-order used now-slots r
         unfolding secondFaultOf
         passing-past t answer =
             second-refused (TooMany (placeAfter base at))
             (here ∙ rw (right, sym tells ∙ free, sym (one .over) ∙ t, ← p .place)) size answer
 
-        pub passing-next : {now-noted own : List ℕ} {all fresh now-repeats : ℕ} {now-long : Tested} → overOf now-total ≡ false
-            → Inserted noted n now-noted → fresh ≡ length (collapse (tagsAt c second q)) → now-repeats ≡ repeats + (c - fresh)
+        pub passing-next : {now-noted own : List ℕ} → overOf (unitedBy (counted .total) u (u .met)) ≡ false
+            → Inserted noted n now-noted → u .fresh ≡ length (collapse (tagsAt c second q))
             → AtSlots (slotWord (p .seen ++ (this ∷ []))) A used now-slots
-            → allTags (keep (sameSet this) A) ≡ own → all ≡ length (collapse (own ++ tagsAt c second q))
-            → now-long ≡ unless Failed long (refuseIf (ltb maxSetLength all) (Overlong (placeAfter base at)))
-            → Passing first second now-noted used now-heads now-tails now-order now-slots now-total now-repeats now-long next
+            → allTags (keep (sameSet this) A) ≡ own → u .all ≡ length (collapse (own ++ tagsAt c second q))
+            → Passing first second now-noted used now-heads now-tails now-order now-slots (countedBy counted u c (placeAfter base at))
+            next
         unfolding secondFaultOf
-        passing-next {now-noted} {own} {all} {fresh} {now-repeats} {now-long} few note distinct rose words is counted told =
+        passing-next {now-noted} {own} few note distinct words is all =
             record {
               seen = p .seen ++ (this ∷ []);
               split = split-next;
@@ -281,12 +289,21 @@ module _ {first second noted used heads tails order slots : List ℕ} {total : L
               fault = here ∙ rw (right, sym tells ∙ free, sym (one .over) ∙ few);
               longest = long-here
                   ∙ ap (λ (t : Tested). unless Failed t (firstOverlong A base (p .seen ++ (this ∷ [])) (recordsAt second next)))
-                  (ap (λ (b : Bool). unless Failed long (refuseIf b (Overlong (placeAfter base at))))
-                  (long-of A this own right is ∙ ap (ltb maxSetLength) (sym counted))
-                  ∙ sym told);
+                  (ap (λ (b : Bool). unless Failed (counted .long) (refuseIf b (Overlong (placeAfter base at))))
+                  (long-of A this own right is ∙ ap (ltb maxSetLength) (sym all)));
               numbers = noted-right (p .numbers) this right note;
               taken = one .taken (sym (one .over) ∙ few);
-              repeated = omega (arith, rose, p .repeated, here-repeats distinct, repeats-same Right (p .seen) this right);
+              repeated = ap₂ (λ (a b : ℕ). record { left = a; right = b }) (ap (λ (q : Repeats). q .left) (p .repeated)) (rights distinct);
               size = size;
               words = words;
             }
+          where
+            rights : {fresh : ℕ} → fresh ≡ length (collapse (tagsAt c second q))
+                → counted .repeats .right + (c - fresh) ≡ repeatsOf Right A + repeatsOf Right (p .seen ++ (this ∷ []))
+            rights distinct =
+                omega (
+                  arith,
+                  ap (λ (q : Repeats). q .right) (p .repeated),
+                  here-repeats distinct,
+                  repeats-same Right (p .seen) this right,
+                )

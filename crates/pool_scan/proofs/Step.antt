@@ -15,7 +15,6 @@ use Rattle.bit_sets.specs.BitSets.{member}
 use Rattle.sets.specs.Limits.{maxSets, maxSetLength, halfWords}
 use Rattle.sets.specs.declared.Side.{Side}
 use Rattle.sets.specs.declared.Side.the-variants.{Right}
-use Rattle.sets.specs.declared.Tested.{Tested}
 use Rattle.tag_file.specs.declared.Loaded.{Loaded}
 use Rattle.tag_file.specs.declared.Repeats.{Repeats}
 use Rattle.tag_file.specs.declared.ReadAnswer.the-variants.{Record}
@@ -35,15 +34,17 @@ use Rattle.right_slots.proofs.Found.{FoundRight, found-right, missed-right}
 use Rattle.right_slots.proofs.Putting.{NumbersSmall, at-slots-put}
 use Rattle.pool_union.specs.declared.United.{United}
 use Rattle.pool_union.specs.Union.{RecordThere, KnownThere, UniteReady, Taking, TakenIn}
-use Rattle.pool_scan.specs.Second.{unitedBy, SecondReady}
+use Rattle.pool_counts.specs.declared.Counted.{Counted}
+use Rattle.pool_counts.specs.Counting.{unitedBy}
+use Rattle.pool_scan.specs.Second.{SecondReady}
 use Rattle.pool_scan.proofs.Counts.{OneTaken, alone-taken, met-taken}
 use Rattle.pool_scan.proofs.Passing.{Passing, this}
 use Rattle.pool_scan.proofs.Words.{word-apart, word-met, own-none, own-one, noted-tells}
 
 -- what holds once the tags of a record are taken in
-pub record Stepped (first : List ℕ) (seen : List TagRecord) (s : TagRecord) (used : List ℕ) (u : United) (now-total : Loaded)
+pub record Stepped (first : List ℕ) (seen : List TagRecord) (s : TagRecord) (used : List ℕ) (total : Loaded) (u : United)
     (now-heads now-tails now-order now-slots : List ℕ) : Type 0 where
-  pub one : OneTaken (pooled (records first) (seen ++ (s ∷ []))) now-total now-heads now-tails now-order
+  pub one : OneTaken (pooled (records first) (seen ++ (s ∷ []))) (unitedBy total u (u .met)) now-heads now-tails now-order
   pub size : length now-slots ≡ maxSets
   pub words : AtSlots (slotWord (seen ++ (s ∷ []))) (records first) used now-slots
   pub own : List ℕ
@@ -53,10 +54,13 @@ pub record Stepped (first : List ℕ) (seen : List TagRecord) (s : TagRecord) (u
 
 module _ {first second used counts heads₀ tails₀ order₀ slots₀ : List ℕ} {total₀ : Loaded} {found₀ : Repeats}
     (ready : SecondReady first total₀ found₀ heads₀ tails₀ order₀ used counts slots₀) (byte : (i : ℕ) → getD first i 0 < 256)
-    {noted heads tails order slots : List ℕ} {total : Loaded} {repeats : ℕ} {long : Tested} {at : ℕ}
-    (p : Passing first second noted used heads tails order slots total repeats long at)
+    {noted heads tails order slots : List ℕ} {counted : Counted} {at : ℕ}
+    (p : Passing first second noted used heads tails order slots counted at)
     {side : Side} {n c q next : ℕ} (e : readAt second at ≡ Record side n c q next)
     (right : sameSide Right side ≡ true) (small : n < halfWords) (free : member noted n ≡ false) where
+  abbrev total : Loaded
+  total = counted .total
+
   abbrev s : TagRecord
   s = this p e
 
@@ -138,11 +142,10 @@ module _ {first second used counts heads₀ tails₀ order₀ slots₀ : List �
         there = step-there;
       }
 
-  module _ {u : United} {now-total : Loaded} {now-heads now-tails now-order now-slots : List ℕ}
-      (t : Taking first second n q c (total .tags) heads tails order used slots u now-heads now-tails now-order now-slots)
-      (grown : now-total ≡ unitedBy total u (u .met)) where
-    counts-as : (b : Bool) → member used n ≡ b → now-total ≡ unitedBy total u b
-    counts-as b is = grown ∙ ap (unitedBy total u) (t .told ∙ is)
+  module _ {u : United} {now-heads now-tails now-order now-slots : List ℕ}
+      (t : Taking first second n q c (total .tags) heads tails order used slots u now-heads now-tails now-order now-slots) where
+    counts-as : (b : Bool) → member used n ≡ b → unitedBy total u (u .met) ≡ unitedBy total u b
+    counts-as b is = ap (unitedBy total u) (t .told ∙ is)
 
     pub step-bounds : (u .own ≤ u .all) × (u .all ≤ maxSetLength + maxSetLength)
     step-bounds =
@@ -151,7 +154,7 @@ module _ {first second used counts heads₀ tails₀ order₀ slots₀ : List �
         (λ out. (t .alone out .less, t .alone out .few))
 
     -- one that the first file has not
-    step-alone : member used n ≡ false → Stepped first (p .seen) s used u now-total now-heads now-tails now-order now-slots
+    step-alone : member used n ≡ false → Stepped first (p .seen) s used total u now-heads now-tails now-order now-slots
     unfolding any
     step-alone out =
         let unused : numberUsed A s ≡ false = missed-right (ready .slotted .noted) n small out s right refl in
@@ -175,7 +178,7 @@ module _ {first second used counts heads₀ tails₀ order₀ slots₀ : List �
             (sym (any-append (λ x. sameSet x s) b (w ∷ a)) ∙ ap (λ (l : List TagRecord). numberUsed l s) (sym split) ∙ unused))
 
     -- one that it has
-    step-met : member used n ≡ true → Stepped first (p .seen) s used u now-total now-heads now-tails now-order now-slots
+    step-met : member used n ≡ true → Stepped first (p .seen) s used total u now-heads now-tails now-order now-slots
     step-met met =
         let w = f met in
         let i = subst (λ (l : List ℕ). TakenIn l (tagsAt c second q) heads tails (total .tags) order u now-heads now-tails now-order)
@@ -204,5 +207,5 @@ module _ {first second used counts heads₀ tails₀ order₀ slots₀ : List �
             refuted (sameSet x s)
             (λ yes. other (eqb-true (x .number) n (and-right (sameSide (x .side) side) (eqb (x .number) n) yes) ∙ sym (f met .number)))
 
-    pub stepped : Stepped first (p .seen) s used u now-total now-heads now-tails now-order now-slots
+    pub stepped : Stepped first (p .seen) s used total u now-heads now-tails now-order now-slots
     stepped = by-test (member used n) step-met step-alone

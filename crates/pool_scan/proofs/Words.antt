@@ -1,10 +1,8 @@
 -- One more record of the second file: the words of the slots, whether its pooled set is too long, and the numbers that are noted.
-use Prim.Native.Nat.{ℕ, _+_, _<_, _≤_}
+use Prim.Native.Nat.{ℕ, _+_, _<_}
 use mathlib.Core.Path.{_≡_, refl, sym, ap, ap₂, _∙_}
 use mathlib.Core.List.{List, [], _∷_, _++_, append-nil}
 use mathlib.Core.Bool.{Bool, true, false, cond, _&&_, _||_, or-false, or-comm}
-use native.Mathlib.Omega.{arith}
-use borrow.Author.Tests.{lt-ltb, le-ltb}
 use lib.Dec.{eqb, ltb}
 use lib.ListN.{length, replicate, length-replicate}
 use Rattle.lists.specs.Lists.{keep, any}
@@ -13,10 +11,6 @@ use Rattle.lists.proofs.Throughout.{any-append}
 use Rattle.bit_sets.specs.BitSets.{member, Inserted}
 use Rattle.bit_sets.proofs.Members.{no-member}
 use Rattle.sets.specs.Limits.{maxSetLength, halfWords}
-use Rattle.sets.specs.Refusals.{refuseIf, unless}
-use Rattle.sets.specs.declared.Refusal.{Refusal}
-use Rattle.sets.specs.declared.Tested.{Tested}
-use Rattle.sets.specs.declared.Tested.the-variants.{Passed, Failed}
 use Rattle.sets.specs.declared.Side.{Side}
 use Rattle.sets.specs.declared.Side.the-variants.{Left, Right}
 use Rattle.tag_file.specs.Records.{TagRecord, totalLength, sameSide, ofSide, allTags, collapse}
@@ -88,14 +82,6 @@ own-none first s e = ap allTags (none-of s first e)
 pub own-one : (first : List TagRecord) (s r : TagRecord) → keep (sameSet s) first ≡ r ∷ [] → allTags (keep (sameSet s) first) ≡ r .tags
 unfolding allTags
 own-one first s r e = ap allTags e ∙ append-nil (r .tags)
-
--- the first one that is, where there was none before
-module _ (before : Tested) (all : ℕ) (why : Refusal) (e : before ≡ Passed) where
-  pub long-now : maxSetLength < all → Failed why ≡ unless Failed before (refuseIf (ltb maxSetLength all) why)
-  long-now h = rw (e, lt-ltb maxSetLength all h)
-
-  pub long-not : all ≤ maxSetLength → Passed ≡ unless Failed before (refuseIf (ltb maxSetLength all) why)
-  long-not h = rw (e, le-ltb maxSetLength all h)
 
 -- ---- the numbers of the right sets seen
 

@@ -1,9 +1,8 @@
 -- Inner: the first pass over the second of two pooled files, what its functions ask and promise. It goes on from the counts and the
 -- index of the first file's records, and leaves in the slot of each right set of the first file that it pools the length of the union.
-use Prim.Native.Nat.{ℕ, _+_, _-_}
+use Prim.Native.Nat.{ℕ}
 use mathlib.Core.Path.{_≡_}
 use mathlib.Core.List.{List, []}
-use mathlib.Core.Bool.{Bool, true, false}
 use lib.ListN.{length}
 use Rattle.sets.specs.Limits.{maxSets}
 use Rattle.sets.specs.Refusals.{unless}
@@ -19,27 +18,7 @@ use Rattle.tag_file.specs.Loading.{totalsOf}
 use Rattle.tag_pooling.specs.Pooling.{pooled, pooledRepeats, secondFault, firstOverlong}
 use Rattle.tag_scan.specs.Scan.{Taken}
 use Rattle.right_slots.specs.Slots.{AtSlots, Slottable, Slotted, slotWord}
-use Rattle.pool_union.specs.declared.United.{United}
-use Rattle.pool_scan.specs.declared.Second.{Second}
-
--- the counts with one more right set of the second file
-abbrev pub unitedBy : Loaded → United → Bool → Loaded
-unitedBy t u true =
-    record {
-      «left_sets» = t .«left_sets»;
-      «right_sets» = t .«right_sets»;
-      «left_entries» = t .«left_entries»;
-      «right_entries» = t .«right_entries» + (u .all - u .own);
-      tags = u .tags;
-    }
-unitedBy t u false =
-    record {
-      «left_sets» = t .«left_sets»;
-      «right_sets» = t .«right_sets» + 1;
-      «left_entries» = t .«left_entries»;
-      «right_entries» = t .«right_entries» + u .all;
-      tags = u .tags;
-    }
+use Rattle.pool_counts.specs.declared.Second.{Second}
 
 -- the first file was taken in, its repeats are counted, and its right sets have slots
 pub record SecondReady (first : List ℕ) (total : Loaded) (repeats : Repeats) (heads tails order used counts slots : List ℕ)

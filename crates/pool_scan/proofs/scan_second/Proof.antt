@@ -1,17 +1,14 @@
 -- `pool_scan::scan_second` meets its contract. The invariant: what the counts, the repeats, the index, the slots and the noted numbers say of the
 -- records seen, and that the first fault and the first set too long of the others are the file's (`Passing`). The measure is how
 -- many bytes are left.
-use mathlib.Core.Path.{_≡_, refl, sym, ap, _∙_}
+use mathlib.Core.Path.{_≡_, sym, ap, _∙_}
 use mathlib.Core.Bool.{true, false}
-use Prim.Native.Nat.{ℕ, _+_, _-_, _<_, _≤_}
+use Prim.Native.Nat.{ℕ, _-_, _<_, _≤_}
 use native.Mathlib.Omega.{arith}
-use lib.Dec.{ltb}
 use lib.ListN.{length, getD}
 use Rattle.bit_sets.specs.BitSets.{member}
-use Rattle.sets.specs.Refusals.{refuseIf, unless}
-use Rattle.sets.specs.declared.Tested.the-variants.{Failed}
 use Rattle.sets.specs.Limits.{maxSetLength, halfWords}
-use Rattle.sets.specs.declared.Refusal.the-variants.{Malformed, NumberUsed, TooMany, Overlong}
+use Rattle.sets.specs.declared.Refusal.the-variants.{Malformed, NumberUsed, TooMany}
 use Rattle.sets.specs.declared.Side.the-variants.{Right}
 use Rattle.tag_file.specs.declared.LoadAnswer.the-variants as load
 use Rattle.tag_file.specs.declared.ReadAnswer.the-variants.{Record}
@@ -19,9 +16,9 @@ use Rattle.tag_file.specs.Reading.{readAt}
 use Rattle.tag_file.specs.Records.{sameSide}
 use Rattle.tag_file.proofs.Ended.{no-records}
 use Rattle.tag_file.proofs.RecordLaws.{read-less, read-number, read-count}
-use Rattle.tag_pooling.specs.Pooling.{placeAfter}
-use Rattle.load_totals.specs.Totals.{wordNumbers}
-use Rattle.pool_scan.proofs.Passing.{Passing, passing-start, passing-whole, passing-cut, passing-left, passing-used}
+use Rattle.pool_counts.specs.declared.Counted.{Counted}
+use Rattle.pool_counts.specs.Counting.{countedBy}
+use Rattle.pool_scan.proofs.Passing.{Passing, overOf, passing-by, passing-start, passing-whole, passing-cut, passing-left, passing-used}
 use Rattle.pool_scan.proofs.Passing.{passing-repeats, passing-past, passing-next}
 use Rattle.pool_scan.proofs.Step.{step-ready, step-bounds, stepped}
 use Rattle.pool_scan.proofs.Words.{noted-start}
@@ -29,35 +26,37 @@ use Rattle.pool_scan.proofs.scan_second.Statement.{statement}
 use Rattle.pool_scan.proofs.scan_second.Tie as tie
 
 abbrev Inv-loop : tie.InvT-loop
-Inv-loop first second found used counts slots₀ heads₀ tails₀ order₀ hints₀ noted₀ total₀ repeats₀ long₀ at₀ slots heads tails order hints noted total repeats long at =
-    Passing first second noted used heads tails order slots total repeats long at
+Inv-loop first second used counts slots₀ heads₀ tails₀ order₀ hints₀ noted₀ counted₀ at₀ slots heads tails order hints noted counted at =
+    Passing first second noted used heads tails order slots counted at
 
 abbrev μ-loop : tie.MeasureT-loop
-μ-loop first second found used counts slots₀ heads₀ tails₀ order₀ hints₀ noted₀ total₀ repeats₀ long₀ at₀ slots heads tails order hints noted total repeats long at =
+μ-loop first second used counts slots₀ heads₀ tails₀ order₀ hints₀ noted₀ counted₀ at₀ slots heads tails order hints noted counted at =
     length second - at
+
+-- the call, from a turn of the loop
+abbrev called : tie.At-loop Inv-loop μ-loop → tie.Start Inv-loop μ-loop
+called a = a .before .before .before .before .before .before .before
 
 -- the record that was read
 read : (a : tie.After-answer Inv-loop μ-loop)
     → let at-loop = a .before .before .before .before in
     let r = a .answer .given .0 in
-    readAt (a .before .before .before .before .before .before .before .before .before .before .args .second .now) (at-loop .loop .at) ≡ Record (r .0) (r .1 .0) (r .1 .1 .0) (r .1 .1 .1 .0) (r .1 .1 .1 .1 .0)
+    readAt (called at-loop .args .second .now) (at-loop .loop .at)
+    ≡ Record (r .0) (r .1 .0) (r .1 .1 .0) (r .1 .1 .1 .0) (r .1 .1 .1 .1 .0)
 read a = sym (a .before .before .before .read-record .ensures) ∙ a .answer .given .1
 
 small : (a : tie.After-answer Inv-loop μ-loop) → a .answer .given .0 .1 .0 < halfWords
-small a = read-number _ _ (read a) (λ i. a .before .before .before .before .before .before .before .before .shared-slice-known2 .given i .fits)
+small a = read-number _ _ (read a) (λ i. a .before .before .before .before .before .before .before .before .before .shared-slice-known2 .given i .fits)
 
 few : (a : tie.After-answer Inv-loop μ-loop) → a .answer .given .0 .1 .1 .0 ≤ maxSetLength
-few a = read-count _ _ (read a) (λ i. a .before .before .before .before .before .before .before .before .shared-slice-known2 .given i .fits)
+few a = read-count _ _ (read a) (λ i. a .before .before .before .before .before .before .before .before .before .shared-slice-known2 .given i .fits)
 
--- at a right set whose number is new: the record, the turn of the loop, and the call
+-- at a right set whose number is new: the record, and the turn of the loop
 abbrev answered : tie.Else3 Inv-loop μ-loop → tie.After-answer Inv-loop μ-loop
 answered e = e .before .before .before .before .before .before .before
 
 abbrev turn : tie.Else3 Inv-loop μ-loop → tie.At-loop Inv-loop μ-loop
 turn e = e .before .before .before .before .before .before .before .before .before .before .before
-
-abbrev called : tie.Else3 Inv-loop μ-loop → tie.Start Inv-loop μ-loop
-called e = e .before .before .before .before .before .before .before .before .before .before .before .before .before .before .before .before .before
 
 -- it is of the right side
 right : (a : tie.Then2 Inv-loop μ-loop) → sameSide Right (a .before .before .before .answer .given .0 .0) ≡ true
@@ -68,155 +67,148 @@ free : (e : tie.Else3 Inv-loop μ-loop) → member (turn e .loop .noted) (answer
 free e = sym (e .before .before .claim .ensures .before) ∙ e .if3 .left
 
 -- the first file has bytes
-bytes : (e : tie.Else3 Inv-loop μ-loop) (i : ℕ) → getD (called e .args .first .now) i 0 < 256
-bytes e i = e .before .before .before .before .before .before .before .before .before .before .before .before .before .before .before .before .shared-slice-known .given i .fits
+bytes : (e : tie.Else3 Inv-loop μ-loop) (i : ℕ) → getD (called (turn e) .args .first .now) i 0 < 256
+bytes e i = e .before .before .before .before .before .before .before .before .before .before .before .before .before .before .before .before .before .shared-slice-known .given i .fits
+
+count-from-requires : tie.Need-count-from-requires Inv-loop μ-loop
+count-from-requires c κs = tt
 
 loop-holds : tie.Need-loop-holds Inv-loop μ-loop
 loop-holds c =
-    passing-start (c .before .before .before .before .before .pre) noted-start
+    let s = c .before .before .before .before .before .before in
+    passing-by (c .count-from .ensures) (passing-start (s .pre) noted-start)
 
 read-record-requires : tie.Need-read-record-requires Inv-loop μ-loop
-read-record-requires c κs =
-    tt
+read-record-requires c κs = tt
 
 wrapping-add-usize-requires : tie.Need-wrapping-add-usize-requires Inv-loop μ-loop
-wrapping-add-usize-requires c κs =
-    tt
+wrapping-add-usize-requires c κs = tt
 
 enum-known-answer : tie.Need-enum-known-answer Inv-loop μ-loop
-enum-known-answer c =
-    c .match .keys1
+enum-known-answer c = c .match .keys1
+
+accepted-requires : tie.Need-accepted-requires Inv-loop μ-loop
+accepted-requires c κs = tt
 
 same-length : tie.Need-same-length Inv-loop μ-loop
-same-length c =
-    c .before .before .before .before .loop .inv .size ∙ sym (c .before .before .before .before .before .before .before .before .before .before .pre .slotted .size)
+same-length c = let a = c .before .before .before .before .before in a .loop .inv .size ∙ sym (called a .pre .slotted .size)
 
 returns : tie.Need-returns Inv-loop μ-loop
 returns c =
-    let second = c .before .before .before .before .before .before .before .before .before .before .args .second .now in
-    let l = c .before .before .before .before .loop in
-    let read = c .before .before .before .read-record in
-    let stop = no-records second (l .at) (read .result) (sym (read .ensures)) (c .before .match .keys2) in
-    passing-whole (l .inv) stop (c .if1 .taken) (c .before .before .before .before .before .before .before .before .before .before .pre .repeated) refl refl
+    let a = c .before .before .before .before .before in
+    let read = c .before .before .before .before .read-record in
+    let stop = no-records (called a .args .second .now) (a .loop .at) (read .result) (sym (read .ensures)) (c .before .before .match .keys2) in
+    passing-whole (a .loop .inv) stop (c .before .if1 .taken) (c .accepted .ensures)
+
+refused-requires : tie.Need-refused-requires Inv-loop μ-loop
+refused-requires c κs = tt
 
 same-length-2 : tie.Need-same-length-2 Inv-loop μ-loop
-same-length-2 c =
-    c .before .before .before .before .loop .inv .size ∙ sym (c .before .before .before .before .before .before .before .before .before .before .pre .slotted .size)
+same-length-2 c = let a = c .before .before .before .before .before in a .loop .inv .size ∙ sym (called a .pre .slotted .size)
 
 returns-2 : tie.Need-returns-2 Inv-loop μ-loop
 returns-2 c =
-    let second = c .before .before .before .before .before .before .before .before .before .before .args .second .now in
-    let l = c .before .before .before .before .loop in
-    let read = c .before .before .before .read-record in
-    let stop = no-records second (l .at) (read .result) (sym (read .ensures)) (c .before .match .keys2) in
-    passing-cut (l .inv) stop (c .if1 .left) (ap (λ (k : ℕ). load.Refused (Malformed k)) (c .before .before .wrapping-add-usize .ensures))
+    let a = c .before .before .before .before .before in
+    let read = c .before .before .before .before .read-record in
+    let stop = no-records (called a .args .second .now) (a .loop .at) (read .result) (sym (read .ensures)) (c .before .before .match .keys2) in
+    passing-cut (a .loop .inv) stop (c .before .if1 .left)
+    (c .refused .ensures ∙ ap (λ (k : ℕ). load.Refused (Malformed k)) (c .before .before .before .wrapping-add-usize .ensures))
 
 is-side-requires : tie.Need-is-side-requires Inv-loop μ-loop
-is-side-requires c κs =
-    tt
+is-side-requires c κs = tt
 
 slice-aggregate-claim : tie.Need-slice-aggregate-claim Inv-loop μ-loop
-slice-aggregate-claim c =
-    sym (c .before .before .before .before .before .before .before .before .loop .inv .numbers .wide)
+slice-aggregate-claim c = sym (c .before .before .before .before .before .before .before .before .loop .inv .numbers .wide)
 
 claim-requires : tie.Need-claim-requires Inv-loop μ-loop
-claim-requires c κs =
-    c .before .before .before .before .before .before .before .before .loop .inv .numbers .wide
+claim-requires c κs = c .before .before .before .before .before .before .before .before .loop .inv .numbers .wide
+
+refused-requires-2 : tie.Need-refused-requires-2 Inv-loop μ-loop
+refused-requires-2 c κs = tt
 
 same-length-3 : tie.Need-same-length-3 Inv-loop μ-loop
-same-length-3 c =
-    c .before .before .before .before .before .before .before .before .before .before .before .loop .inv .size ∙ sym (c .before .before .before .before .before .before .before .before .before .before .before .before .before .before .before .before .before .pre .slotted .size)
+same-length-3 c = let a = c .before .before .before .before .before .before .before .before .before .before .before .before in a .loop .inv .size ∙ sym (called a .pre .slotted .size)
 
 returns-3 : tie.Need-returns-3 Inv-loop μ-loop
 returns-3 c =
-    let a = c .before .before .before .before .before .before .before in
-    let l = c .before .before .before .before .before .before .before .before .before .before .before .loop in
-    passing-used (l .inv) (read a) (right (c .before .before .before .before)) (small a) (sym (c .before .before .claim .ensures .before) ∙ c .if3 .taken) (l .inv .size)
-    (ap (λ (k : ℕ). load.Refused (NumberUsed k)) (a .before .before .wrapping-add-usize .ensures))
+    let a = c .before .before .before .before .before .before .before .before in
+    let l = c .before .before .before .before .before .before .before .before .before .before .before .before .loop in
+    passing-used (l .inv) (read a) (right (c .before .before .before .before .before)) (small a) (sym (c .before .before .before .claim .ensures .before) ∙ c .before .if3 .taken) (l .inv .size)
+    (c .refused2 .ensures ∙ ap (λ (k : ℕ). load.Refused (NumberUsed k)) (a .before .before .wrapping-add-usize .ensures))
 
 unite-requires : tie.Need-unite-requires Inv-loop μ-loop
 unite-requires c κs =
-    let e = c .before .before .before .before .before in
+    let e = c .before .before .before .before .before .before in
     let a = answered e in
-    step-ready (called e .pre) (bytes e) (turn e .loop .inv) (read a) (right (e .before .before .before .before)) (small a) (free e) (few a)
+    step-ready (called (turn e) .pre) (bytes e) (turn e .loop .inv) (read a) (right (e .before .before .before .before)) (small a) (free e) (few a)
 
-grown-by-requires : tie.Need-grown-by-requires Inv-loop μ-loop
-grown-by-requires c κs =
-    let e = c .before .before .before .before .before .before .before .before in
+count-set-requires : tie.Need-count-set-requires Inv-loop μ-loop
+count-set-requires c κs =
+    let e = c .before .before .before .before .before .before .before .before .before in
     let a = answered e in
-    let inv = turn e .loop .inv in (
-      inv .taken .limited,
-      step-bounds (called e .pre) (bytes e) inv (read a) (right (e .before .before .before .before)) (small a) (free e) (c .before .before .unite .ensures) refl,
-    )
+    let s = called (turn e) in
+    let inv = turn e .loop .inv in
+    let taking = c .before .before .unite .ensures in
+    let bounds = step-bounds (s .pre) (bytes e) inv (read a) (right (e .before .before .before .before)) (small a) (free e) taking in
+    let one = stepped (s .pre) (bytes e) inv (read a) (right (e .before .before .before .before)) (small a) (free e) taking in
+    let more = passing-repeats inv (read a) (one .distinct) (omega (arith, s .good .0)) (omega (arith, s .good .1 .0)) in
+    record {
+      limited = inv .taken .limited;
+      less = bounds .0;
+      few = bounds .1;
+      distinct = more .0;
+      fits = more .1;
+    }
 
 is-past-requires : tie.Need-is-past-requires Inv-loop μ-loop
-is-past-requires c κs =
-    tt
+is-past-requires c κs = tt
+
+refused-requires-3 : tie.Need-refused-requires-3 Inv-loop μ-loop
+refused-requires-3 c κs = tt
 
 same-length-4 : tie.Need-same-length-4 Inv-loop μ-loop
 same-length-4 c =
-    let e = c .before .before .before .before .before .before .before .before .before .before .before in
+    let e = c .before .before .before .before .before .before .before .before .before .before .before .before .before .before in
     let a = answered e in
-    let inv = turn e .loop .inv in
-    let s = stepped (called e .pre) (bytes e) inv (read a) (right (e .before .before .before .before)) (small a) (free e) (c .before .before .before .before .before .unite .ensures) (c .before .before .grown-by .ensures) in
-    s .size ∙ sym (called e .pre .slotted .size)
+    let s = called (turn e) in
+    let one = stepped (s .pre) (bytes e) (turn e .loop .inv) (read a) (right (e .before .before .before .before)) (small a) (free e) (c .before .before .before .before .before .before .before .unite .ensures) in
+    one .size ∙ sym (s .pre .slotted .size)
 
 returns-4 : tie.Need-returns-4 Inv-loop μ-loop
 returns-4 c =
-    let e = c .before .before .before .before .before .before .before .before .before .before .before in
+    let e = c .before .before .before .before .before .before .before .before .before .before .before .before .before .before in
     let a = answered e in
+    let s = called (turn e) in
     let inv = turn e .loop .inv in
-    let s = stepped (called e .pre) (bytes e) inv (read a) (right (e .before .before .before .before)) (small a) (free e) (c .before .before .before .before .before .unite .ensures) (c .before .before .grown-by .ensures) in
-    passing-past inv (read a) (right (e .before .before .before .before)) (small a) (free e) (s .one) (s .size) (sym (c .before .is-past .ensures) ∙ c .if4 .taken)
-    (ap (λ (k : ℕ). load.Refused (TooMany k)) (a .before .before .wrapping-add-usize .ensures))
-
--- the repeats of the record here are no more than its tags, and fit with those before
-more-repeats : (g : tie.After-struct-known Inv-loop μ-loop)
-    → let fresh = g .before .before .before .before .before .before .unite .result .fresh in
-    let count = answered (g .before .before .before .before .before .before .before .before .before .before .before .before) .answer .given .0 .1 .1 .0 in
-    (fresh ≤ count) × (turn (g .before .before .before .before .before .before .before .before .before .before .before .before) .loop .repeats + (count - fresh) < wordNumbers)
-more-repeats g =
-    let e = g .before .before .before .before .before .before .before .before .before .before .before .before in
-    let a = answered e in
-    let inv = turn e .loop .inv in
-    let s = stepped (called e .pre) (bytes e) inv (read a) (right (e .before .before .before .before)) (small a) (free e) (g .before .before .before .before .before .before .unite .ensures) (g .before .before .before .grown-by .ensures) in
-    passing-repeats inv (read a) (s .distinct) (omega (arith, called e .good .0)) (omega (arith, called e .good .1 .0))
-
-sub-repeats : tie.Need-sub-repeats Inv-loop μ-loop
-sub-repeats c =
-    omega (arith, more-repeats c .0)
-
-add-repeats : tie.Need-add-repeats Inv-loop μ-loop
-add-repeats c =
-    omega (arith, more-repeats c .1)
-
-first-long-requires : tie.Need-first-long-requires Inv-loop μ-loop
-first-long-requires c κs =
-    tt
+    let u = c .before .before .before .before .before .before .before .unite in
+    let one = stepped (s .pre) (bytes e) inv (read a) (right (e .before .before .before .before)) (small a) (free e) (u .ensures) in
+    passing-past inv (read a) (right (e .before .before .before .before)) (small a) (free e) (u .result) (one .one) (one .size)
+    (sym (ap (λ (k : Counted). overOf (k .total)) (c .before .before .before .before .count-set .ensures)) ∙ sym (c .before .before .is-past .ensures) ∙ c .before .if4 .taken)
+    (c .refused3 .ensures ∙ ap (λ (k : ℕ). load.Refused (TooMany k)) (a .before .before .wrapping-add-usize .ensures))
 
 loop-less : tie.Need-loop-less Inv-loop μ-loop
-loop-less c =
-    read-less _ _ (read (answered (c .before .before .before .before .before .before .before .before .before .before .before .before .before)))
+loop-less c = read-less _ _ (read (answered (c .before .before .before .before .before .before .before .before .before .before .before .before .before)))
 
 loop-again : tie.Need-loop-again Inv-loop μ-loop
 loop-again c =
     let e = c .before .before .before .before .before .before .before .before .before .before .before .before .before in
     let a = answered e in
+    let s = called (turn e) in
     let inv = turn e .loop .inv in
-    let s = stepped (called e .pre) (bytes e) inv (read a) (right (e .before .before .before .before)) (small a) (free e) (c .before .before .before .before .before .before .before .unite .ensures) (c .before .before .before .before .grown-by .ensures) in
-    passing-next inv (read a) (right (e .before .before .before .before)) (small a) (free e) (s .one) (s .size) (sym (c .before .before .before .is-past .ensures) ∙ c .before .before .if4 .left)
-    (e .before .before .claim .ensures .noted) (s .distinct) refl (s .words) (s .is) (s .counted)
-    (c .first-long .ensures
-    ∙ ap (λ (k : ℕ). unless Failed (turn e .loop .long) (refuseIf (ltb maxSetLength (c .before .before .before .before .before .before .before .unite .result .all)) (Overlong k)))
-    (a .before .before .wrapping-add-usize .ensures))
+    let u = c .before .before .before .before .before .before .unite in
+    let set = c .before .before .before .count-set .ensures in
+    let one = stepped (s .pre) (bytes e) inv (read a) (right (e .before .before .before .before)) (small a) (free e) (u .ensures) in
+    passing-by
+    (set ∙ ap (countedBy (turn e .loop .counted) (u .result) (a .answer .given .0 .1 .1 .0)) (a .before .before .wrapping-add-usize .ensures))
+    (passing-next inv (read a) (right (e .before .before .before .before)) (small a) (free e) (u .result) (one .one) (one .size)
+    (sym (ap (λ (k : Counted). overOf (k .total)) set) ∙ sym (c .before .is-past .ensures) ∙ c .if4 .left)
+    (e .before .before .claim .ensures .noted) (one .distinct) (one .words) (one .is) (one .counted))
 
 loop-less-2 : tie.Need-loop-less-2 Inv-loop μ-loop
-loop-less-2 c =
-    read-less _ _ (read (c .before .before .before))
+loop-less-2 c = read-less _ _ (read (c .before .before .before))
 
 loop-again-2 : tie.Need-loop-again-2 Inv-loop μ-loop
-loop-again-2 c =
-    passing-left (c .before .before .before .before .before .before .before .loop .inv) (read (c .before .before .before)) (sym (c .before .is-side .ensures) ∙ c .if2 .left)
+loop-again-2 c = passing-left (c .before .before .before .before .before .before .before .loop .inv) (read (c .before .before .before)) (sym (c .before .is-side .ensures) ∙ c .if2 .left)
 
 pub scan-second-spec : {M : Type 1} → statement M
 scan-second-spec =
@@ -224,27 +216,29 @@ scan-second-spec =
     (tie.spec
     Inv-loop
     μ-loop
+    count-from-requires
     loop-holds
     read-record-requires
     wrapping-add-usize-requires
     enum-known-answer
+    accepted-requires
     same-length
     returns
+    refused-requires
     same-length-2
     returns-2
     is-side-requires
     slice-aggregate-claim
     claim-requires
+    refused-requires-2
     same-length-3
     returns-3
     unite-requires
-    grown-by-requires
+    count-set-requires
     is-past-requires
+    refused-requires-3
     same-length-4
     returns-4
-    sub-repeats
-    add-repeats
-    first-long-requires
     loop-less
     loop-again
     loop-less-2

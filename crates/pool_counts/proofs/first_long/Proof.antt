@@ -1,10 +1,10 @@
--- `pool_scan::first_long` meets its contract: a case for what was before.
-use Rattle.pool_scan.proofs.Words.{long-now, long-not}
+-- `pool_counts::first_long` meets its contract: a case for what was before.
+use Rattle.pool_counts.proofs.Longest.{long-now, long-not}
 use native.Mathlib.Omega.{arith}
 use Rattle.sets.specs.declared.Refusal.the-variants.{Overlong}
 use borrow.Author.Needs.{needs}
-use Rattle.pool_scan.proofs.first_long.Statement.{statement}
-use Rattle.pool_scan.proofs.first_long.Tie as tie
+use Rattle.pool_counts.proofs.first_long.Statement.{statement}
+use Rattle.pool_counts.proofs.first_long.Tie as tie
 
 enum-known-before : tie.Need-enum-known-before
 enum-known-before c = search needs

@@ -1,7 +1,7 @@
--- `pool_scan::grown_by` meets its contract: by whether the first file has the number.
+-- `pool_counts::grown_by` meets its contract: by whether the first file has the number.
 use borrow.Author.Needs.{needs}
-use Rattle.pool_scan.proofs.grown_by.Statement.{statement}
-use Rattle.pool_scan.proofs.grown_by.Tie as tie
+use Rattle.pool_counts.proofs.grown_by.Statement.{statement}
+use Rattle.pool_counts.proofs.grown_by.Tie as tie
 
 sub-t5 : tie.Need-sub-t5
 sub-t5 c = search needs

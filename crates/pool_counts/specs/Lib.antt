@@ -1,0 +1,2 @@
+-- Contents: what is counted over the second file.
+pub mod Counting
