@@ -17,7 +17,6 @@ ghost use Rattle.sets.specs.Limits.{maxPairs};
 ghost use Rattle.join_spec.specs.Query.{Query};
 ghost use Rattle.join_index.specs.Asking.{Some, RunThere};
 ghost use Rattle.join_spec.specs.Counting.{isByPath};
-ghost use Rattle.join_index.specs.Runs.{run};
 ghost use Rattle.join_check.specs.Counters.{checksIn};
 ghost use Rattle.kept_rows.specs.Keeping.{ListThere};
 ghost use Rattle.checked_rows.specs.Recording.{RecordThere};
