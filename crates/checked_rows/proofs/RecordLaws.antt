@@ -21,7 +21,7 @@ use Rattle.word_lists.specs.Merges.{Rising}
 use Rattle.word_flags.specs.Flags.{Behind}
 use Rattle.word_flags.proofs.Keeping.{Keeping, keeping-start, keeping-step, keeping-end}
 use Rattle.join_check.specs.declared.Tally.{Tally}
-use Rattle.join_check.specs.declared.checks.Probe.{Probe}
+use Rattle.join_check.specs.declared.Probe.{Probe}
 use Rattle.join_index.specs.Asking.{Some, Index, RightThere}
 use Rattle.join_check.specs.Probes.{Probed, OneChecked, probeOutcome}
 use Rattle.join_index.proofs.Places.{place-right}

@@ -1,11 +1,11 @@
 // Rows that are kept while their left set is checked: the places of the right sets that a check confirms, stored at the end of the
 // kept rows as they are found.
 use join_check::Tally;
-use join_check::checks::check_one;
-use join_check::checks::probe_left;
+use join_check::check_one;
+use join_check::probe_left;
 use join_index::Layout;
-use kept_rows::rows::keep_row;
-use word_lists::words::word_at;
+use kept_rows::keep_row;
+use word_lists::word_at;
 ghost use Prim.Native.Nat.{_+_, _-_, _<_};
 ghost use Rattle.sets.specs.Limits.{fullWords};
 ghost use Rattle.join_index.specs.Asking.{Some};

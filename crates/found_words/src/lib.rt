@@ -1,6 +1,6 @@
 // The words of a part that are found in a rising part, each by halving: for a part that is far shorter than the other.
-use word_lists::words::number;
-use word_lists::words::word_at;
+use word_lists::number;
+use word_lists::word_at;
 ghost use mathlib.Core.Path.{_≡_};
 ghost use Prim.Native.Nat.{_≤_};
 ghost use Rattle.lists.specs.Lists.{memb, slice};

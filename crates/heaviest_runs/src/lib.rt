@@ -1,6 +1,6 @@
 // The heaviest child of a node, with which its visit goes on.
 use join_index::Layout;
-use join_keys::keys::run_end;
+use join_keys::run_end;
 ghost use mathlib.Core.Path.{_≡_};
 ghost use mathlib.Core.Bool.{cond};
 ghost use Prim.Native.Nat.{_-_, _≤_};

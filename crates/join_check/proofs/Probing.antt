@@ -18,7 +18,7 @@ use Rattle.join_index.specs.Grouping.{leftAt, rightAt}
 use Rattle.join_index.specs.declared.Layout.{Layout}
 use Rattle.join_index.proofs.Ordering.{right-rising}
 use Rattle.join_check.specs.declared.Tally.{Tally}
-use Rattle.join_check.specs.declared.checks.Probe.{Probe}
+use Rattle.join_check.specs.declared.Probe.{Probe}
 use Rattle.word_lists.specs.Words.{Word}
 use Rattle.word_lists.specs.Merges.{Rising}
 use Rattle.join_index.specs.Asking.{LeftThere, RightThere}

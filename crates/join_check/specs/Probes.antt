@@ -11,9 +11,9 @@ use Rattle.join_spec.specs.Walk.{Outcome, dropped, falseDrop, confirmed}
 use Rattle.join_index.specs.Grouping.{leftAt, rightAt}
 use Rattle.join_index.specs.declared.Layout.{Layout}
 use Rattle.join_check.specs.declared.Tally.{Tally}
-use Rattle.join_check.specs.declared.checks.Probe.{Probe}
-use Rattle.join_check.specs.declared.checks.Checked.{Checked}
-use Rattle.join_check.specs.declared.checks.Checked.the-variants.{Dropped, FalseDrop, Confirmed}
+use Rattle.join_check.specs.declared.Probe.{Probe}
+use Rattle.join_check.specs.declared.Checked.{Checked}
+use Rattle.join_check.specs.declared.Checked.the-variants.{Dropped, FalseDrop, Confirmed}
 use Rattle.join_index.specs.Asking.{LeftThere, RightThere}
 use Rattle.join_check.specs.Counters.{checksIn, Tallied}
 

@@ -8,7 +8,7 @@ use join_nodes::Progress;
 use join_nodes::Settings;
 use join_nodes::decide::rank_on;
 use join_nodes::narrow::narrow;
-use kept_rows::rows::keep_list;
+use kept_rows::keep_list;
 ghost use mathlib.Core.List.{List};
 ghost use Prim.Native.Nat.{ℕ};
 ghost use Rattle.join_spec.specs.Query.{Query};

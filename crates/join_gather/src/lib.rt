@@ -1,11 +1,11 @@
 // All left sets below a node, gathered by the tree and checked against each of its candidates. The work list is read by its layout.
 
 use join_check::Tally;
-use join_check::checks::check_row;
+use join_check::check_row;
 use join_index::Layout;
-use join_keys::keys::key_at;
-use join_keys::keys::run_end;
-use word_lists::words::word_at;
+use join_keys::key_at;
+use join_keys::run_end;
+use word_lists::word_at;
 ghost use Prim.Native.Nat.{_+_, _-_, _*_, _<_};
 ghost use Rattle.sets.specs.Limits.{fullWords};
 ghost use Rattle.join_index.specs.Asking.{Some};

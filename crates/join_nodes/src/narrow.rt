@@ -1,7 +1,7 @@
 // From the candidates before a node to those after it.
 use join_index::Layout;
 use shared_words::intersect;
-use word_lists::words::word_at;
+use word_lists::word_at;
 ghost use mathlib.Core.Path.{_≡_};
 ghost use Rattle.join_spec.specs.Query.{Query};
 ghost use Rattle.join_spec.specs.Node.{lastOf};

@@ -1,7 +1,9 @@
 // The pair list of a join: left set by left set, and for each the right sets that contain it, by place. Rows that the walk kept
 // are copied, and the others are found in the index; which of them the walk kept has no bearing on the list.
-use crate::rows::write_left;
 use join_index::Layout;
+use left_search::search_left;
+use row_pairs::write_kept;
+use word_lists::word_at;
 ghost use mathlib.Core.Path.{_≡_};
 ghost use mathlib.Core.List.{_++_};
 ghost use lib.ListN.{length, drop};
@@ -10,8 +12,7 @@ ghost use Rattle.join_spec.specs.PairList.{pairList};
 ghost use Rattle.word_flags.specs.Flags.{Clear};
 ghost use Rattle.join_index.specs.Asking.{Some};
 ghost use Rattle.join_pairs.specs.Writing.{PairsRoom};
-
-mod rows;
+ghost use Rattle.left_search.specs.LeftRows.{LeftRoom, LeftWritten};
 
 // Writes the pair list of the query whose index the work list holds. Candidates go into the slots of the work list.
 pub fn write_pairs(work: &mut [u32], flags: &mut [u8], lay: Layout, lefts: usize, pairs: &mut [u16])
@@ -27,4 +28,30 @@ pub fn write_pairs(work: &mut [u32], flags: &mut [u8], lay: Layout, lefts: usize
         n = write_left(work, flags, lay, k, pairs, n);
         k += 1;
     }
+}
+
+// Writes the pairs of the left set k with all right sets that contain it: those of its row where one is kept, else they are looked
+// for. Returns where they end.
+pub fn write_left(
+    work: &mut [u32],
+    flags: &mut [u8],
+    lay: Layout,
+    k: usize,
+    pairs: &mut [u16],
+    at: usize,
+) -> usize
+    requires { ⌜ Some (λ q. LeftRoom lay q (now work) k at (now pairs)) ⌝ }
+    requires { ⌜ Clear (now flags) ⌝ }
+    ensures wrote { λ r. ⌜ LeftWritten lay (now (work .entry)) k at (now (pairs .entry)) (now (work .exit))
+        (now (pairs .exit)) r ⌝ }
+    ensures clear { λ _. ⌜ Clear (now (flags .exit)) ⌝ }
+{
+    let starts = lay.row_starts;
+    let ends = lay.row_ends;
+    let from = word_at(work, starts + k);
+    if from == 0 {
+        return search_left(work, flags, lay, k, pairs, at);
+    }
+    let to = word_at(work, ends + k);
+    write_kept(work, from, to, k, pairs, at)
 }

@@ -2,14 +2,14 @@
 // rank.
 use join_index::Layout;
 use join_index::asks_seen;
-use join_keys::held::is_held;
-use join_keys::keys::key_at;
+use join_keys::is_held;
+use join_keys::key_at;
 use join_nodes::Progress;
 use join_nodes::Settings;
 use join_nodes::Walked;
-use join_visit::visit::visit_node;
-use kept_rows::rows::keep_list;
-use word_lists::words::word_at;
+use join_visit::visit_node;
+use kept_rows::keep_list;
+use word_lists::word_at;
 ghost use Prim.Native.Nat.{ℕ};
 ghost use Rattle.join_spec.specs.Query.{Query};
 ghost use Rattle.word_flags.specs.Flags.{Clear};

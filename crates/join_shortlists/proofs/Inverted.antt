@@ -23,7 +23,7 @@ use Rattle.word_lists.specs.Merges.{Rising}
 use Rattle.word_flags.specs.Flags.{flagRoom, Below}
 use Rattle.join_index.specs.Asking.{RankThere, PlacesThere}
 use Rattle.join_index.proofs.Places.{places-below}
-use Rattle.join_shortlists.specs.declared.candidates.Span.{Span}
+use Rattle.join_shortlists.specs.declared.Span.{Span}
 use Rattle.join_shortlists.specs.Shortlists.{Located, RanksThere}
 
 -- the inverted list of a rank lies between two offsets, and its slot below the rows

@@ -17,7 +17,7 @@ use Rattle.join_index.specs.Grouping.{rightAt}
 use Rattle.join_index.specs.declared.Layout.{Layout}
 use Rattle.word_lists.specs.Words.{Word}
 use Rattle.shared_words.specs.Sharing.{Apart, Intersected}
-use Rattle.join_shortlists.specs.declared.candidates.Span.{Span}
+use Rattle.join_shortlists.specs.declared.Span.{Span}
 use Rattle.join_shortlists.specs.Shortlists.{Located, SpanThere, RankMet}
 use Rattle.join_shortlists.proofs.Inverted.{inverted-stored, list-part}
 

@@ -21,7 +21,7 @@ use Rattle.join_index.proofs.GroundLaws.{offsets-rise}
 use Rattle.word_lists.specs.Words.{Word}
 use Rattle.join_index.specs.Asking.{RankThere, PlacesThere}
 use Rattle.join_index.proofs.Reading.{index-frame}
-use Rattle.join_shortlists.specs.declared.candidates.Span.{Span}
+use Rattle.join_shortlists.specs.declared.Span.{Span}
 use Rattle.join_shortlists.specs.Shortlists.{Located, SpanThere, RankMet, FindThere, ShortlistOf}
 use Rattle.join_shortlists.proofs.Inverted.{inverted-stored, list-part, list-places, list-rising, slice-at, slice-memb}
 

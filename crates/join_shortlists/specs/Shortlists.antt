@@ -12,8 +12,8 @@ use Rattle.join_spec.specs.Query.{Query}
 use Rattle.join_index.specs.Grouping.{rightAt}
 use Rattle.join_index.specs.declared.Layout.{Layout}
 use Rattle.join_index.specs.Asking.{Index, RankThere, PlacesThere}
-use Rattle.join_shortlists.specs.declared.candidates.Span.{Span}
-use Rattle.join_shortlists.specs.declared.candidates.Shortlist.{Shortlist}
+use Rattle.join_shortlists.specs.declared.Span.{Span}
+use Rattle.join_shortlists.specs.declared.Shortlist.{Shortlist}
 
 -- the span lies between the offsets of the rank
 pub record Located (lay : Layout) (w : List ℕ) (r : ℕ) (s : Span) : Type 0 where

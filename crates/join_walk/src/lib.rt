@@ -2,12 +2,12 @@
 use join_blocks::merged_end;
 use join_check::Tally;
 use join_index::Layout;
-use join_keys::keys::run_end;
+use join_keys::run_end;
 use join_nodes::Progress;
 use join_nodes::Settings;
 use join_nodes::Walked;
 use join_partition::visit_partition;
-use kept_rows::rows::clear_rows;
+use kept_rows::clear_rows;
 ghost use Rattle.join_spec.specs.Query.{Query};
 ghost use Rattle.join_index.specs.Asking.{Some};
 ghost use Rattle.word_flags.specs.Flags.{Clear};

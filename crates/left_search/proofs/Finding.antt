@@ -21,11 +21,11 @@ use Rattle.join_spec.specs.Query.{Query}
 use Rattle.join_index.specs.Grouping.{leftAt, rightAt}
 use Rattle.join_index.specs.declared.Layout.{Layout}
 use Rattle.join_index.proofs.Ordering.{left-below, left-rising}
-use Rattle.join_check.specs.declared.checks.Probe.{Probe}
+use Rattle.join_check.specs.declared.Probe.{Probe}
 use Rattle.join_index.specs.Asking.{LeftThere}
 use Rattle.join_check.specs.Probes.{Probed}
 use Rattle.join_index.proofs.Reading.{index-frame}
-use Rattle.join_shortlists.specs.declared.candidates.Shortlist.{Shortlist}
+use Rattle.join_shortlists.specs.declared.Shortlist.{Shortlist}
 use Rattle.kept_rows.specs.Kept.{containedAt}
 use Rattle.row_pairs.specs.Containing.{pairsWith, rowOf}
 use Rattle.row_pairs.specs.Writing.{RowRoom}

@@ -1,10 +1,10 @@
 // The pairs of one left set, looked for: in the index its candidates are found, and those that contain it are written from a place of
 // the pair list on.
-use join_check::checks::Probe;
-use join_check::checks::probe_left;
+use join_check::Probe;
+use join_check::probe_left;
 use join_index::Layout;
-use join_shortlists::candidates::find_candidates;
-use join_shortlists::ranks::pivot;
+use join_shortlists::find_candidates;
+use join_shortlists::pivot;
 use row_pairs::write_row;
 ghost use Rattle.word_flags.specs.Flags.{Clear};
 ghost use Rattle.join_index.specs.Asking.{Some};

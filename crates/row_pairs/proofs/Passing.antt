@@ -14,7 +14,7 @@ use Rattle.join_spec.specs.Walk.{dropped, falseDrop, confirmed}
 use Rattle.join_spec.specs.Counting.{isConfirmed}
 use Rattle.join_index.specs.Grouping.{rightAt}
 use Rattle.join_index.specs.declared.Layout.{Layout}
-use Rattle.join_check.specs.declared.checks.Probe.{Probe}
+use Rattle.join_check.specs.declared.Probe.{Probe}
 use Rattle.join_check.specs.Probes.{probeOutcome}
 use Rattle.join_check.proofs.RowChecks.{check-confirmed}
 use Rattle.kept_rows.specs.Kept.{containedAt}

@@ -9,7 +9,7 @@ use Rattle.sets.specs.Signatures.{signature}
 use Rattle.join_spec.specs.Query.{Query}
 use Rattle.join_index.specs.Grouping.{rightAt}
 use Rattle.join_index.specs.declared.Layout.{Layout}
-use Rattle.join_check.specs.declared.checks.Probe.{Probe}
+use Rattle.join_check.specs.declared.Probe.{Probe}
 use Rattle.join_index.specs.Asking.{RightThere}
 use Rattle.kept_rows.specs.Kept.{containedAt}
 

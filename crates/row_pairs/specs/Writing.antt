@@ -11,7 +11,7 @@ use Rattle.join_spec.specs.Query.{Query}
 use Rattle.join_spec.specs.PairList.{ontoPair}
 use Rattle.join_index.specs.Grouping.{rightAt}
 use Rattle.join_index.specs.declared.Layout.{Layout}
-use Rattle.join_check.specs.declared.checks.Probe.{Probe}
+use Rattle.join_check.specs.declared.Probe.{Probe}
 use Rattle.join_index.specs.Asking.{LeftThere, PlacesThere}
 use Rattle.word_lists.specs.Merges.{Rising}
 use Rattle.word_flags.specs.Flags.{Below}

@@ -1,19 +1,22 @@
 // The pairs of one left set with right sets whose places stand in the work list, written one after the other from a place of the
 // pair list on: with all of them, or with those that contain it. Each function returns where they end.
-use crate::left::is_contained;
-use join_check::checks::Probe;
+use join_check::Checked;
+use join_check::Probe;
+use join_check::check_probe;
 use join_index::Layout;
-use word_lists::words::word_at;
+use word_lists::word_at;
 ghost use mathlib.Core.List.{[]};
 ghost use Rattle.lists.specs.Lists.{slice};
 ghost use Rattle.lists.specs.Writing.{Put};
 ghost use Rattle.join_spec.specs.Query.{Query};
 ghost use Rattle.join_spec.specs.PairList.{ontoPair};
-ghost use Rattle.join_index.specs.Asking.{Some};
-ghost use Rattle.row_pairs.specs.Containing.{rowOf, pairsWith};
+ghost use Rattle.join_index.specs.Asking.{Some, RightThere};
+ghost use Rattle.row_pairs.specs.Containing.{rowOf, pairsWith, CheckThere};
 ghost use Rattle.row_pairs.specs.Writing.{PushRoom, KeptRoom, RowRoom};
-
-mod left;
+ghost use mathlib.Core.Path.{_≡_};
+ghost use Prim.Native.Nat.{ℕ};
+ghost use Rattle.word_lists.specs.Merges.{Rising};
+ghost use Rattle.kept_rows.specs.Kept.{containedAt};
 
 // Writes the pair of left place k and right place s where it is one.
 fn push(pairs: &mut [u16], at: usize, k: usize, s: usize, paired: bool) -> usize
@@ -76,4 +79,22 @@ pub fn write_row(
         i += 1;
     }
     n
+}
+
+// Whether the right set s contains the left set of which p is the rest to be looked for: it does where there is no rank in the
+// rest, else it is checked.
+pub fn is_contained(work: &[u32], lay: Layout, p: Probe, s: usize) -> bool
+    requires { ⌜ Some (λ q. RightThere lay q (now work) s) ⌝ }
+    requires { ⌜ Rising (p .from) (p .to) (now work) ⌝ }
+    ensures { λ b. ⌜ ((q : Query) (k : ℕ) → CheckThere lay q (now (work .entry)) p k s → b ≡ containedAt q k s) ⌝ }
+{
+    if p.to <= p.from {
+        return true;
+    }
+    let end = check_probe(work, lay, p, s);
+    match end {
+        Checked::Dropped => false,
+        Checked::FalseDrop => false,
+        Checked::Confirmed => true,
+    }
 }

@@ -1,6 +1,6 @@
 // Tables of flags, one for each number below their length: the words of a part of a list are flagged, those of a part that are
 // flagged are kept, and the flags are taken away again.
-use word_lists::words::word_at;
+use word_lists::word_at;
 ghost use mathlib.Core.Bool.{false};
 ghost use lib.ListN.{length};
 ghost use Rattle.lists.specs.Lists.{memb, slice};

@@ -1,4 +1,21 @@
-// Lists of words, as a work list and its parts: words read as numbers, and whether one rising part has the words of another. Nothing
-// here knows of sets or of a query.
-pub mod merge;
-pub mod words;
+// Words of a list as numbers, and tests as numbers.
+ghost use Prim.Native.Nat.{_<_};
+ghost use lib.ListN.{length};
+ghost use Rattle.word_lists.specs.Words.{Word, OneWhere};
+
+pub mod subsets;
+
+// The word at a place.
+pub fn word_at(work: &[u32], i: usize) -> usize
+    requires { ⌜ i < length (now work) ⌝ }
+    ensures { λ r. ⌜ Word (now (work .entry)) i r ⌝ }
+{
+    work[i] as usize
+}
+
+// 1 for true, 0 for false.
+pub fn number(b: bool) -> usize
+    ensures { λ r. ⌜ OneWhere b r ⌝ }
+{
+    if b { 1 } else { 0 }
+}

@@ -11,10 +11,10 @@ use borrow.Fn.PlainCycle.{Measures, is, falls, and}
 use Rattle.join_gather.proofs.gather.Reads as gather
 use Rattle.join_gather.proofs.gather.Kinds as gather-kinds
 use Rattle.join_gather.proofs.+gather.Lts-gather as gather-lts
-use Rattle.join_keys.proofs.keys.key_at.Reads as key-at-reads
-use Rattle.join_keys.proofs.keys.run_end.Reads as run-end-reads
+use Rattle.join_keys.proofs.key_at.Reads as key-at-reads
+use Rattle.join_keys.proofs.run_end.Reads as run-end-reads
 use Rattle.join_gather.proofs.check_run.Reads as check-run-reads
-use Rattle.word_lists.proofs.words.word_at.Reads as word-at-reads
+use Rattle.word_lists.proofs.word_at.Reads as word-at-reads
 use Rattle.join_gather.proofs.+gather.{statement}
 use Rattle.join_gather.proofs.+gather.Tie.{close}
 

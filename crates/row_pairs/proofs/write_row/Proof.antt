@@ -12,7 +12,7 @@ use Rattle.lists.proofs.Writing.{Writing, writing-start, writing-step, writing-
 use Rattle.join_spec.specs.Query.{Query}
 use Rattle.join_spec.specs.PairList.{ontoPair}
 use Rattle.join_index.specs.declared.Layout.{Layout}
-use Rattle.join_check.specs.declared.checks.Probe.{Probe}
+use Rattle.join_check.specs.declared.Probe.{Probe}
 use Rattle.word_lists.specs.Words.{Word}
 use Rattle.join_index.proofs.Places.{place-right}
 use Rattle.kept_rows.specs.Kept.{containedAt}
