@@ -22,8 +22,8 @@ use Rattle.sets.specs.Collections.{between, setsFrom, goodItems, firstBadFrom, 
 use Rattle.sets.specs.declared.Verdict.the-variants.{Good}
 use Rattle.sets.proofs.Good.{good-step, good-next, set-item}
 use Rattle.sets.proofs.Containment.{contained-none, contained-subset}
-use Rattle.first_spec.specs.First.{foundAt, noneOf, firstFrom, firstContained}
-use Rattle.first_spec.proofs.FirstLaws.{first-agree}
+use Rattle.first_search_spec.specs.First.{foundAt, noneOf, firstFrom, firstContained}
+use Rattle.first_search_spec.proofs.FirstLaws.{first-agree}
 use Rattle.first_search.specs.Searching.{CanSearch, isMarked, firstMarked}
 
 -- the left set from start to end: where it has items they decide, and where it is empty it is not marked

@@ -8,8 +8,8 @@ use Rattle.lists.specs.Lists.{all}
 use Rattle.bit_sets.specs.BitSets.{member}
 use Rattle.sets.specs.Collections.{setsOf, hasItem, firstBad}
 use Rattle.sets.specs.declared.Verdict.the-variants.{Good}
-use Rattle.first_spec.specs.declared.Search.{Search}
-use Rattle.first_spec.specs.First.{firstFrom}
+use Rattle.first_search_spec.specs.declared.Search.{Search}
+use Rattle.first_search_spec.specs.First.{firstFrom}
 
 -- the left sets are good, over some count of items that all have a place among the marks
 pub record CanSearch (ends items marks : List ℕ) : Type 0 where

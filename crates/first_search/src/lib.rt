@@ -2,8 +2,8 @@
 // in place order, until one has items and all of them are there. Nothing is sorted and no index is built.
 use bit_sets::contains_part;
 use bit_sets::insert_part;
-use first_spec::FirstAnswer;
-use first_spec::Search;
+use first_search_spec::FirstAnswer;
+use first_search_spec::Search;
 use inputs::test_items;
 use inputs::test_lone;
 use inputs::test_side;
@@ -17,7 +17,7 @@ const ITEM_WORDS: usize = (MAX_ITEMS as usize) / 64;
 ghost use mathlib.Core.Path.{_≡_};
 ghost use Rattle.lists.specs.Lists.{slice};
 ghost use Rattle.bit_sets.specs.BitSets.{PartFits};
-ghost use Rattle.first_spec.specs.First.{firstTest, firstAnswer};
+ghost use Rattle.first_search_spec.specs.First.{firstTest, firstAnswer};
 ghost use Rattle.first_search.specs.Searching.{CanSearch, isMarked, firstMarked};
 
 // What is lent can be searched: T, the left sets, then the right set.

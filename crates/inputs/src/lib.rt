@@ -1,13 +1,13 @@
 // The tests of what is lent, shared by the operations over both collections: each answers `Tested`, and an operation makes those
 // that it has in the order of the refusal table. And containment of one set of items in another.
-use one_set::good_items;
-use set_tests::first_bad;
 use sets::MAX_ITEMS;
 use sets::Refusal;
 use sets::Side;
 use sets::Tested;
 use sets::Verdict;
 use sets::count_entries;
+use validation::collections::first_bad;
+use validation::one_set::good_items;
 ghost use mathlib.Core.Path.{_≡_};
 ghost use mathlib.Core.Bool.{true};
 ghost use Rattle.lists.specs.Lists.{rising};

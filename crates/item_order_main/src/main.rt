@@ -1,7 +1,7 @@
 // The order of items on document 01's shelf and at its edges: T = 0, empty sets, ties, both directions, and each refusal.
 // A line says the case, the answer's number with its detail (0 where it is accepted), and the rank list afterwards.
+use item_order_spec::OrderAnswer;
 use libc::STDOUT_FILENO;
-use order_spec::OrderAnswer;
 use sets::Refusal;
 
 fn show_number(n: u64) {

@@ -23,7 +23,7 @@ use Rattle.join_spec.proofs.Demand.{pairs-met, checks-end, total-small}
 use Rattle.join_spec.proofs.Accepted.{Tests}
 use Rattle.sets.proofs.Between.{length-sets}
 use Rattle.inputs.proofs.TestLaws.{words-for}
-use Rattle.join_build.specs.Building.{BuildRoom}
+use Rattle.join_index.specs.build.Building.{BuildRoom}
 use Rattle.join_index.specs.Ground.{Ground}
 use Rattle.join_index.specs.declared.Layout.{Layout}
 use Rattle.join_index.specs.Asking.{Index}
@@ -31,10 +31,10 @@ use Rattle.join_nodes.specs.declared.Walked.{Walked}
 use Rattle.join_nodes.proofs.FrameLaws.{index-framed}
 use Rattle.join_walk.specs.Partitions.{WalkReady, WalkDone}
 use Rattle.join_pairs.specs.Writing.{PairsRoom}
-use Rattle.tally_answer.specs.Answering.{SumsFit, tallyCounts, tallyAnswer}
-use Rattle.tally_answer.proofs.AnswerLaws.{joined-enough, refused-clears, tally-walk}
+use Rattle.join.specs.tally_answer.Answering.{SumsFit, tallyCounts, tallyAnswer}
+use Rattle.join.proofs.tally_answer.AnswerLaws.{joined-enough, refused-clears, tally-walk}
 use Rattle.join.specs.Ready.{Accepted}
-use Rattle.join_output.specs.Output.{AnswerRoom}
+use Rattle.join.specs.output.Output.{AnswerRoom}
 
 -- the query of an input and the settings that bear on the walk
 abbrev pub queryBy : Input → ℕ → List ℕ → Rule → Query

@@ -1,18 +1,18 @@
 // The set containment join: its tests, the walk, and the pair list. Document 01 calls it the run.
-use join_build::build;
+use crate::output::write_answer;
+use crate::tally_answer::answer_tally;
+use crate::validate::test_join;
+use crate::validate::test_rule;
 use join_index::Layout;
+use join_index::build::build;
 use join_nodes::Settings;
 use join_nodes::Walked;
-use join_output::write_answer;
 use join_spec::JoinAnswer;
 use join_spec::Rule;
 use join_spec::Weights;
-use join_tests::test_join;
-use join_tests::test_rule;
 use join_walk::walk;
 use sets::Tested;
-use tally_answer::answer_tally;
-use word_flags::clear_flags;
+use words::flags::clear_flags;
 ghost use mathlib.Core.Path.{_≡_};
 ghost use lib.ListN.{length};
 ghost use Rattle.sets.specs.Collections.{setsOf};
@@ -22,6 +22,10 @@ ghost use Rattle.join_spec.specs.Query.{settingsOf, queryOf};
 ghost use Rattle.join_spec.specs.Answer.{roomOf, walkAnswer, pairsAfter, JoinCall, RunCall};
 ghost use Rattle.join.specs.Ready.{Accepted};
 ghost use Rattle.join.specs.Numbered.{ruleOf, numberedAnswer};
+
+pub mod output;
+pub mod tally_answer;
+pub mod validate;
 
 // The join of an input that passed the tests before the walk: the index, the walk, the answer by its counters, and the pair list.
 fn join_ready(

@@ -19,8 +19,8 @@ use Rattle.join_index.specs.declared.Layout.{Layout}
 use Rattle.join_index.proofs.Ordering.{right-rising}
 use Rattle.join_check.specs.declared.Tally.{Tally}
 use Rattle.join_check.specs.declared.Probe.{Probe}
-use Rattle.word_lists.specs.Words.{Word}
-use Rattle.word_lists.specs.Merges.{Rising}
+use Rattle.words.specs.Words.{Word}
+use Rattle.words.specs.Merges.{Rising}
 use Rattle.join_index.specs.Asking.{LeftThere, RightThere}
 use Rattle.join_check.specs.Counters.{Tallied}
 use Rattle.join_check.specs.Probes.{ProbeOf, probeOutcome}

@@ -16,7 +16,7 @@ use Rattle.join_spec.specs.Counting.{isConfirmed}
 use Rattle.join_index.specs.declared.Layout.{Layout}
 use Rattle.join_check.specs.declared.Tally.{Tally}
 use Rattle.join_check.specs.declared.Probe.{Probe}
-use Rattle.word_lists.specs.Words.{Word}
+use Rattle.words.specs.Words.{Word}
 use Rattle.join_check.specs.Checks.{checkAt, rowCount, RowThere, RowChecked}
 use Rattle.join_check.specs.Counters.{checksIn}
 use Rattle.join_check.specs.Probes.{Probed, OneChecked}

@@ -1,17 +1,20 @@
 // The checks of left sets against right sets, and the counters that they raise. The work list is read by its layout.
 use join_index::Layout;
 use signatures::double_at;
-use word_lists::subsets::subset_words;
-use word_lists::word_at;
+use words::subsets::subset_words;
+use words::word_at;
 ghost use mathlib.Core.Path.{_≡_};
 ghost use Prim.Native.Nat.{_+_, _-_, _*_, _<_};
 ghost use Rattle.sets.specs.Limits.{fullWords};
-ghost use Rattle.word_lists.specs.Merges.{Rising};
+ghost use Rattle.words.specs.Merges.{Rising};
 ghost use Rattle.join_spec.specs.Query.{Query};
 ghost use Rattle.join_index.specs.Asking.{Some, LeftThere, RightThere};
 ghost use Rattle.join_check.specs.Checks.{RowThere, RowChecked};
 ghost use Rattle.join_check.specs.Counters.{checksIn};
 ghost use Rattle.join_check.specs.Probes.{Probed, outcomeOf, probeOutcome, OneChecked};
+
+pub mod gather;
+pub mod keys;
 
 // The counters of a walk: pairs by path, and the checks by how they ended.
 pub struct Tally {

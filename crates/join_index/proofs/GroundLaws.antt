@@ -12,7 +12,7 @@ use Rattle.lists.proofs.Slices.{frame-at, frame-slice}
 use Rattle.join_spec.specs.Query.{Query}
 use Rattle.counting_sort.proofs.Regions.{holds-frame}
 use Rattle.signatures.proofs.SigningSets.{double-stays}
-use Rattle.index_keys.specs.SetKeys.{startOf}
+use Rattle.side_index.specs.keys.SetKeys.{startOf}
 use Rattle.join_index.specs.Ground.{Ground, offsetOf, seenCount, asksSeen}
 use Rattle.join_index.specs.declared.Layout.{Layout}
 

@@ -13,7 +13,7 @@ use Rattle.join_spec.specs.Query.{Query}
 use Rattle.join_index.specs.Grouping.{keyAt, orderOf}
 use Rattle.join_index.specs.declared.Layout.{Layout}
 use Rattle.join_index.proofs.Ordering.{order-member}
-use Rattle.word_lists.specs.Words.{Word}
+use Rattle.words.specs.Words.{Word}
 use Rattle.join_index.specs.Asking.{Index, LeftThere, RunThere}
 use Rattle.join_index.specs.Runs.{lead, leftIn, run}
 use Rattle.join_index.proofs.Reading.{holds-length, holds-at}

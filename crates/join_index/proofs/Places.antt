@@ -15,8 +15,8 @@ use Rattle.join_spec.specs.Query.{Query}
 use Rattle.join_spec.specs.Node.{seen}
 use Rattle.join_index.specs.Grouping.{rightAt}
 use Rattle.join_index.specs.declared.Layout.{Layout}
-use Rattle.word_lists.specs.Words.{Word}
-use Rattle.word_flags.specs.Flags.{flagRoom, Below}
+use Rattle.words.specs.Words.{Word}
+use Rattle.words.specs.flags.Flags.{flagRoom, Below}
 use Rattle.join_index.specs.Asking.{RightThere, PlacesThere}
 use Rattle.join_index.proofs.Reading.{right-stored}
 

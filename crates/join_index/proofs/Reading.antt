@@ -8,7 +8,7 @@ use lib.ListN.{length, getD, take, drop}
 use lib.Seq.{length-slice, getD-drop, getD-take, drop-drop}
 use Rattle.lists.specs.Lists.{slice}
 use Rattle.counting_sort.specs.Holding.{RegionHolds}
-use Rattle.index_keys.specs.SetKeys.{startOf}
+use Rattle.side_index.specs.keys.SetKeys.{startOf}
 use Rattle.join_index.specs.Grouping.{leftAt, rightAt, keyAt}
 use Rattle.join_index.specs.declared.Layout.{Layout}
 use Rattle.join_index.proofs.GroundLaws.{ground-frame}

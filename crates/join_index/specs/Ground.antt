@@ -16,7 +16,7 @@ use Rattle.join_spec.specs.Node.{seen}
 use Rattle.join_index.specs.Grouping.{leftAt, rightAt, orderOf}
 use Rattle.counting_sort.specs.Holding.{RegionHolds}
 use Rattle.signatures.specs.Signing.{double}
-use Rattle.index_keys.specs.SetKeys.{startOf}
+use Rattle.side_index.specs.keys.SetKeys.{startOf}
 use Rattle.join_index.specs.declared.Layout.{Layout}
 
 -- the list holds, in some order and each once, the places below n that pass the test

@@ -4,3 +4,6 @@ pub mod Grouping
 pub mod Ground
 pub mod Asking
 pub mod Runs
+pub mod regions
+pub mod stages
+pub mod build

@@ -6,6 +6,10 @@ ghost use mathlib.Core.Path.{_≡_};
 ghost use Rattle.join_index.specs.Ground.{asksSeen};
 use join_spec::Rule;
 
+pub mod build;
+pub mod regions;
+pub mod stages;
+
 // Where each region of the work list begins. None below the slots changes during the walk. Each pair of an offsets region and the
 // region it counts from is what one counting sort leaves behind.
 pub struct Layout {

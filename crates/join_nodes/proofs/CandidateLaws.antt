@@ -19,10 +19,10 @@ use Rattle.counting_sort.specs.Holding.{RegionHolds}
 use Rattle.join_index.specs.Ground.{invertedList, offsetOf}
 use Rattle.join_index.specs.declared.Layout.{Layout}
 use Rattle.join_index.proofs.GroundLaws.{slot-bound}
-use Rattle.word_lists.specs.Words.{Word}
-use Rattle.word_lists.specs.Merges.{Rising}
-use Rattle.shared_words.specs.Sharing.{Apart, Intersected}
-use Rattle.word_flags.specs.Flags.{flagRoom, Below}
+use Rattle.words.specs.Words.{Word}
+use Rattle.words.specs.Merges.{Rising}
+use Rattle.words.specs.shared.Sharing.{Apart, Intersected}
+use Rattle.words.specs.flags.Flags.{flagRoom, Below}
 use Rattle.join_index.proofs.Places.{places-below}
 use Rattle.join_nodes.specs.Narrowing.{Candidates, Narrowed, candidateList}
 use Rattle.join_nodes.proofs.Narrowing.{narrow-first, narrow-further}

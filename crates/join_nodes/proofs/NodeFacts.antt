@@ -28,7 +28,7 @@ use Rattle.join_index.specs.declared.Layout.{Layout}
 use Rattle.join_index.proofs.GroundLaws.{slot-bound}
 use Rattle.join_index.specs.Asking.{Index, LeftThere, PlacesThere}
 use Rattle.join_index.specs.Runs.{leftIn}
-use Rattle.word_lists.specs.Words.{Word}
+use Rattle.words.specs.Words.{Word}
 use Rattle.join_index.proofs.Orders.{order-left}
 use Rattle.join_nodes.specs.Rows.{goes}
 use Rattle.join_nodes.specs.Visiting.{OnPath, NodeAt}

@@ -2,3 +2,7 @@
 pub mod Rows
 pub mod Narrowing
 pub mod Visiting
+pub mod block_checks
+pub mod blocks
+pub mod lone
+pub mod enter

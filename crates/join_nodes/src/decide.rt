@@ -1,10 +1,10 @@
 // The decision at a node.
+use join_check::keys::count_seen;
+use join_check::keys::key_at;
 use join_index::Layout;
-use join_keys::count_seen;
-use join_keys::key_at;
 use join_spec::Rule;
 use join_spec::Weights;
-use word_lists::word_at;
+use words::word_at;
 ghost use mathlib.Core.Path.{_≡_};
 ghost use mathlib.Core.List.{List};
 ghost use Prim.Native.Nat.{ℕ, _*_, _≤_};

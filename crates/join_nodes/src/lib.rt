@@ -21,5 +21,9 @@ pub struct Walked {
     pub spent: bool,
 }
 
+pub mod block_checks;
+pub mod blocks;
 pub mod decide;
+pub mod enter;
+pub mod lone;
 pub mod narrow;

@@ -1,13 +1,13 @@
 // From the candidates before a node to those after it.
 use join_index::Layout;
-use shared_words::intersect;
-use word_lists::word_at;
+use words::shared::intersect;
+use words::word_at;
 ghost use mathlib.Core.Path.{_≡_};
 ghost use Rattle.join_spec.specs.Query.{Query};
 ghost use Rattle.join_spec.specs.Node.{lastOf};
 ghost use mathlib.Core.List.{List};
 ghost use Prim.Native.Nat.{ℕ};
-ghost use Rattle.word_flags.specs.Flags.{Clear};
+ghost use Rattle.words.specs.flags.Flags.{Clear};
 ghost use Rattle.join_nodes.specs.Narrowing.{SomePath, Candidates, Narrowed};
 
 // A part of the work list.

@@ -15,13 +15,13 @@ use Rattle.lists.proofs.Ranges.{all-upto}
 use Rattle.sets.specs.Limits.{maxSets}
 use Rattle.join_spec.specs.Query.{Query}
 use Rattle.join_index.specs.declared.Layout.{Layout}
-use Rattle.word_lists.specs.Words.{Word}
+use Rattle.words.specs.Words.{Word}
 use Rattle.kept_rows.specs.Kept.{containedAt, RowIs}
 use Rattle.kept_rows.proofs.RowLaws.{row-moved}
-use Rattle.row_pairs.specs.Containing.{pairsWith}
-use Rattle.row_pairs.specs.Writing.{KeptRoom}
-use Rattle.left_search.specs.LeftRows.{rowAt, LeftRoom}
-use Rattle.left_search.proofs.LeftPairs.{row-whole}
+use Rattle.join_pairs.specs.row_pairs.Containing.{pairsWith}
+use Rattle.join_pairs.specs.row_pairs.Writing.{KeptRoom}
+use Rattle.join_pairs.specs.left_search.LeftRows.{rowAt, LeftRoom}
+use Rattle.join_pairs.proofs.left_search.LeftPairs.{row-whole}
 
 module _ {lay : Layout} {q : Query} {w : List ℕ} {k at : ℕ} {was : List ℕ} (there : LeftRoom lay q w k at was) where
   -- the two words of the row are there

@@ -8,7 +8,7 @@ use lib.Seq.{drop-cons}
 use Rattle.sets.specs.Collections.{contained}
 use Rattle.join_spec.specs.Query.{Query}
 use Rattle.join_spec.specs.PairList.{pairsFrom}
-use Rattle.left_search.specs.LeftRows.{rowAt}
+use Rattle.join_pairs.specs.left_search.LeftRows.{rowAt}
 
 -- the pairs of the left sets from place k on
 pub pairs-next : (q : Query) (k : ℕ) → k < length (q .lefts)

@@ -1,18 +1,22 @@
 // The pair list of a join: left set by left set, and for each the right sets that contain it, by place. Rows that the walk kept
 // are copied, and the others are found in the index; which of them the walk kept has no bearing on the list.
+use crate::left_search::search_left;
+use crate::row_pairs::write_kept;
 use join_index::Layout;
-use left_search::search_left;
-use row_pairs::write_kept;
-use word_lists::word_at;
+use words::word_at;
 ghost use mathlib.Core.Path.{_≡_};
 ghost use mathlib.Core.List.{_++_};
 ghost use lib.ListN.{length, drop};
 ghost use Rattle.join_spec.specs.Query.{Query};
 ghost use Rattle.join_spec.specs.PairList.{pairList};
-ghost use Rattle.word_flags.specs.Flags.{Clear};
+ghost use Rattle.words.specs.flags.Flags.{Clear};
 ghost use Rattle.join_index.specs.Asking.{Some};
 ghost use Rattle.join_pairs.specs.Writing.{PairsRoom};
-ghost use Rattle.left_search.specs.LeftRows.{LeftRoom, LeftWritten};
+ghost use Rattle.join_pairs.specs.left_search.LeftRows.{LeftRoom, LeftWritten};
+
+pub mod left_search;
+pub mod row_pairs;
+pub mod shortlists;
 
 // Writes the pair list of the query whose index the work list holds. Candidates go into the slots of the work list.
 pub fn write_pairs(work: &mut [u32], flags: &mut [u8], lay: Layout, lefts: usize, pairs: &mut [u16])

@@ -2,6 +2,8 @@
 // need no code. The code that meets them stands in the crates above.
 use sets::Refusal;
 
+pub mod answers;
+
 // The four weights of the weighed merge rule.
 pub struct Weights {
     pub a: f64,

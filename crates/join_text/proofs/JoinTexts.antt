@@ -13,8 +13,8 @@ use Rattle.join_spec.specs.Query.{Settings}
 use Rattle.join_spec.specs.Answer.{joinAnswer, RunCall}
 use Rattle.join_spec.proofs.Calls.{call-filled}
 use Rattle.tag_file.specs.declared.Repeats.{Repeats}
-use Rattle.answer_text.specs.AnswerText.{answerText}
-use Rattle.answer_text.specs.Inner.{foundPairs, AnswerFits}
+use Rattle.text.specs.answer_text.AnswerText.{answerText}
+use Rattle.text.specs.answer_text.Inner.{foundPairs, AnswerFits}
 use Rattle.join_text.specs.JoinText.{workWords, pairPlaces, joinText}
 use Rattle.join_text.specs.Inner.{textRoom}
 use Rattle.join_text.proofs.PairPlaces.{places-enough, places-within}

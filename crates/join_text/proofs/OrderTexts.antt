@@ -16,17 +16,17 @@ use Rattle.sets.specs.declared.Tested.{Tested}
 use Rattle.sets.specs.declared.Tested.the-variants.{Passed, Failed}
 use Rattle.inputs.specs.Input.{Input, leftSets, rightSets}
 use Rattle.inputs.specs.Tests.{setsTest, workTest}
-use Rattle.order_spec.specs.declared.OrderAnswer.{OrderAnswer}
-use Rattle.order_spec.specs.declared.OrderAnswer.the-variants as order
-use Rattle.order_spec.specs.Order.{rankTable, orderTest, orderAnswer, orderRanks, ranksAfter, OrderCall}
-use Rattle.order_spec.proofs.Ranks.{ranks-permutation}
+use Rattle.item_order_spec.specs.declared.OrderAnswer.{OrderAnswer}
+use Rattle.item_order_spec.specs.declared.OrderAnswer.the-variants as order
+use Rattle.item_order_spec.specs.Order.{rankTable, orderTest, orderAnswer, orderRanks, ranksAfter, OrderCall}
+use Rattle.item_order_spec.proofs.Ranks.{ranks-permutation}
 use Rattle.join_spec.specs.declared.JoinAnswer.the-variants.{Refused}
 use Rattle.join_spec.specs.PairList.{pairList}
 use Rattle.join_spec.specs.Answer.{badSettings, joinTests}
 use Rattle.join_spec.proofs.Accepted.{answer-refused}
 use Rattle.tag_file.specs.declared.Repeats.{Repeats}
-use Rattle.text_lines.specs.Lines.{refusalLine}
-use Rattle.answer_text.specs.AnswerText.{answerText}
+use Rattle.text.specs.Lines.{refusalLine}
+use Rattle.text.specs.answer_text.AnswerText.{answerText}
 use Rattle.join_text.specs.JoinText.{programRoom, workWords, programSettings, joinText}
 
 -- a refused order failed its test

@@ -19,7 +19,7 @@ use Rattle.join_spec.specs.Answer.{roomOf, RunCall}
 use Rattle.join_spec.proofs.Accepted.{accepted}
 use Rattle.join_spec.proofs.AcceptedRuns.{pairs-counted}
 use Rattle.join_spec.proofs.Calls.{call-filled}
-use Rattle.pair_lines.specs.Room.{pairsWithin}
+use Rattle.text.specs.pair_lines.Room.{pairsWithin}
 
 module _ (m n : ℕ) where
   row-within : (l r : ℕ) (test : List ℕ → Bool) (rights : List (List ℕ)) (rest : List ℕ) → l < m → r + length rights ≤ n

@@ -3,9 +3,9 @@ use Prim.Native.Nat.{ℕ, _+_, _*_, _≤_}
 use mathlib.Core.Path.{_≡_}
 use mathlib.Core.List.{List}
 use lib.ListN.{length}
-use Rattle.counts_line.specs.Room.{lineRoom}
-use Rattle.pair_lines.specs.Room.{pairRoom}
-use Rattle.number_lines.specs.Room.{repeatsRoom}
+use Rattle.text.specs.counts_line.Room.{lineRoom}
+use Rattle.text.specs.pair_lines.Room.{pairRoom}
+use Rattle.text.specs.number_lines.Room.{repeatsRoom}
 
 -- the bytes of the longest text: the counts, the repeats, and a line for each of 8,192 pairs
 abbrev pub textRoom : ℕ

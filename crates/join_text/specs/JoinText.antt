@@ -9,13 +9,13 @@ use lib.ListN.{length}
 use Rattle.sets.specs.Limits.{fullWords}
 use Rattle.sets.specs.Lent.{filledOver}
 use Rattle.inputs.specs.Input.{Input, leftSets, rightSets}
-use Rattle.order_spec.specs.Order.{rankTable}
+use Rattle.item_order_spec.specs.Order.{rankTable}
 use Rattle.join_spec.specs.declared.Rule.the-variants.{Merge}
 use Rattle.join_spec.specs.PairList.{pairList}
 use Rattle.join_spec.specs.Query.{Settings, settingsOf}
 use Rattle.join_spec.specs.Answer.{Room, joinAnswer}
 use Rattle.tag_file.specs.declared.Repeats.{Repeats}
-use Rattle.answer_text.specs.AnswerText.{answerText}
+use Rattle.text.specs.answer_text.AnswerText.{answerText}
 
 -- the words of the work list, and the places of the pair list: two for each of 8,192 pairs
 abbrev pub workWords : ℕ

@@ -1,11 +1,11 @@
 // The text of a join of two numbered collections, written into a lent list of bytes: orders their items by rising frequency, joins
 // them, and writes the counts, the repeats that were read with them and a line for each pair, or why there is no list. What the
 // text is is defined in specs/.
-use answer_text::put_answer;
+use item_order_spec::OrderAnswer;
 use join_spec::Rule;
-use number_lines::put_refusal;
-use order_spec::OrderAnswer;
 use tag_file::Repeats;
+use text::answer_text::put_answer;
+use text::number_lines::put_refusal;
 ghost use mathlib.Core.Path.{_≡_};
 ghost use lib.ListN.{length};
 ghost use Rattle.inputs.specs.Input.{inputOf};

@@ -11,8 +11,8 @@ use Rattle.join_nodes.specs.declared.Progress.{Progress}
 use Rattle.join_nodes.specs.declared.Settings.{Settings}
 use Rattle.join_nodes.specs.declared.Walked.{Walked}
 use Rattle.join_nodes.proofs.PartLoop.{PartDone}
-use Rattle.join_visit.proofs.ChildSteps.{childRank, first-child, kids-next}
-use Rattle.join_partition.specs.Partition.{Partition, PartVisited}
+use Rattle.join_walk.proofs.visit.ChildSteps.{childRank, first-child, kids-next}
+use Rattle.join_walk.specs.partition.Partition.{Partition, PartVisited}
 use Rattle.join_walk.specs.Partitions.{Partitions}
 
 -- the first of the partitions, visited, as a part of them

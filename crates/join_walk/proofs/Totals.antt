@@ -24,7 +24,7 @@ use Rattle.join_index.proofs.Ordering.{keyAt-below}
 use Rattle.join_nodes.specs.Rows.{goes, row, outcomeFrom}
 use Rattle.join_nodes.proofs.Groups.{within, within-zero, within-suc, apart}
 use Rattle.join_nodes.proofs.RowLaws.{MetOnly}
-use Rattle.join_blocks.proofs.BlockLaws.{key-ended, key-longer}
+use Rattle.join_nodes.proofs.blocks.BlockLaws.{key-ended, key-longer}
 
 cond-or : (a b : Bool) (n : ℕ) → (a ≡ true → b ≡ false) → cond (a || b) n 0 ≡ cond a n 0 + cond b n 0
 cond-or true b n other = rw (other refl) (omega arith)

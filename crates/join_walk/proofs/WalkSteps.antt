@@ -36,9 +36,9 @@ use Rattle.join_nodes.proofs.RunLaws.{Cut}
 use Rattle.join_nodes.proofs.RowLaws.{MetOnly}
 use Rattle.join_nodes.proofs.VisitLaws.{checks-added}
 use Rattle.join_nodes.proofs.FrameLaws.{framed-none}
-use Rattle.join_blocks.specs.Blocks.{MergedEnd}
-use Rattle.join_blocks.proofs.GroupSteps.{endedAt, goingOn, ended-keys, going-keys, beginners-grouped, ended-cut}
-use Rattle.join_partition.specs.Partition.{PartVisited}
+use Rattle.join_nodes.specs.blocks.Blocks.{MergedEnd}
+use Rattle.join_nodes.proofs.blocks.GroupSteps.{endedAt, goingOn, ended-keys, going-keys, beginners-grouped, ended-cut}
+use Rattle.join_walk.specs.partition.Partition.{PartVisited}
 use Rattle.join_walk.specs.Partitions.{Partitions, WalkReady, WalkDone}
 use Rattle.join_walk.proofs.Totals.{start, total-order, start-empty, start-row}
 

@@ -1,18 +1,22 @@
 // The whole walk: partition by partition in rank order, each with the right sets seen at its rank.
-use join_blocks::merged_end;
+use crate::partition::visit_partition;
 use join_check::Tally;
+use join_check::keys::run_end;
 use join_index::Layout;
-use join_keys::run_end;
 use join_nodes::Progress;
 use join_nodes::Settings;
 use join_nodes::Walked;
-use join_partition::visit_partition;
+use join_nodes::blocks::merged_end;
 use kept_rows::clear_rows;
 ghost use Rattle.join_spec.specs.Query.{Query};
 ghost use Rattle.join_index.specs.Asking.{Some};
-ghost use Rattle.word_flags.specs.Flags.{Clear};
-ghost use Rattle.join_partition.specs.Partition.{PartVisited};
+ghost use Rattle.words.specs.flags.Flags.{Clear};
+ghost use Rattle.join_walk.specs.partition.Partition.{PartVisited};
 ghost use Rattle.join_walk.specs.Partitions.{Partitions, WalkReady, WalkDone};
+
+pub mod heaviest;
+pub mod partition;
+pub mod visit;
 
 // Visits the partitions of the left sets at the places lo up to hi of the order.
 fn visit_partitions(

@@ -9,9 +9,9 @@ use Rattle.lists.specs.Lists.{slice}
 use Rattle.lists.proofs.Slices.{frame-less, frame-at}
 use Rattle.join_spec.specs.Query.{Query}
 use Rattle.join_index.specs.declared.Layout.{Layout}
-use Rattle.word_lists.specs.Words.{Word}
-use Rattle.word_flags.specs.Flags.{Behind}
-use Rattle.word_copies.specs.Copies.{Copied}
+use Rattle.words.specs.Words.{Word}
+use Rattle.words.specs.flags.Flags.{Behind}
+use Rattle.words.specs.copies.Copies.{Copied}
 use Rattle.join_index.specs.Asking.{Some, Index}
 use Rattle.join_index.specs.Runs.{leftIn}
 use Rattle.join_index.proofs.Orders.{order-within, run-left}

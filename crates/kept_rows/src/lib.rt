@@ -1,10 +1,12 @@
 // Rows that are kept as they stand: no row at first, and then one shared row for left sets that the same right sets contain.
 use join_index::Layout;
-use word_copies::copy_words;
-use word_lists::word_at;
+use words::copies::copy_words;
+use words::word_at;
 ghost use mathlib.Core.Path.{_≡_};
 ghost use Rattle.join_index.specs.Asking.{Some};
 ghost use Rattle.kept_rows.specs.Keeping.{ClearThere, Cleared, WordsRoom, rowStored, ShareThere, Shared, ListThere, ListKept};
+
+pub mod checked;
 
 // No left set has a row.
 pub fn clear_rows(work: &mut [u32], lay: Layout, lefts: usize)

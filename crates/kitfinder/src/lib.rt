@@ -6,15 +6,15 @@ ghost use mathlib.Core.Bool.{not};
 ghost use lib.Dec.{eqb};
 ghost use lib.ListN.{length};
 ghost use Rattle.tag_file.specs.Repeats.{recordRead};
-ghost use Rattle.tag_answers.specs.Words.{readWords, loadWords};
+ghost use Rattle.tag_file.specs.answers.Words.{readWords, loadWords};
 ghost use Rattle.join_spec.specs.Answer.{roomOf, joinWords, JoinCall};
 ghost use Rattle.inputs.specs.Input.{inputOf};
 ghost use Rattle.join.specs.Numbered.{weightsOf, numberedAnswer};
-ghost use Rattle.first_spec.specs.First.{firstAnswer, firstWords};
-ghost use Rattle.order_spec.specs.Order.{orderAnswer, orderRanks, orderWords};
+ghost use Rattle.first_search_spec.specs.First.{firstAnswer, firstWords};
+ghost use Rattle.item_order_spec.specs.Order.{orderAnswer, orderRanks, orderWords};
 ghost use Rattle.tag_file.specs.Loading.{listsOf, loadAnswer, LoadCall};
-ghost use Rattle.tag_pooling.specs.Pooling.{pooledAnswer, PooledCall};
-ghost use Rattle.writer_spec.specs.Writer.{writeAnswer, writtenFile, writeWords};
+ghost use Rattle.pool_loader_spec.specs.Pooling.{pooledAnswer, PooledCall};
+ghost use Rattle.tag_writer_spec.specs.Writer.{writeAnswer, writtenFile, writeWords};
 
 // Joins two collections.
 #[no_mangle]
@@ -49,7 +49,7 @@ pub extern "C" fn kitfinder_join(
         limit (now (ranks .entry)) budget number (weightsOf a b g h) (roomOf (now (work .entry)) (now (pairs .entry)))) ⌝ }
 {
     let weights = Weights { a, b, g, h };
-    *answer = join_answers::join_words(join::run_numbered(
+    *answer = join_spec::answers::join_words(join::run_numbered(
         t,
         left_ends,
         left_items,
@@ -77,7 +77,12 @@ pub extern "C" fn kitfinder_first(
     ensures answer { λ _. ⌜ now (answer .exit) ≡ firstWords (firstAnswer t
         (record { ends = now («left_ends» .entry); items = now («left_items» .entry) }) (now (right .entry))) ⌝ }
 {
-    *answer = first_spec::first_words(first_search::find_first(t, left_ends, left_items, right));
+    *answer = first_search_spec::first_words(first_search::find_first(
+        t,
+        left_ends,
+        left_items,
+        right,
+    ));
 }
 
 // Reads the record at a place of a tag file.
@@ -85,7 +90,7 @@ pub extern "C" fn kitfinder_first(
 pub extern "C" fn kitfinder_read_record(file: &[u8], at: usize, answer: &mut [u64; 10])
     ensures answer { λ _. ⌜ now (answer .exit) ≡ readWords (recordRead (now (file .entry)) at) ⌝ }
 {
-    *answer = tag_answers::read_words(record_reader::read(file, at));
+    *answer = tag_file::answers::read_words(record_reader::read(file, at));
 }
 
 // Ranks the items by frequency.
@@ -107,7 +112,7 @@ pub extern "C" fn kitfinder_order(
         (inputOf t (now («left_ends» .entry)) (now («left_items» .entry)) (now («right_ends» .entry)) (now («right_items» .entry)))
         (not (eqb falling 0)) (now (ranks .entry)) ⌝ }
 {
-    *answer = order_spec::order_words(item_order::order(
+    *answer = item_order_spec::order_words(item_order::order(
         t,
         left_ends,
         left_items,
@@ -143,7 +148,7 @@ pub extern "C" fn kitfinder_load(
         (listsOf (now (tags .entry)) (now («left_numbers» .entry)) (now («left_ends» .entry)) (now («left_items» .entry))
         (now («right_numbers» .entry)) (now («right_ends» .entry)) (now («right_items» .entry)))) ⌝ }
 {
-    *answer = tag_answers::load_words(tag_loader::load(
+    *answer = tag_file::answers::load_words(tag_loader::load(
         file,
         tags,
         left_numbers,
@@ -181,7 +186,7 @@ pub extern "C" fn kitfinder_load_pooled(
         (listsOf (now (tags .entry)) (now («left_numbers» .entry)) (now («left_ends» .entry)) (now («left_items» .entry))
         (now («right_numbers» .entry)) (now («right_ends» .entry)) (now («right_items» .entry)))) ⌝ }
 {
-    *answer = tag_answers::load_words(pool_loader::load_pooled(
+    *answer = tag_file::answers::load_words(pool_loader::load_pooled(
         first,
         second,
         tags,
@@ -215,7 +220,7 @@ pub extern "C" fn kitfinder_write(
         (listsOf (now (tags .entry)) (now («left_numbers» .entry)) (now («left_ends» .entry)) (now («left_items» .entry))
         (now («right_numbers» .entry)) (now («right_ends» .entry)) (now («right_items» .entry))) (now (file .entry)) ⌝ }
 {
-    *answer = writer_spec::write_words(tag_writer::write(
+    *answer = tag_writer_spec::write_words(tag_writer::write(
         t,
         tags,
         left_numbers,

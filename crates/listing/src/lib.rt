@@ -3,7 +3,6 @@
 // What the text is is defined in `listing_spec`.
 use join_text::MAX_PAIRS;
 use join_text::list_loaded;
-use number_lines::put_refusal;
 use sets::MAX_ITEMS;
 use sets::MAX_SETS;
 use sets::Refusal;
@@ -11,6 +10,7 @@ use tag_file::LoadAnswer;
 use tag_file::Loaded;
 use tag_file::Repeats;
 use tag_file::TAG_LENGTH;
+use text::number_lines::put_refusal;
 ghost use mathlib.Core.Path.{_≡_};
 ghost use Prim.Native.Nat.{_≤_};
 ghost use lib.ListN.{length};
@@ -18,7 +18,7 @@ ghost use Rattle.sets.specs.Limits.{maxSets};
 ghost use Rattle.sets.specs.Refusals.{unless};
 ghost use Rattle.tag_file.specs.Records.{records};
 ghost use Rattle.tag_file.specs.Loading.{fileFault};
-ghost use Rattle.text_lines.specs.Lines.{refusalLine};
+ghost use Rattle.text.specs.Lines.{refusalLine};
 ghost use Rattle.join_text.specs.JoinText.{Fills};
 ghost use Rattle.join_text.specs.Inner.{textRoom};
 ghost use Rattle.listing_spec.specs.Listing.{maxFile, recordsText, listing};

@@ -20,7 +20,7 @@ use Rattle.tag_file.specs.Loading.{Lists, fileFault, filled, totalsOf, loadAnsw
 use Rattle.tag_file.proofs.ItemCount.{length-numbersOf, length-endsOf, length-joinedItems}
 use Rattle.tag_file.proofs.AnswerLaws.{accepted, accepts, refuses-fault, room-each}
 use Rattle.tag_containment.proofs.LoadedLists.{load-counts, load-repeats, load-filled}
-use Rattle.text_lines.specs.Lines.{refusalLine}
+use Rattle.text.specs.Lines.{refusalLine}
 use Rattle.inputs.specs.Input.{inputOf}
 use Rattle.join_text.specs.JoinText.{programSettings, joinText}
 use Rattle.join_text.specs.Inner.{textRoom}

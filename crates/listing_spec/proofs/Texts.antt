@@ -8,7 +8,7 @@ use Rattle.sets.specs.Refusals.{unless}
 use Rattle.sets.specs.declared.Refusal.the-variants.{ShortWork}
 use Rattle.tag_file.specs.Records.{records}
 use Rattle.tag_file.specs.Loading.{fileFault}
-use Rattle.text_lines.specs.Lines.{refusalLine}
+use Rattle.text.specs.Lines.{refusalLine}
 use Rattle.listing_spec.specs.Listing.{maxFile, recordsText, listing}
 
 module _ (file : List ℕ) where

@@ -13,7 +13,7 @@ use Rattle.inputs.specs.Input.{Input, inputOf}
 use Rattle.tag_file.specs.Records.{TagRecord, records, tagTable}
 use Rattle.tag_file.specs.Repeats.{repeatTotals}
 use Rattle.tag_file.specs.Loading.{fileFault, numbersOf, endsOf, joinedItems}
-use Rattle.text_lines.specs.Lines.{refusalLine}
+use Rattle.text.specs.Lines.{refusalLine}
 use Rattle.join_text.specs.JoinText.{programSettings, joinText}
 
 -- the bytes of the longest file that is read

@@ -20,15 +20,15 @@ use Rattle.tag_file.specs.Loading.{numbersOf, join}
 use Rattle.tag_file.specs.declared.ReadAnswer.the-variants.{Record}
 use Rattle.tag_file.proofs.FaultFree.{side-other}
 use Rattle.tag_file.proofs.RecordLaws.{records-next}
-use Rattle.tag_pooling.specs.Pooling.{pooled}
-use Rattle.tag_pooling.proofs.Sides.{numbers-pooled}
+use Rattle.pool_loader_spec.specs.Pooling.{pooled}
+use Rattle.pool_loader_spec.proofs.Sides.{numbers-pooled}
 use Rattle.tag_index.specs.Index.{tableOf}
-use Rattle.record_items.specs.declared.Filled.{Filled}
-use Rattle.record_items.specs.Marks.{markWords, Unmarked}
-use Rattle.record_items.proofs.Marks.{unmarked-zeros}
-use Rattle.right_slots.specs.Slots.{slotOf, AtSlots}
-use Rattle.right_slots.proofs.Splits.{two-splits}
-use Rattle.pool_sets.specs.Own.{placeWord}
+use Rattle.tag_loader.specs.declared.record_items.Filled.{Filled}
+use Rattle.tag_loader.specs.record_items.Marks.{markWords, Unmarked}
+use Rattle.tag_loader.proofs.record_items.Marks.{unmarked-zeros}
+use Rattle.pool_scan.specs.right_slots.Slots.{slotOf, AtSlots}
+use Rattle.pool_scan.proofs.right_slots.Splits.{two-splits}
+use Rattle.pool_fill.specs.own_sets.Own.{placeWord}
 use Rattle.pool_fill.specs.Pool.{PoolFillReady}
 use Rattle.pool_fill.proofs.Laying.{Block, size}
 use Rattle.pool_fill.proofs.Placing.{Placing, placing-start}

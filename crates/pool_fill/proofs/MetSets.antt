@@ -19,16 +19,16 @@ use Rattle.tag_file.specs.Reading.{pastTags, tagsAt}
 use Rattle.tag_file.specs.Records.{TagRecord, recordsAt, records, sameSide, ofSide, itemsOf, setsOfSide}
 use Rattle.tag_file.specs.Loading.{numberUsed, numbersOf, join}
 use Rattle.tag_file.proofs.RecordLaws.{same-side, memb-tagsAt}
-use Rattle.tag_pooling.specs.Pooling.{sameSet, pooled}
-use Rattle.tag_pooling.proofs.OneMore.{used-alike}
+use Rattle.pool_loader_spec.specs.Pooling.{sameSet, pooled}
+use Rattle.pool_loader_spec.proofs.OneMore.{used-alike}
 use Rattle.tag_index.specs.Index.{tableOf}
-use Rattle.record_items.specs.declared.Filled.{Filled}
-use Rattle.record_items.specs.Marks.{Unmarked, TagsKnown}
-use Rattle.right_slots.specs.Slots.{slotOf, HasSlot}
-use Rattle.right_slots.proofs.Counted.{slot-below}
-use Rattle.right_slots.proofs.Found.{FoundRight, found-right, met-right}
-use Rattle.pool_merge.specs.Standing.{standing, SomeStanding, PooledAt}
-use Rattle.pool_sets.specs.Own.{placeWord}
+use Rattle.tag_loader.specs.declared.record_items.Filled.{Filled}
+use Rattle.tag_loader.specs.record_items.Marks.{Unmarked, TagsKnown}
+use Rattle.pool_scan.specs.right_slots.Slots.{slotOf, HasSlot}
+use Rattle.pool_scan.proofs.right_slots.Counted.{slot-below}
+use Rattle.pool_scan.proofs.right_slots.Found.{FoundRight, found-right, met-right}
+use Rattle.pool_fill.specs.pooled.Standing.{standing, SomeStanding, PooledAt}
+use Rattle.pool_fill.specs.own_sets.Own.{placeWord}
 use Rattle.pool_fill.specs.Pool.{PoolFillReady}
 use Rattle.pool_fill.proofs.Laying.{Block, size, withPart, Laid, laid-at}
 use Rattle.pool_fill.proofs.Placing.{Placing, placing-reach}

@@ -13,13 +13,13 @@ use Rattle.tag_file.specs.Format.{tagAt}
 use Rattle.tag_file.specs.Reading.{pastTags, tagsAt}
 use Rattle.tag_file.specs.Records.{TagRecord, recordsAt, records, sameSide, ofSide, itemsOf, setsOfSide}
 use Rattle.tag_file.specs.Loading.{numberUsed, numbersOf}
-use Rattle.tag_pooling.specs.Pooling.{pooled}
-use Rattle.tag_pooling.proofs.OneMore.{used-keep}
+use Rattle.pool_loader_spec.specs.Pooling.{pooled}
+use Rattle.pool_loader_spec.proofs.OneMore.{used-keep}
 use Rattle.tag_index.specs.Index.{tableOf}
-use Rattle.record_items.specs.declared.Filled.{Filled}
-use Rattle.record_items.specs.Marks.{Unmarked, TagsKnown, RoomForOne, OneFilled}
+use Rattle.tag_loader.specs.declared.record_items.Filled.{Filled}
+use Rattle.tag_loader.specs.record_items.Marks.{Unmarked, TagsKnown, RoomForOne, OneFilled}
 use Rattle.tag_file.proofs.RecordLaws.{memb-tagsAt}
-use Rattle.right_slots.proofs.Found.{missed-right}
+use Rattle.pool_scan.proofs.right_slots.Found.{missed-right}
 use Rattle.pool_fill.specs.Pool.{PoolFillReady}
 use Rattle.pool_fill.proofs.Laying.{Block}
 use Rattle.pool_fill.proofs.Placing.{Placing, placing-bound, placing-room}

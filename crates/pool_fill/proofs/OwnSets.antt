@@ -20,15 +20,15 @@ use Rattle.tag_file.specs.Loading.{numbersOf, join}
 use Rattle.tag_file.specs.declared.ReadAnswer.the-variants.{Record}
 use Rattle.tag_file.proofs.RecordLaws.{memb-tagsAt, read-past, read-within, read-number, records-next}
 use Rattle.tag_file.proofs.FoundRecords.{found-number}
-use Rattle.tag_pooling.specs.Pooling.{unitedWith, pooled}
+use Rattle.pool_loader_spec.specs.Pooling.{unitedWith, pooled}
 use Rattle.tag_index.specs.Index.{tableOf}
-use Rattle.record_items.specs.declared.Filled.{Filled}
-use Rattle.record_items.specs.Marks.{Unmarked, TagsKnown}
-use Rattle.right_slots.specs.Slots.{slotOf, AtSlots, HasSlot}
-use Rattle.right_slots.proofs.Counted.{slot-below}
-use Rattle.right_slots.proofs.Found.{noted-member}
-use Rattle.right_slots.proofs.Putting.{at-slots-put}
-use Rattle.pool_sets.specs.Own.{lengthBy, placeWord, RoomForOwn, OwnFilled}
+use Rattle.tag_loader.specs.declared.record_items.Filled.{Filled}
+use Rattle.tag_loader.specs.record_items.Marks.{Unmarked, TagsKnown}
+use Rattle.pool_scan.specs.right_slots.Slots.{slotOf, AtSlots, HasSlot}
+use Rattle.pool_scan.proofs.right_slots.Counted.{slot-below}
+use Rattle.pool_scan.proofs.right_slots.Found.{noted-member}
+use Rattle.pool_scan.proofs.right_slots.Putting.{at-slots-put}
+use Rattle.pool_fill.specs.own_sets.Own.{lengthBy, placeWord, RoomForOwn, OwnFilled}
 use Rattle.pool_fill.specs.Pool.{PoolFillReady}
 use Rattle.pool_fill.proofs.Laying.{Block}
 use Rattle.pool_fill.proofs.Placing.{Placing, placing-bound, placing-room, placing-number, placing-end}

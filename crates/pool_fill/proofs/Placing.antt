@@ -12,7 +12,7 @@ use Rattle.lists.proofs.Slices.{rest-more}
 use Rattle.lists.proofs.Writing.{Writing, writing-start, writing-room, writing-step, writing-end, written-whole}
 use Rattle.sets.specs.Lent.{filledOver}
 use Rattle.tag_file.specs.Loading.{endsFrom, join}
-use Rattle.record_items.specs.declared.Filled.{Filled}
+use Rattle.tag_loader.specs.declared.record_items.Filled.{Filled}
 use Rattle.pool_fill.proofs.Laying.{drop-sets, join-append, Block, wholes, parts, size, withPart, Laid, laid-none, laid-put}
 use Rattle.pool_fill.proofs.Laying.{laid-grow, laid-whole}
 

@@ -15,11 +15,11 @@ use Rattle.tag_file.specs.Format.{recordLength}
 use Rattle.tag_file.specs.Records.{TagRecord, totalLength, sameSide, ofSide, collapse, allTags, itemsOf, setsOfSide}
 use Rattle.tag_file.specs.Loading.{numberUsed}
 use Rattle.tag_file.proofs.ItemCount.{item-count}
-use Rattle.tag_pooling.specs.Pooling.{sameSet, unitedWith, unmet, pooled}
-use Rattle.tag_pooling.proofs.OneMore.{used-alike, used-keep, used-behind, memb-around}
-use Rattle.tag_pooling.proofs.Sides.{right-pooled}
-use Rattle.right_slots.specs.Slots.{NumbersOnce, pooledMark, slotWord}
-use Rattle.pool_sets.specs.Own.{lengthBy}
+use Rattle.pool_loader_spec.specs.Pooling.{sameSet, unitedWith, unmet, pooled}
+use Rattle.pool_loader_spec.proofs.OneMore.{used-alike, used-keep, used-behind, memb-around}
+use Rattle.pool_loader_spec.proofs.Sides.{right-pooled}
+use Rattle.pool_scan.specs.right_slots.Slots.{NumbersOnce, pooledMark, slotWord}
+use Rattle.pool_fill.specs.own_sets.Own.{lengthBy}
 use Rattle.pool_fill.proofs.Unions.{keep-around, partOf, part-alone}
 
 -- whether a record's set is not among records

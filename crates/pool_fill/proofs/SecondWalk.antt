@@ -20,12 +20,12 @@ use Rattle.tag_file.specs.Loading.{numberUsed, numbersOf, endsFrom, join}
 use Rattle.tag_file.specs.declared.ReadAnswer.the-variants.{Record}
 use Rattle.tag_file.proofs.FaultFree.{side-own, side-other}
 use Rattle.tag_file.proofs.RecordLaws.{read-past, read-within, read-number, records-next}
-use Rattle.tag_pooling.specs.Pooling.{sameSet, pooled}
+use Rattle.pool_loader_spec.specs.Pooling.{sameSet, pooled}
 use Rattle.tag_index.specs.Index.{tableOf}
-use Rattle.record_items.specs.declared.Filled.{Filled}
-use Rattle.record_items.specs.Marks.{Unmarked}
-use Rattle.right_slots.specs.Slots.{slotOf, AtSlots}
-use Rattle.pool_sets.specs.Own.{placeWord}
+use Rattle.tag_loader.specs.declared.record_items.Filled.{Filled}
+use Rattle.tag_loader.specs.record_items.Marks.{Unmarked}
+use Rattle.pool_scan.specs.right_slots.Slots.{slotOf, AtSlots}
+use Rattle.pool_fill.specs.own_sets.Own.{placeWord}
 use Rattle.pool_fill.specs.Pool.{PoolFillReady}
 use Rattle.pool_fill.proofs.Laying.{Block, wholes, parts}
 use Rattle.pool_fill.proofs.Placing.{Placing}

@@ -12,8 +12,8 @@ use Rattle.lists.proofs.Counting.{count-le}
 use Rattle.lists.proofs.Filtering.{keep-append, length-keep}
 use Rattle.tag_file.specs.Records.{TagRecord, allTags, itemsOf}
 use Rattle.tag_file.specs.Loading.{numberUsed}
-use Rattle.tag_pooling.specs.Pooling.{sameSet, unitedWith}
-use Rattle.tag_pooling.proofs.OneMore.{none-of, united-none, united-apart, united-one}
+use Rattle.pool_loader_spec.specs.Pooling.{sameSet, unitedWith}
+use Rattle.pool_loader_spec.proofs.OneMore.{none-of, united-none, united-apart, united-one}
 
 -- ---- a list around an element that is kept
 

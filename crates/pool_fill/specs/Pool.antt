@@ -9,9 +9,9 @@ use Rattle.sets.specs.Limits.{maxItems, maxSets, maxEntries}
 use Rattle.sets.specs.declared.Side.the-variants.{Right}
 use Rattle.tag_file.specs.Records.{totalLength, records, ofSide, allTags, setsOfSide}
 use Rattle.tag_file.specs.Loading.{numbersOf, endsFrom, join}
-use Rattle.tag_pooling.specs.Pooling.{pooled}
+use Rattle.pool_loader_spec.specs.Pooling.{pooled}
 use Rattle.tag_index.specs.Index.{tableOf, Sorted, Ranked}
-use Rattle.right_slots.specs.Slots.{BlocksCounted, NumbersNoted, NumbersOnce, AtSlots, pooledMark, slotWord}
+use Rattle.pool_scan.specs.right_slots.Slots.{BlocksCounted, NumbersNoted, NumbersOnce, AtSlots, pooledMark, slotWord}
 
 -- the index of two files' tags, the slots of the first file's right sets with the lengths of the unions, and room for the right
 -- sets of both

@@ -1,14 +1,17 @@
 // The pooled load of two tag files into seven lent lists, over one tag table: the first passes over both files, the room, and the
 // second passes. It allocates nothing beyond its own arrays.
-use pool_lists::pool_second;
+use crate::second_file::pool_second;
 use tag_file::LoadAnswer;
 use tag_index::HINT_SLOTS;
 use tag_index::INDEX_ROOM;
 use tag_scan::scan_records;
-use used_numbers::USED_WORDS;
+use tag_scan::used_numbers::USED_WORDS;
 ghost use Rattle.tag_file.specs.Loading.{listsOf};
-ghost use Rattle.tag_pooling.specs.Pooling.{PooledCall};
+ghost use Rattle.pool_loader_spec.specs.Pooling.{PooledCall};
 ghost use Rattle.tag_scan.specs.Scan.{Lengths, Scanned};
+
+pub mod answer;
+pub mod second_file;
 
 // A hint that leads to no id.
 const NO_ID: u16 = 65535;

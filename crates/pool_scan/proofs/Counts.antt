@@ -14,17 +14,17 @@ use Rattle.sets.specs.declared.Side.the-variants.{Left, Right}
 use Rattle.tag_file.specs.declared.Loaded.{Loaded}
 use Rattle.tag_file.specs.Records.{TagRecord, sameSide, ofSide, insertAll, collapse, tagTable, entriesOf}
 use Rattle.tag_file.specs.Loading.{tooMany, totalsOf}
-use Rattle.tag_pooling.proofs.OneMore.{Grown}
-use Rattle.tag_pooling.proofs.Growing.{table-grown, sets-grown, entries-other, entries-grown}
+use Rattle.pool_loader_spec.proofs.OneMore.{Grown}
+use Rattle.pool_loader_spec.proofs.Growing.{table-grown, sets-grown, entries-other, entries-grown}
 use Rattle.tag_index.specs.Index.{tableOf}
 use Rattle.tag_index.proofs.Ids.{sorted-size}
-use Rattle.load_totals.specs.Totals.{grownBy, passes, isOver, Limited}
-use Rattle.load_totals.proofs.Counting.{over-tooMany}
+use Rattle.tag_scan.specs.totals.Totals.{grownBy, passes, isOver, Limited}
+use Rattle.tag_scan.proofs.totals.Counting.{over-tooMany}
 use Rattle.tag_scan.specs.Scan.{Taken}
 use Rattle.tag_scan.proofs.Taking.{taken-over, taken-next}
-use Rattle.pool_union.specs.declared.United.{United}
-use Rattle.pool_union.specs.Union.{TakenIn}
-use Rattle.pool_counts.specs.Counting.{unitedBy}
+use Rattle.pool_scan.specs.declared.union.United.{United}
+use Rattle.pool_scan.specs.union.Union.{TakenIn}
+use Rattle.pool_scan.specs.counting.Counting.{unitedBy}
 
 -- what is known of the records with one more right set: whether they pass a limit, and if not, that they are taken in
 pub record OneTaken (is : List TagRecord) (total : Loaded) (heads tails order : List ℕ) : Type 0 where

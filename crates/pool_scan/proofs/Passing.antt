@@ -29,17 +29,17 @@ use Rattle.tag_file.specs.Repeats.{repeatsIn, repeatsOf}
 use Rattle.tag_file.specs.Loading.{numberUsed, tooMany, totalsOf}
 use Rattle.tag_file.proofs.RecordLaws.{length-tagsAt, read-within, read-length, records-next, totalLength-last, totalLength-inside}
 use Rattle.tag_file.proofs.RepeatLaws.{distinct-and-repeats, repeats-are, repeats-bound, repeats-same, repeats-other}
-use Rattle.tag_pooling.specs.Pooling.{pooledRepeats}
-use Rattle.tag_pooling.specs.Pooling.{sameSet, pooled, placeAfter, secondFaultOf, firstSecondFault, secondFault, isOverlong, firstOverlong}
-use Rattle.tag_pooling.proofs.OneMore.{pooled-none, pooled-left}
-use Rattle.tag_pooling.proofs.Sides.{right-apart}
-use Rattle.load_totals.specs.Totals.{passes, wordNumbers}
+use Rattle.pool_loader_spec.specs.Pooling.{pooledRepeats}
+use Rattle.pool_loader_spec.specs.Pooling.{sameSet, pooled, placeAfter, secondFaultOf, firstSecondFault, secondFault, isOverlong, firstOverlong}
+use Rattle.pool_loader_spec.proofs.OneMore.{pooled-none, pooled-left}
+use Rattle.pool_loader_spec.proofs.Sides.{right-apart}
+use Rattle.tag_scan.specs.totals.Totals.{passes, wordNumbers}
 use Rattle.tag_scan.specs.Scan.{Taken}
-use Rattle.right_slots.specs.Slots.{AtSlots, slotWord}
-use Rattle.pool_union.specs.declared.United.{United}
-use Rattle.pool_counts.specs.declared.Counted.{Counted}
-use Rattle.pool_counts.specs.declared.Second.{Second}
-use Rattle.pool_counts.specs.Counting.{countedFrom, unitedBy, countedBy, acceptedBy}
+use Rattle.pool_scan.specs.right_slots.Slots.{AtSlots, slotWord}
+use Rattle.pool_scan.specs.declared.union.United.{United}
+use Rattle.pool_scan.specs.declared.counting.Counted.{Counted}
+use Rattle.pool_scan.specs.declared.counting.Second.{Second}
+use Rattle.pool_scan.specs.counting.Counting.{countedFrom, unitedBy, countedBy, acceptedBy}
 use Rattle.pool_scan.specs.Second.{SecondReady, SecondScanned}
 use Rattle.pool_scan.proofs.Counts.{OneTaken}
 use Rattle.pool_scan.proofs.Words.{word-apart, word-start, long-left, long-of, RightNoted, noted-start, noted-tells, noted-left, noted-right}

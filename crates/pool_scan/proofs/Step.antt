@@ -24,18 +24,18 @@ use Rattle.tag_file.specs.Loading.{numberUsed}
 use Rattle.tag_file.proofs.FoundRecords.{ReadFound, read-found, found-number}
 use Rattle.tag_file.proofs.RecordLaws.{same-side, read-past, read-within}
 use Rattle.tag_file.proofs.Tables.{memb-collapse}
-use Rattle.tag_pooling.specs.Pooling.{sameSet, pooled}
-use Rattle.tag_pooling.proofs.OneMore.{Grown, used-same, memb-around, pooled-new, pooled-met, met-only}
-use Rattle.tag_pooling.proofs.Sides.{right-both}
+use Rattle.pool_loader_spec.specs.Pooling.{sameSet, pooled}
+use Rattle.pool_loader_spec.proofs.OneMore.{Grown, used-same, memb-around, pooled-new, pooled-met, met-only}
+use Rattle.pool_loader_spec.proofs.Sides.{right-both}
 use Rattle.tag_index.specs.Index.{tableOf}
-use Rattle.right_slots.specs.Slots.{slotOf, AtSlots, slotWord, pooledMark, NumbersOnce}
-use Rattle.right_slots.proofs.Counted.{slot-below}
-use Rattle.right_slots.proofs.Found.{FoundRight, found-right, missed-right}
-use Rattle.right_slots.proofs.Putting.{NumbersSmall, at-slots-put}
-use Rattle.pool_union.specs.declared.United.{United}
-use Rattle.pool_union.specs.Union.{RecordThere, KnownThere, UniteReady, Taking, TakenIn}
-use Rattle.pool_counts.specs.declared.Counted.{Counted}
-use Rattle.pool_counts.specs.Counting.{unitedBy}
+use Rattle.pool_scan.specs.right_slots.Slots.{slotOf, AtSlots, slotWord, pooledMark, NumbersOnce}
+use Rattle.pool_scan.proofs.right_slots.Counted.{slot-below}
+use Rattle.pool_scan.proofs.right_slots.Found.{FoundRight, found-right, missed-right}
+use Rattle.pool_scan.proofs.right_slots.Putting.{NumbersSmall, at-slots-put}
+use Rattle.pool_scan.specs.declared.union.United.{United}
+use Rattle.pool_scan.specs.union.Union.{RecordThere, KnownThere, UniteReady, Taking, TakenIn}
+use Rattle.pool_scan.specs.declared.counting.Counted.{Counted}
+use Rattle.pool_scan.specs.counting.Counting.{unitedBy}
 use Rattle.pool_scan.specs.Second.{SecondReady}
 use Rattle.pool_scan.proofs.Counts.{OneTaken, alone-taken, met-taken}
 use Rattle.pool_scan.proofs.Passing.{Passing, this}

@@ -17,9 +17,9 @@ use Rattle.tag_file.specs.Records.{TagRecord, totalLength, sameSide, ofSide, al
 use Rattle.tag_file.specs.Loading.{numberUsed}
 use Rattle.tag_file.proofs.FaultFree.{sameSide-sym, side-own, side-other}
 use Rattle.tag_file.proofs.RecordLaws.{same-side}
-use Rattle.tag_pooling.specs.Pooling.{sameSet, unitedWith, isOverlong}
-use Rattle.tag_pooling.proofs.OneMore.{withTags, none-of, used-keep, united-apart, united-one, sameSet-comm}
-use Rattle.right_slots.specs.Slots.{numberWords, slotWord, pooledMark}
+use Rattle.pool_loader_spec.specs.Pooling.{sameSet, unitedWith, isOverlong}
+use Rattle.pool_loader_spec.proofs.OneMore.{withTags, none-of, used-keep, united-apart, united-one, sameSet-comm}
+use Rattle.pool_scan.specs.right_slots.Slots.{numberWords, slotWord, pooledMark}
 
 -- ---- whether a number is used, with one more record
 

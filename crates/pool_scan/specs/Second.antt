@@ -15,10 +15,10 @@ use Rattle.tag_file.specs.declared.LoadAnswer.the-variants as load
 use Rattle.tag_file.specs.Records.{records}
 use Rattle.tag_file.specs.Repeats.{repeatTotals}
 use Rattle.tag_file.specs.Loading.{totalsOf}
-use Rattle.tag_pooling.specs.Pooling.{pooled, pooledRepeats, secondFault, firstOverlong}
+use Rattle.pool_loader_spec.specs.Pooling.{pooled, pooledRepeats, secondFault, firstOverlong}
 use Rattle.tag_scan.specs.Scan.{Taken}
-use Rattle.right_slots.specs.Slots.{AtSlots, Slottable, Slotted, slotWord}
-use Rattle.pool_counts.specs.declared.Second.{Second}
+use Rattle.pool_scan.specs.right_slots.Slots.{AtSlots, Slottable, Slotted, slotWord}
+use Rattle.pool_scan.specs.declared.counting.Second.{Second}
 
 -- the first file was taken in, its repeats are counted, and its right sets have slots
 pub record SecondReady (first : List ℕ) (total : Loaded) (repeats : Repeats) (heads tails order used counts slots : List ℕ)

@@ -1,14 +1,13 @@
 // The first pass over the second of two pooled files: the first record at fault, or the counts of the pooled records, the repeats of both
 // files and the index of their tags. It goes on from the counts, the repeats and the index of the first file. The tags of a pooled set are
 // counted as a union; its repeats by the second file's record alone.
-use load_totals::is_past;
-use pool_counts::Second;
-use pool_counts::accepted;
-use pool_counts::count_from;
-use pool_counts::count_set;
-use pool_counts::refused;
-use pool_union::unite;
-use right_slots::NUMBER_WORDS;
+use crate::counting::Second;
+use crate::counting::accepted;
+use crate::counting::count_from;
+use crate::counting::count_set;
+use crate::counting::refused;
+use crate::right_slots::NUMBER_WORDS;
+use crate::union::unite;
 use sets::Refusal;
 use sets::Side;
 use std::num::wrapping_add_usize;
@@ -19,11 +18,16 @@ use tag_file::is_side;
 use tag_file::read_record;
 use tag_index::HINT_SLOTS;
 use tag_index::INDEX_ROOM;
+use tag_scan::totals::is_past;
 ghost use mathlib.Core.Path.{_≡_};
 ghost use lib.ListN.{length};
 ghost use Rattle.bit_sets.specs.BitSets.{Claimed};
-ghost use Rattle.right_slots.specs.Slots.{numberWords};
+ghost use Rattle.pool_scan.specs.right_slots.Slots.{numberWords};
 ghost use Rattle.pool_scan.specs.Second.{SecondReady, SecondScanned};
+
+pub mod counting;
+pub mod right_slots;
+pub mod union;
 
 // Notes a number, and tells whether it was noted before.
 fn claim(used: &mut [u64], number: u16) -> bool

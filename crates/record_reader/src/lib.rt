@@ -6,9 +6,9 @@ use tag_file::ReadAnswer;
 use tag_file::RecordRead;
 use tag_file::TAG_LENGTH;
 use tag_file::read_record;
-use tag_words::Tag;
-use tag_words::is_same;
-use tag_words::tag_at;
+use tag_index::tag_words::Tag;
+use tag_index::tag_words::is_same;
+use tag_index::tag_words::tag_at;
 ghost use mathlib.Core.Path.{_≡_};
 ghost use Prim.Native.Nat.{_+_, _≤_, _<_};
 ghost use lib.ListN.{length};
@@ -16,7 +16,7 @@ ghost use Rattle.lists.specs.Lists.{memb};
 ghost use Rattle.sets.specs.Limits.{maxSetLength, fullWords};
 ghost use Rattle.tag_file.specs.Reading.{pastTags, tagsAt};
 ghost use Rattle.tag_file.specs.Repeats.{repeatsIn, recordRead};
-ghost use Rattle.tag_words.specs.Words.{tagValue};
+ghost use Rattle.tag_index.specs.tag_words.Words.{tagValue};
 ghost use Rattle.record_reader.specs.Chains.{tagOf, BucketIs, TagThere, Linked, Chained};
 
 // How many buckets there are: a prime, so that tags that count up, in whichever of their bytes, fall into different ones.

@@ -10,7 +10,7 @@ use Rattle.sets.specs.Ordered.{ordered}
 use Rattle.counting_sort.specs.Holding.{RegionHolds}
 use Rattle.counting_sort.specs.Sorting.{sortedAt}
 use Rattle.counting_sort.proofs.Regions.{holds-later}
-use Rattle.index_keys.specs.SetKeys.{startOf}
+use Rattle.side_index.specs.keys.SetKeys.{startOf}
 use Rattle.side_index.specs.Side.{SideHeld, startsAt, ranksAt, sideEnd, holdersOf}
 
 module _ {base T n : ℕ} {ranks : List ℕ} {sets : List (List ℕ)} {w : List ℕ} (h : SideHeld base T n ranks sets w) {end : ℕ}

@@ -1,15 +1,17 @@
 // The signatures of the sets (marks), two words each in the work list, low then high, straight from the items.
 
-use item_bits::position_of;
-use item_bits::position_table;
+use crate::item_bits::position_of;
+use crate::item_bits::position_table;
 ghost use mathlib.Core.Path.{_≡_};
 ghost use Prim.Native.Nat.{_+_, _≤_};
 ghost use lib.ListN.{length};
 ghost use Rattle.sets.specs.Collections.{between, setsOf};
 ghost use Rattle.sets.specs.Signatures.{signature};
-ghost use Rattle.item_bits.specs.Bits.{positionTable};
+ghost use Rattle.signatures.specs.item_bits.Bits.{positionTable};
 ghost use Rattle.signatures.specs.Signing.{double, DoubleStored, SigningRoom, Signed};
 ghost use Rattle.signatures.specs.Signing.{BothRoom, BothSigned};
+
+pub mod item_bits;
 
 // How many numbers a word of the work list can hold.
 const WORDS: u64 = 4294967296;

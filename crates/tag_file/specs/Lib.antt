@@ -5,3 +5,4 @@ pub mod Records
 pub mod Repeats
 pub mod Loading
 pub mod Inner
+pub mod answers

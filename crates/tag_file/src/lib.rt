@@ -37,6 +37,8 @@ ghost use Rattle.tag_file.specs.Reading.{readAt, recordAt};
 ghost use Rattle.tag_file.specs.Records.{sameSide};
 ghost use Rattle.tag_file.specs.Inner.{ByteAt};
 
+pub mod answers;
+
 // What the record reader answers: a whole record with the place of its first tag and the next place, that there is no
 // more, or why not.
 pub enum ReadAnswer {

@@ -17,7 +17,7 @@ use crate::reading::read_file;
 use crate::reading::read_lengths;
 use libc::STDIN_FILENO;
 use libc::STDOUT_FILENO;
-use tag_answers::load_words;
+use tag_file::answers::load_words;
 
 // The most bytes of a file.
 const FILE_ROOM: usize = 1541;

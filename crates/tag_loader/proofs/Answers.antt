@@ -18,9 +18,9 @@ use Rattle.tag_file.specs.Repeats.{repeatTotals}
 use Rattle.tag_file.specs.Loading.{Lists, fileFault, totalsOf, filled, roomFor, loadAnswer, LoadCall}
 use Rattle.tag_file.proofs.FaultLaws.{fault-clears}
 use Rattle.tag_file.proofs.AnswerLaws.{tested-refused, tested-loaded, accepts, refuses-short, refuses-fault}
-use Rattle.load_totals.specs.Totals.{Limited}
+use Rattle.tag_scan.specs.totals.Totals.{Limited}
 use Rattle.tag_scan.specs.Scan.{Scanned}
-use Rattle.load_lists.specs.Room.{hasRoom, AllCleared}
+use Rattle.tag_loader.specs.lent_lists.Room.{hasRoom, AllCleared}
 use Rattle.tag_loader.specs.Passes.{AllFilled, Fillable}
 use Rattle.tag_loader.proofs.Rooms.{room-counted}
 

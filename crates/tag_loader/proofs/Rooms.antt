@@ -19,8 +19,8 @@ use Rattle.tag_file.proofs.Tables.{memb-collapse}
 use Rattle.tag_file.proofs.ItemCount.{length-tagBytes, length-numbersOf, length-endsOf, length-joinedItems}
 use Rattle.tag_file.proofs.AnswerLaws.{RoomForEach, room-each}
 use Rattle.tag_index.specs.Index.{tableOf, Sorted, Ranked}
-use Rattle.tag_fill.specs.Fill.{FillReady}
-use Rattle.load_lists.specs.Room.{sideFits, hasRoom}
+use Rattle.tag_loader.specs.fill.Fill.{FillReady}
+use Rattle.tag_loader.specs.lent_lists.Room.{sideFits, hasRoom}
 use Rattle.tag_loader.specs.Passes.{Fillable}
 
 side-fits : (side : Side) (rs : List TagRecord) (numbers ends items : List ℕ)

@@ -1,21 +1,26 @@
 // The loader of tag files: a first pass finds the first record at fault, or the counts and the index of the distinct tags; a
 // second pass fills the seven lent lists. It allocates nothing beyond its own arrays.
-use load_lists::clear_lists;
-use load_lists::has_room;
+use crate::fill::fill_side;
+use crate::lent_lists::clear_lists;
+use crate::lent_lists::has_room;
+use crate::tag_table::fill_tags;
 use sets::Refusal;
 use sets::Side;
 use tag_file::LoadAnswer;
-use tag_fill::fill_side;
 use tag_index::HINT_SLOTS;
 use tag_index::INDEX_ROOM;
-use tag_items::rank_ids;
+use tag_index::tag_items::rank_ids;
 use tag_scan::scan_records;
-use tag_table::fill_tags;
-use used_numbers::USED_WORDS;
+use tag_scan::used_numbers::USED_WORDS;
 ghost use Rattle.tag_file.specs.Records.{records};
 ghost use Rattle.tag_file.specs.Loading.{listsOf, LoadCall};
 ghost use Rattle.tag_scan.specs.Scan.{Lengths, Scanned};
 ghost use Rattle.tag_loader.specs.Passes.{AllFilled, Fillable};
+
+pub mod fill;
+pub mod lent_lists;
+pub mod record_items;
+pub mod tag_table;
 
 // A hint that leads to no id.
 const NO_ID: u16 = 65535;

@@ -12,7 +12,7 @@ use Rattle.tag_file.specs.Reading.{readAt, tagsAt}
 use Rattle.tag_file.specs.Records.{records, recordsFrom, insert, insertAll, allTags, itemsOf}
 use Rattle.tag_file.specs.Repeats.{repeatsIn, repeatTotals, noRepeats}
 use Rattle.tag_file.specs.Loading.{filled, fileFault, firstFault, faultOf, tooMany, endsFrom, join}
-use Rattle.writer_spec.specs.Writer.{recordsOf, fileBytes}
+use Rattle.tag_writer_spec.specs.Writer.{recordsOf, fileBytes}
 
 -- a tag: eleven zero bytes and the one shown
 tag : ℕ → List ℕ

@@ -21,7 +21,7 @@ use Rattle.tag_file.specs.Format.{tagBytes}
 use Rattle.tag_file.specs.Records.{collapse, itemsOf}
 use Rattle.tag_file.proofs.Tables.{memb-collapse}
 use Rattle.tag_file.proofs.ItemCount.{keep-collapse, item-count}
-use Rattle.writer_spec.specs.Writer.{itemTag, itemTags}
+use Rattle.tag_writer_spec.specs.Writer.{itemTag, itemTags}
 use Rattle.tag_round_trip.proofs.Values.{tagsFit, tagAt-table}
 
 map-keep : (f : ℕ → ℕ) (p : ℕ → Bool) (xs : List ℕ) → map f (keep (λ x. p (f x)) xs) ≡ keep p (map f xs)

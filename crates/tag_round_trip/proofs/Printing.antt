@@ -19,7 +19,7 @@ use Rattle.tag_file.specs.declared.ReadAnswer.the-variants.{Record, NoMore}
 use Rattle.tag_file.proofs.ReadLaws.{read-end, whole-record}
 use Rattle.tag_file.proofs.RecordLaws.{records-next, records-end}
 use Rattle.tag_file.proofs.ItemCount.{length-tagBytes}
-use Rattle.writer_spec.proofs.Records.{length-head}
+use Rattle.tag_writer_spec.proofs.Records.{length-head}
 use Rattle.tag_round_trip.specs.Rewritten.{bytesOfRecords}
 use Rattle.tag_round_trip.proofs.Values.{tagsFit, first-fits, rest-fits, tagAt-here, drop-tag}
 

@@ -26,8 +26,8 @@ use Rattle.tag_file.specs.Loading.{endsFrom, join, numbersOf, endsOf, joinedIte
 use Rattle.tag_file.proofs.Tables.{rising-collapse, memb-collapse}
 use Rattle.tag_file.proofs.RecordLaws.{same-side}
 use Rattle.tag_file.proofs.ItemCount.{length-numbersOf, length-endsOf, length-joinedItems}
-use Rattle.writer_spec.specs.Writer.{itemTags, numberedTest}
-use Rattle.writer_spec.proofs.Tests.{side-even}
+use Rattle.tag_writer_spec.specs.Writer.{itemTags, numberedTest}
+use Rattle.tag_writer_spec.proofs.Tests.{side-even}
 use Rattle.tag_round_trip.specs.Rewritten.{sideRecords, recordsOfLists, collapsed, collapsedSide, rewritten}
 use Rattle.tag_round_trip.proofs.Decoding.{between-joined, sets-joined}
 use Rattle.tag_round_trip.proofs.Items.{tags-of-items, items-good}

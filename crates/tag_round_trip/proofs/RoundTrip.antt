@@ -17,16 +17,16 @@ use Rattle.tag_file.specs.declared.Loaded.{Loaded}
 use Rattle.tag_file.specs.declared.Repeats.{Repeats}
 use Rattle.tag_file.specs.declared.LoadAnswer.{LoadAnswer}
 use Rattle.tag_file.specs.declared.LoadAnswer.the-variants as load
-use Rattle.writer_spec.specs.declared.WriteAnswer.{WriteAnswer}
-use Rattle.writer_spec.specs.declared.WriteAnswer.the-variants as write
+use Rattle.tag_writer_spec.specs.declared.WriteAnswer.{WriteAnswer}
+use Rattle.tag_writer_spec.specs.declared.WriteAnswer.the-variants as write
 use Rattle.tag_file.specs.Records.{TagRecord, records, tagTable}
 use Rattle.tag_file.specs.Repeats.{repeatTotals, noRepeats}
 use Rattle.tag_file.specs.Loading.{Lists, filled, totalsOf, fileFault, firstFault, refusalOf, roomFor, loadAnswer, listsAfter}
 use Rattle.tag_file.specs.Loading.{LoadCall}
 use Rattle.tag_file.specs.declared.ReadAnswer.{ReadAnswer}
-use Rattle.writer_spec.specs.Writer.{fileBytes, roomTest, writtenWithin, writeAnswer, fileAfter, WriteCall}
-use Rattle.writer_spec.proofs.Tests.{lists-good, room-passed}
-use Rattle.writer_spec.proofs.Answers.{answer-passed, within}
+use Rattle.tag_writer_spec.specs.Writer.{fileBytes, roomTest, writtenWithin, writeAnswer, fileAfter, WriteCall}
+use Rattle.tag_writer_spec.proofs.Tests.{lists-good, room-passed}
+use Rattle.tag_writer_spec.proofs.Answers.{answer-passed, within}
 use Rattle.tag_file.proofs.ItemCount.{length-tagBytes}
 use Rattle.tag_file.proofs.AnswerLaws.{accepted, accepts, call-lists}
 use Rattle.tag_round_trip.specs.Rewritten.{rewritten}

@@ -16,7 +16,7 @@ use Rattle.tag_file.specs.Reading.{readAt}
 use Rattle.tag_file.specs.Records.{TagRecord, totalLength, records}
 use Rattle.tag_file.specs.Loading.{Lists}
 use Rattle.tag_file.specs.declared.ReadAnswer.the-variants.{NoMore}
-use Rattle.writer_spec.specs.Writer.{itemTags, recordsOf, fileBytes}
+use Rattle.tag_writer_spec.specs.Writer.{itemTags, recordsOf, fileBytes}
 use Rattle.tag_round_trip.specs.Rewritten.{bytesOfRecords, sideRecords, recordsOfLists}
 use Rattle.tag_round_trip.proofs.Values.{tagsFit, tagAt-bound}
 use Rattle.tag_round_trip.proofs.Printing.{recordsFit, records-bytes, read-past}

@@ -8,7 +8,7 @@ use Rattle.sets.specs.declared.Side.the-variants.{Left, Right}
 use Rattle.tag_file.specs.Format.{recordBytes}
 use Rattle.tag_file.specs.Records.{TagRecord, ofSide, collapse}
 use Rattle.tag_file.specs.Loading.{Lists}
-use Rattle.writer_spec.specs.Writer.{itemTags}
+use Rattle.tag_writer_spec.specs.Writer.{itemTags}
 
 -- records one after the other, as bytes
 unfoldable pub bytesOfRecords : List TagRecord → List ℕ

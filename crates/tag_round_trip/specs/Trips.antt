@@ -8,12 +8,12 @@ use lib.ListN.{length, take}
 use Rattle.tag_file.specs.declared.Loaded.{Loaded}
 use Rattle.tag_file.specs.declared.Repeats.{Repeats}
 use Rattle.tag_file.specs.declared.LoadAnswer.the-variants as load
-use Rattle.writer_spec.specs.declared.WriteAnswer.the-variants as write
+use Rattle.tag_writer_spec.specs.declared.WriteAnswer.the-variants as write
 use Rattle.tag_file.specs.Format.{tagLength}
 use Rattle.tag_file.specs.Records.{TagRecord}
 use Rattle.tag_file.specs.Repeats.{noRepeats}
 use Rattle.tag_file.specs.Loading.{Lists, filled, totalsOf, roomFor, loadAnswer, listsAfter}
-use Rattle.writer_spec.specs.Writer.{fileBytes, writeAnswer, writtenFile}
+use Rattle.tag_writer_spec.specs.Writer.{fileBytes, writeAnswer, writtenFile}
 
 -- the parts of seven lists that a load with these counts filled
 abbrev pub partsOf : Loaded → Lists → Lists

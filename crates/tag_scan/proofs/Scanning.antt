@@ -28,12 +28,12 @@ use Rattle.tag_file.proofs.RecordLaws.{length-tagsAt, read-past, read-within, r
 use Rattle.tag_file.proofs.RecordLaws.{records-next, totalLength-last}
 use Rattle.tag_file.proofs.FaultLaws.{fault-used, fault-none}
 use Rattle.tag_file.proofs.RepeatLaws.{repeats-are, repeats-bound}
-use Rattle.tag_adding.specs.Adding.{Adding, RoomToAdd, AllAdded}
-use Rattle.tag_adding.proofs.AddLaws.{added-fresh}
-use Rattle.used_numbers.specs.Keys.{keyOf}
-use Rattle.used_numbers.proofs.Numbers.{Noted, noted-step, noted-tells}
-use Rattle.load_totals.specs.Totals.{grownBy, isOver, wordNumbers, repeatedBy, RepeatsRoom}
-use Rattle.load_totals.proofs.Counting.{grown-repeats}
+use Rattle.tag_index.specs.tag_adding.Adding.{Adding, RoomToAdd, AllAdded}
+use Rattle.tag_index.proofs.tag_adding.AddLaws.{added-fresh}
+use Rattle.tag_scan.specs.used_numbers.Keys.{keyOf}
+use Rattle.tag_scan.proofs.used_numbers.Numbers.{Noted, noted-step, noted-tells}
+use Rattle.tag_scan.specs.totals.Totals.{grownBy, isOver, wordNumbers, repeatedBy, RepeatsRoom}
+use Rattle.tag_scan.proofs.totals.Counting.{grown-repeats}
 use Rattle.tag_scan.specs.Scan.{Taken, Scanned}
 use Rattle.tag_scan.proofs.Taking.{taken-over, taken-next}
 

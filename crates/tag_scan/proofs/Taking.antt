@@ -11,8 +11,8 @@ use Rattle.tag_file.specs.Records.{TagRecord, insertAll, collapse, allTags, tag
 use Rattle.tag_file.specs.Loading.{tooMany, totalsOf}
 use Rattle.tag_index.specs.Index.{tableOf, Sorted}
 use Rattle.tag_index.proofs.Ids.{sorted-size}
-use Rattle.load_totals.specs.Totals.{grownBy, isOver, Limited}
-use Rattle.load_totals.proofs.Counting.{tagTable-last, grown-counts, grown-tags, over-tooMany, limited-grown}
+use Rattle.tag_scan.specs.totals.Totals.{grownBy, isOver, Limited}
+use Rattle.tag_scan.proofs.totals.Counting.{tagTable-last, grown-counts, grown-tags, over-tooMany, limited-grown}
 use Rattle.tag_scan.specs.Scan.{Lengths, Taken}
 
 pub taken-start : (heads tails order : List ℕ) (total : Loaded) → Lengths heads tails order → total ≡ totalsOf []

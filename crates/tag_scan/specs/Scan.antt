@@ -13,7 +13,7 @@ use Rattle.tag_file.specs.Records.{TagRecord, records, tagTable}
 use Rattle.tag_file.specs.Repeats.{repeatTotals}
 use Rattle.tag_file.specs.Loading.{fileFault, totalsOf}
 use Rattle.tag_index.specs.Index.{indexRoom, tableOf, Sorted}
-use Rattle.load_totals.specs.Totals.{Limited}
+use Rattle.tag_scan.specs.totals.Totals.{Limited}
 
 -- ---- the state: records that were taken in
 

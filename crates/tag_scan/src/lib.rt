@@ -1,13 +1,11 @@
 // The loader's first pass over a tag file: the first record at fault, or the counts and the repeats of the file and the index of its
 // tags. The index tells how many distinct tags a record has, and so how many are repeats.
-use load_totals::grown;
-use load_totals::is_over;
-use load_totals::repeated;
-use load_totals::stopped;
+use crate::totals::grown;
+use crate::totals::is_over;
+use crate::totals::repeated;
+use crate::totals::stopped;
+use crate::used_numbers::claim;
 use sets::Refusal;
-use tag_adding::Added;
-use tag_adding::SEEN_WORDS;
-use tag_adding::add_tags;
 use tag_file::LoadAnswer;
 use tag_file::Loaded;
 use tag_file::ReadAnswer;
@@ -15,11 +13,16 @@ use tag_file::Repeats;
 use tag_file::read_record;
 use tag_index::HINT_SLOTS;
 use tag_index::INDEX_ROOM;
-use used_numbers::claim;
+use tag_index::tag_adding::Added;
+use tag_index::tag_adding::SEEN_WORDS;
+use tag_index::tag_adding::add_tags;
 ghost use mathlib.Core.Path.{_≡_};
 ghost use lib.ListN.{replicate};
-ghost use Rattle.used_numbers.specs.Keys.{usedWords};
+ghost use Rattle.tag_scan.specs.used_numbers.Keys.{usedWords};
 ghost use Rattle.tag_scan.specs.Scan.{Lengths, Scanned};
+
+pub mod totals;
+pub mod used_numbers;
 
 // Record after record, from none and at place 0, up to the first fault or the end; the numbers are noted in a lent bit set.
 pub fn scan_records(

@@ -1,18 +1,20 @@
 // The writer of a tag file (document 01, "Tag file"): a record for each left set (kit), then for each right set (stack). What
 // it answers and leaves in the lent output is defined in `writer_spec`.
-use record_writer::TAG_LENGTH;
-use record_writer::put_side;
-use record_writer::side_length;
+use crate::record_writer::TAG_LENGTH;
+use crate::record_writer::put_side;
+use crate::record_writer::side_length;
 use sets::Refusal;
 use sets::Side;
 use sets::Tested;
-use writer_spec::WriteAnswer;
+use tag_writer_spec::WriteAnswer;
 ghost use mathlib.Core.Path.{_≡_};
 ghost use lib.ListN.{length};
 ghost use Rattle.tag_file.specs.Loading.{listsOf};
-ghost use Rattle.writer_spec.specs.Writer.{fileBytes, tableTest, numberedTest, listsTest};
-ghost use Rattle.writer_spec.specs.Writer.{writtenWithin, fileAfter, WriteCall};
-ghost use Rattle.writer_spec.specs.Room.{GoodLists};
+ghost use Rattle.tag_writer_spec.specs.Writer.{fileBytes, tableTest, numberedTest, listsTest};
+ghost use Rattle.tag_writer_spec.specs.Writer.{writtenWithin, fileAfter, WriteCall};
+ghost use Rattle.tag_writer_spec.specs.Room.{GoodLists};
+
+pub mod record_writer;
 
 // T is within its limit, and the tag table is as long as it says.
 fn test_table(t: u32, tags: &[u8]) -> Tested

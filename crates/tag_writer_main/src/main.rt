@@ -1,7 +1,7 @@
 // Named vectors through the writer of tag files: each line has the vector's name, the answer and the whole output list, which
 // holds EE before the call. `stdout` has what document 01 says.
 use sets::Refusal;
-use writer_spec::WriteAnswer;
+use tag_writer_spec::WriteAnswer;
 
 const STDOUT: i32 = 1;
 

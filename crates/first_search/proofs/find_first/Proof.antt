@@ -4,9 +4,9 @@ use native.Mathlib.Omega.{arith}
 use borrow.Author.Needs.{needs}
 use Rattle.sets.specs.Collections.{Collection, setsIn}
 use Rattle.sets.specs.declared.Tested.the-variants.{Passed}
-use Rattle.first_spec.specs.declared.FirstAnswer.the-variants.{Searched}
-use Rattle.first_spec.specs.First.{firstTest}
-use Rattle.first_spec.proofs.FirstTests.{Searchable, first-passed, first-refused, first-searched}
+use Rattle.first_search_spec.specs.declared.FirstAnswer.the-variants.{Searched}
+use Rattle.first_search_spec.specs.First.{firstTest}
+use Rattle.first_search_spec.proofs.FirstTests.{Searchable, first-passed, first-refused, first-searched}
 use Rattle.first_search.proofs.Searching.{right-fits, marked-first}
 use Rattle.first_search.proofs.find_first.Statement.{statement}
 use Rattle.first_search.proofs.find_first.Tie as tie

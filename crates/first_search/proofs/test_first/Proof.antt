@@ -5,7 +5,7 @@ use Rattle.sets.specs.Collections.{Collection}
 use Rattle.sets.specs.declared.Side.the-variants.{Left}
 use Rattle.sets.specs.declared.Tested.the-variants.{Passed}
 use Rattle.inputs.specs.Tests.{itemsTest, sideTest}
-use Rattle.first_spec.proofs.FirstTests.{first-items-failed, first-lefts-failed, first-right-next}
+use Rattle.first_search_spec.proofs.FirstTests.{first-items-failed, first-lefts-failed, first-right-next}
 use Rattle.first_search.proofs.test_first.Statement.{statement}
 use Rattle.first_search.proofs.test_first.Tie as tie
 

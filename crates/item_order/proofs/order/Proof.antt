@@ -3,8 +3,8 @@ use mathlib.Core.Path.{_≡_, sym, _∙_}
 use borrow.Author.Needs.{needs}
 use lib.ListN.{length}
 use Rattle.inputs.specs.Input.{Input, inputOf}
-use Rattle.order_spec.specs.Order.{orderTest}
-use Rattle.order_spec.proofs.Answers.{call-refused, call-ordered}
+use Rattle.item_order_spec.specs.Order.{orderTest}
+use Rattle.item_order_spec.proofs.Answers.{call-refused, call-ordered}
 use Rattle.item_order.proofs.Filling.{can-fill}
 use Rattle.item_order.proofs.order.Statement.{statement}
 use Rattle.item_order.proofs.order.Tie as tie

@@ -3,7 +3,7 @@ use mathlib.Core.Path.{_≡_, sym, _∙_}
 use borrow.Author.Needs.{needs}
 use Rattle.inputs.specs.Input.{Input, inputOf}
 use Rattle.inputs.specs.Tests.{itemsTest}
-use Rattle.order_spec.proofs.Answers.{test-items, test-length, test-sets}
+use Rattle.item_order_spec.proofs.Answers.{test-items, test-length, test-sets}
 use Rattle.item_order.proofs.test_order.Statement.{statement}
 use Rattle.item_order.proofs.test_order.Tie as tie
 

@@ -13,11 +13,11 @@ use Rattle.sets.specs.Collections.{contained}
 use Rattle.join_spec.specs.PairList.{pairsFrom, pairList}
 use Rattle.join_spec.proofs.PairListLaws.{length-pairList}
 use Rattle.join_index.specs.declared.Layout.{Layout}
-use Rattle.word_flags.specs.Flags.{Clear}
+use Rattle.words.specs.flags.Flags.{Clear}
 use Rattle.join_index.proofs.Reading.{index-frame}
 use Rattle.kept_rows.proofs.RowLaws.{rows-framed}
-use Rattle.join_shortlists.proofs.Meeting.{changed-then}
-use Rattle.left_search.specs.LeftRows.{rowAt, LeftRoom, LeftWritten}
+use Rattle.join_pairs.proofs.shortlists.Meeting.{changed-then}
+use Rattle.join_pairs.specs.left_search.LeftRows.{rowAt, LeftRoom, LeftWritten}
 use Rattle.join_pairs.specs.Writing.{PairsRoom}
 use Rattle.join_pairs.proofs.PairRows.{pairs-next, pairs-none}
 use Rattle.join_pairs.proofs.write_pairs.Statement.{statement}

@@ -3,9 +3,9 @@ use native.Mathlib.Omega.{arith}
 use mathlib.Core.List.{[]}
 use mathlib.Core.Path.{sym, _∙_}
 use Prim.Native.Nat.{_-_}
-use Rattle.word_flags.specs.Flags.{Clear}
+use Rattle.words.specs.flags.Flags.{Clear}
 use Rattle.join_nodes.proofs.PartLoop.{Continuing, continuing-start, continuing-step, continuing-spent, continuing-end}
-use Rattle.join_visit.proofs.ChildSteps.{kids-run, childRank, first-child}
+use Rattle.join_walk.proofs.visit.ChildSteps.{kids-run, childRank, first-child}
 use Rattle.join_walk.specs.Partitions.{Partitions}
 use Rattle.join_walk.proofs.PartitionRuns.{partitions-done}
 use Rattle.join_walk.proofs.visit_partitions.Statement.{statement}

@@ -1,6 +1,6 @@
 -- `kitfinder_first` meets its contract: the words of what the search answers.
 use mathlib.Core.Path.{ap, _∙_}
-use Rattle.first_spec.specs.First.{firstWords}
+use Rattle.first_search_spec.specs.First.{firstWords}
 use borrow.Author.Needs.{needs}
 use Rattle.kitfinder.proofs.kitfinder_first.Statement.{statement}
 use Rattle.kitfinder.proofs.kitfinder_first.Tie as tie

@@ -1,6 +1,6 @@
 -- `kitfinder_load` meets its contract: the words of the answer, and the seven lists that the loader leaves.
 use mathlib.Core.Path.{ap, _∙_}
-use Rattle.tag_answers.specs.Words.{loadWords}
+use Rattle.tag_file.specs.answers.Words.{loadWords}
 use Rattle.tag_file.proofs.AnswerLaws.{call-defined}
 use borrow.Author.Needs.{needs}
 use Rattle.kitfinder.proofs.kitfinder_load.Statement.{statement}

@@ -1,7 +1,7 @@
 -- `kitfinder_load_pooled` meets its contract: the words of the answer, and the seven lists that the pooled load leaves.
 use mathlib.Core.Path.{ap, _∙_}
-use Rattle.tag_answers.specs.Words.{loadWords}
-use Rattle.tag_pooling.proofs.Calls.{call-defined}
+use Rattle.tag_file.specs.answers.Words.{loadWords}
+use Rattle.pool_loader_spec.proofs.Calls.{call-defined}
 use borrow.Author.Needs.{needs}
 use Rattle.kitfinder.proofs.kitfinder_load_pooled.Statement.{statement}
 use Rattle.kitfinder.proofs.kitfinder_load_pooled.Tie as tie

@@ -1,6 +1,6 @@
 -- `kitfinder_order` meets its contract: the words of the answer, and the ranks that are left.
 use mathlib.Core.Path.{ap, _∙_}
-use Rattle.order_spec.specs.Order.{orderWords}
+use Rattle.item_order_spec.specs.Order.{orderWords}
 use borrow.Author.Needs.{needs}
 use Rattle.kitfinder.proofs.kitfinder_order.Statement.{statement}
 use Rattle.kitfinder.proofs.kitfinder_order.Tie as tie

@@ -1,6 +1,6 @@
 -- `kitfinder_read_record` meets its contract: the words of what the reader answers.
 use mathlib.Core.Path.{ap, _∙_}
-use Rattle.tag_answers.specs.Words.{readWords}
+use Rattle.tag_file.specs.answers.Words.{readWords}
 use borrow.Author.Needs.{needs}
 use Rattle.kitfinder.proofs.kitfinder_read_record.Statement.{statement}
 use Rattle.kitfinder.proofs.kitfinder_read_record.Tie as tie

@@ -1,6 +1,6 @@
 -- `kitfinder_write` meets its contract: the words of what the writer answers, and the file that it leaves.
 use mathlib.Core.Path.{ap, _∙_}
-use Rattle.writer_spec.specs.Writer.{writeWords}
+use Rattle.tag_writer_spec.specs.Writer.{writeWords}
 use borrow.Author.Needs.{needs}
 use Rattle.kitfinder.proofs.kitfinder_write.Statement.{statement}
 use Rattle.kitfinder.proofs.kitfinder_write.Tie as tie

@@ -16,8 +16,8 @@ use Rattle.tag_file.specs.Reading.{readAt}
 use Rattle.tag_file.specs.Records.{sameSide}
 use Rattle.tag_file.proofs.Ended.{no-records}
 use Rattle.tag_file.proofs.RecordLaws.{read-less, read-number, read-count}
-use Rattle.pool_counts.specs.declared.Counted.{Counted}
-use Rattle.pool_counts.specs.Counting.{countedBy}
+use Rattle.pool_scan.specs.declared.counting.Counted.{Counted}
+use Rattle.pool_scan.specs.counting.Counting.{countedBy}
 use Rattle.pool_scan.proofs.Passing.{Passing, overOf, passing-by, passing-start, passing-whole, passing-cut, passing-left, passing-used}
 use Rattle.pool_scan.proofs.Passing.{passing-repeats, passing-past, passing-next}
 use Rattle.pool_scan.proofs.Step.{step-ready, step-bounds, stepped}

@@ -15,10 +15,10 @@ use Rattle.tag_file.specs.Reading.{readAt}
 use Rattle.tag_file.specs.Records.{insertAll, allTags}
 use Rattle.tag_file.proofs.Ended.{no-records}
 use Rattle.tag_file.proofs.RecordLaws.{read-less, read-number, read-count}
-use Rattle.tag_adding.specs.Adding.{seenWords, Adding}
-use Rattle.tag_adding.proofs.AddLaws.{adding-start, added-fresh}
-use Rattle.used_numbers.specs.Keys.{usedWords, keyOf}
-use Rattle.used_numbers.proofs.Numbers.{Noted, noted-start}
+use Rattle.tag_index.specs.tag_adding.Adding.{seenWords, Adding}
+use Rattle.tag_index.proofs.tag_adding.AddLaws.{adding-start, added-fresh}
+use Rattle.tag_scan.specs.used_numbers.Keys.{usedWords, keyOf}
+use Rattle.tag_scan.proofs.used_numbers.Numbers.{Noted, noted-start}
 use Rattle.tag_scan.specs.Scan.{Scanned}
 use Rattle.tag_scan.proofs.Taking.{taken-start}
 use Rattle.tag_scan.proofs.Scanning.{Scanning, scanning-start, scanning-stop, scanning-used, scanning-room}

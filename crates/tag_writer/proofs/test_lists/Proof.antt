@@ -3,8 +3,8 @@ use mathlib.Core.Path.{_≡_, sym, _∙_}
 use borrow.Author.Needs.{needs}
 use Rattle.sets.specs.declared.Side.the-variants.{Left}
 use Rattle.tag_file.specs.Loading.{Lists, listsOf}
-use Rattle.writer_spec.specs.Writer.{tableTest, numberedTest}
-use Rattle.writer_spec.proofs.Tests.{lists-table, lists-left, lists-right}
+use Rattle.tag_writer_spec.specs.Writer.{tableTest, numberedTest}
+use Rattle.tag_writer_spec.proofs.Tests.{lists-table, lists-left, lists-right}
 use Rattle.tag_writer.proofs.test_lists.Statement.{statement}
 use Rattle.tag_writer.proofs.test_lists.Tie as tie
 

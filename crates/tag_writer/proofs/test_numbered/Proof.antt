@@ -1,7 +1,7 @@
 -- `test_numbered` meets its contract: by what is found of the sets, and then by the two lengths.
 use mathlib.Core.Path.{_≡_, sym, _∙_}
 use borrow.Author.Needs.{needs}
-use Rattle.writer_spec.proofs.Tests.{judged, side-bad, side-even, side-fewer, side-more}
+use Rattle.tag_writer_spec.proofs.Tests.{judged, side-bad, side-even, side-fewer, side-more}
 use Rattle.tag_writer.proofs.test_numbered.Statement.{statement}
 use Rattle.tag_writer.proofs.test_numbered.Tie as tie
 

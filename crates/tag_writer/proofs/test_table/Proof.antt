@@ -2,7 +2,7 @@
 use mathlib.Core.Path.{_≡_, sym, _∙_}
 use borrow.Author.Needs.{needs}
 use Rattle.inputs.specs.Tests.{itemsTest}
-use Rattle.writer_spec.proofs.Tests.{table-items, table-other, table-whole}
+use Rattle.tag_writer_spec.proofs.Tests.{table-items, table-other, table-whole}
 use Rattle.tag_writer.proofs.test_table.Statement.{statement}
 use Rattle.tag_writer.proofs.test_table.Tie as tie
 

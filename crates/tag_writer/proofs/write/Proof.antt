@@ -2,9 +2,9 @@
 use mathlib.Core.Path.{_≡_, sym, _∙_}
 use borrow.Author.Needs.{needs}
 use Rattle.tag_file.specs.Loading.{Lists, listsOf}
-use Rattle.writer_spec.specs.Writer.{listsTest}
-use Rattle.writer_spec.proofs.Tests.{lists-passed}
-use Rattle.writer_spec.proofs.Answers.{call-refused, call-passed}
+use Rattle.tag_writer_spec.specs.Writer.{listsTest}
+use Rattle.tag_writer_spec.proofs.Tests.{lists-passed}
+use Rattle.tag_writer_spec.proofs.Answers.{call-refused, call-passed}
 use Rattle.tag_writer.proofs.write.Statement.{statement}
 use Rattle.tag_writer.proofs.write.Tie as tie
 

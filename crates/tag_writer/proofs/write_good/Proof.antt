@@ -4,8 +4,8 @@ use Prim.Native.Nat.{_+_}
 use native.Mathlib.Omega.{arith}
 use lib.ListN.{length}
 use Rattle.tag_file.specs.Loading.{Lists, listsOf}
-use Rattle.writer_spec.specs.Writer.{leftBytes, rightBytes, fileBytes}
-use Rattle.writer_spec.proofs.Answers.{side-limits, left-size, right-size, file-size, put-sides, within, short}
+use Rattle.tag_writer_spec.specs.Writer.{leftBytes, rightBytes, fileBytes}
+use Rattle.tag_writer_spec.proofs.Answers.{side-limits, left-size, right-size, file-size, put-sides, within, short}
 use borrow.Author.Needs.{needs}
 use Rattle.tag_writer.proofs.write_good.Statement.{statement}
 use Rattle.tag_writer.proofs.write_good.Tie as tie

@@ -1,0 +1,3 @@
+-- Contents: a page for each module.
+pub mod frequencies
+pub mod ranks

@@ -1,0 +1,26 @@
+-- Inner: one partition of the walk, the left sets with the same first rank: what is known before its visit, and what its visit, or
+-- that of partitions in a row, answers.
+use Prim.Native.Nat.{ℕ}
+use mathlib.Core.List.{List, [], _∷_}
+use Rattle.join_spec.specs.Query.{Query}
+use Rattle.join_index.specs.declared.Layout.{Layout}
+use Rattle.join_check.specs.declared.Tally.{Tally}
+use Rattle.join_nodes.specs.Visiting.{RunVisited}
+use Rattle.join_nodes.specs.declared.Progress.{Progress}
+use Rattle.join_nodes.specs.declared.Settings.{Settings}
+use Rattle.join_nodes.specs.declared.Walked.{Walked}
+use Rattle.join_walk.specs.visit.Child.{Child}
+
+-- one partition: the left sets at the places lo up to hi of the order are those with a first rank r
+abbrev pub Partition : Layout → Settings → Query → List ℕ → ℕ → ℕ → Progress → ℕ → Type 0
+Partition lay st q w lo hi p r = Child lay st q (r ∷ []) w 1 lo hi p
+
+-- there are a query and a rank of which it holds
+pub record SomeRank (P : Query → ℕ → Type 0) : Type 0 where
+  pub query : Query
+  pub rank : ℕ
+  pub holds : P query rank
+
+-- partitions were visited: only slots changed
+abbrev pub PartVisited : Layout → Settings → Query → List ℕ → List ℕ → ℕ → ℕ → Tally → Walked → Type 0
+PartVisited lay st q w w′ lo hi tally r = RunVisited lay q (st .budget) (lay .slots) 1 w w′ lo hi tally r

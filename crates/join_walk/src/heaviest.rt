@@ -1,0 +1,52 @@
+// The heaviest child of a node, with which its visit goes on.
+use join_check::keys::run_end;
+use join_index::Layout;
+ghost use mathlib.Core.Path.{_≡_};
+ghost use mathlib.Core.Bool.{cond};
+ghost use Prim.Native.Nat.{_-_, _≤_};
+ghost use lib.Dec.{ltb};
+ghost use Rattle.join_index.specs.Asking.{Some, RunThere};
+ghost use Rattle.join_walk.specs.heaviest.Heaviest.{RunChosen};
+
+// At a depth below this no child is preferred to another. Visits lie above each other at most so often there, whatever the limit,
+// and the nodes with many children, whose runs would be looked for twice, stand there.
+const SHALLOW: usize = 16;
+
+// Places lo up to hi of the order.
+pub struct Span {
+    pub lo: usize,
+    pub hi: usize,
+}
+
+// The longer of two, the first where they are alike.
+fn longer(best: Span, other: Span) -> Span
+    requires { ⌜ (best .lo ≤ best .hi) × (other .lo ≤ other .hi) ⌝ }
+    ensures { λ r. ⌜ r ≡ cond (ltb (best .hi - best .lo) (other .hi - other .lo)) other best ⌝ }
+{
+    if best.hi - best.lo < other.hi - other.lo {
+        return other;
+    }
+    best
+}
+
+// The longest of the runs with the same key at depth d, among the left sets at the places lo up to hi; none at a shallow depth, but
+// for an only left set, which most nodes have and which costs no search.
+pub fn heaviest_run(work: &[u32], lay: Layout, d: usize, lo: usize, hi: usize) -> Span
+    requires { ⌜ Some (λ q. RunThere lay q (now work) lo hi) ⌝ }
+    ensures { λ r. ⌜ RunChosen lay (now (work .entry)) d lo hi r ⌝ }
+{
+    if hi - lo == 1 {
+        return Span { lo: lo, hi: hi };
+    }
+    let mut best = Span { lo: hi, hi: hi };
+    if d < SHALLOW {
+        return best;
+    }
+    let mut i = lo;
+    while i < hi {
+        let j = run_end(work, lay, d, i, hi);
+        best = longer(best, Span { lo: i, hi: j });
+        i = j;
+    }
+    best
+}

@@ -1,1 +1,0 @@
--- No laws; each function that needs a proof file has its folder here.

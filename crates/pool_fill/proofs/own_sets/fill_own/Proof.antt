@@ -1,0 +1,72 @@
+-- `pool_sets::fill_own` meets its contract: what is marked are the items of the record's tags.
+use mathlib.Core.List.{[]}
+use Rattle.tag_index.specs.Index.{tableOf}
+use Rattle.tag_loader.proofs.record_items.Marks.{unmarked-marked}
+use Rattle.pool_fill.proofs.own_sets.Fresh.{fresh-wide, fresh-items}
+use borrow.Author.Needs.{needs}
+use Rattle.pool_fill.proofs.own_sets.fill_own.Statement.{statement}
+use Rattle.pool_fill.proofs.own_sets.fill_own.Tie as tie
+
+mark-tags-requires : tie.Need-mark-tags-requires
+mark-tags-requires c κs =
+    let start = c .before .before .before .before .before .before .before .before .before in
+    let a = start .args in (
+      start .pre .0,
+      record {
+        done = [];
+        marked = unmarked-marked (tableOf (a .heads .now) (a .tails .now) (a .n) (a .order .now)) (start .pre .1 .0);
+      },
+    )
+
+slot-of-requires : tie.Need-slot-of-requires
+slot-of-requires c κs = search needs
+
+put-own-requires : tie.Need-put-own-requires
+put-own-requires c κs =
+    let at-slot = c .before .before .before .before .before in
+    let at-mark = at-slot .before .before .before in
+    let start = at-mark .before .before .before .before .before .before .before .before .before .before in
+    let m = at-mark .mark-tags .ensures in
+    let slot = at-slot .slot-of .ensures in (
+      fresh-wide (start .pre .0) (start .pre .1 .0) m,
+      (rw slot (start .pre .1 .1 .0 .within), rw (slot, fresh-items (start .pre .0) (start .pre .1 .0) m) (start .pre .1 .1 .1)),
+    )
+
+same-length : tie.Need-same-length
+same-length c = search needs
+
+same-length-2 : tie.Need-same-length-2
+same-length-2 c = search needs
+
+same-length-3 : tie.Need-same-length-3
+same-length-3 c = search needs
+
+same-length-4 : tie.Need-same-length-4
+same-length-4 c = search needs
+
+same-length-5 : tie.Need-same-length-5
+same-length-5 c = search needs
+
+returns : tie.Need-returns
+returns c =
+    let put = c .before .before .before .before .before .before .before .before .before .before in
+    let at-slot = put .before .before .before .before .before .before in
+    let at-mark = at-slot .before .before .before in
+    let start = at-mark .before .before .before .before .before .before .before .before .before .before in
+    let m = at-mark .mark-tags .ensures in
+    let p = put .put-own .ensures in
+    (p .0, rw (at-slot .slot-of .ensures, fresh-items (start .pre .0) (start .pre .1 .0) m) at (p .1))
+
+pub fill-own-spec : {M : Type 1} → statement M
+fill-own-spec =
+    tie.close
+    (tie.spec
+    mark-tags-requires
+    slot-of-requires
+    put-own-requires
+    same-length
+    same-length-2
+    same-length-3
+    same-length-4
+    same-length-5
+    returns)

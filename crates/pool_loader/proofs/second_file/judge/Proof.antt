@@ -1,0 +1,73 @@
+-- `pool_lists::judge` meets its contract: by the first file, or by both.
+use Rattle.pool_scan.proofs.right_slots.Accepted.{slottable}
+use Rattle.pool_loader.proofs.second_file.Answers.{first-taken, first-refused, second-limited, second-decided}
+use borrow.Author.Needs.{needs}
+use Rattle.pool_loader.proofs.second_file.judge.Statement.{statement}
+use Rattle.pool_loader.proofs.second_file.judge.Tie as tie
+
+enum-known-answer : tie.Need-enum-known-answer
+enum-known-answer c = search needs
+
+enum-told : tie.Need-enum-told
+enum-told c = search needs
+
+returns : tie.Need-returns
+returns c lent lengths =
+    let s = c .before .before .before .before in
+    let told = c .enum-told .given in
+    first-refused (s .args .first .now) (s .args .second .now) lent (told .0 .0) (s .pre .scanned) (told .1)
+
+index-right-requires : tie.Need-index-right-requires
+index-right-requires c κs =
+    let at-answer = c .before .before .before .before in
+    let s = at-answer .before .before .before .before in
+    let t = first-taken (s .args .first .now) _ _ (s .pre .scanned) (at-answer .answer .given .1) in (
+      s .pre .unused,
+      (
+        s .pre .counts-size,
+        (
+          s .pre .slots-size,
+          slottable (s .args .first .now) (t .clean) (λ i. at-answer .before .before .before .shared-slice-known .given i .fits),
+        ),
+      ),
+    )
+
+scan-second-requires : tie.Need-scan-second-requires
+scan-second-requires c κs =
+    let at-answer = c .before .before .before .before .before .before .before .before .before .before .before .before .before .before in
+    let s = at-answer .before .before .before .before in
+    let t = first-taken (s .args .first .now) _ _ (s .pre .scanned) (at-answer .answer .given .1) in
+    record {
+      taken = t .taken;
+      repeated = t .repeated;
+      slottable = slottable (s .args .first .now) (t .clean) (λ i. at-answer .before .before .before .shared-slice-known .given i .fits);
+      slotted = c .before .before .before .before .before .before .before .before .before .index-right .ensures;
+    }
+
+decide-requires : tie.Need-decide-requires
+decide-requires c κs =
+    let at-answer = c .before .before .before .before .before .before .before .before .before .before .before .before .before .before .before in
+    let s = at-answer .before .before .before .before in
+    let t = first-taken (s .args .first .now) _ _ (s .pre .scanned) (at-answer .answer .given .1) in
+    second-limited (s .args .first .now) (s .args .second .now) (t .clean) (c .scan-second .ensures)
+
+returns-2 : tie.Need-returns-2
+returns-2 c lent lengths =
+    let at-answer = c .before .before .before .before .before .before .before .before .before .before .before .before .before .before .before .before in
+    let s = at-answer .before .before .before .before in
+    let t = first-taken (s .args .first .now) _ _ (s .pre .scanned) (at-answer .answer .given .1) in
+    let i = c .before .before .before .before .before .before .before .before .before .before .before .index-right .ensures in
+    second-decided (s .args .first .now) (s .args .second .now) (t .clean) (c .before .scan-second .ensures) lent (i .noted)
+    (i .counted) lengths (c .decide .ensures)
+
+pub judge-spec : {M : Type 1} → statement M
+judge-spec =
+    tie.close
+    (tie.spec
+    enum-known-answer
+    enum-told
+    returns
+    index-right-requires
+    scan-second-requires
+    decide-requires
+    returns-2)

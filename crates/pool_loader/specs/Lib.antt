@@ -1,0 +1,3 @@
+-- Contents: a page for each module.
+pub mod answer
+pub mod second_file

@@ -1,0 +1,66 @@
+-- `pool_union::add_first` meets its contract: where a record is at the place, its tags were added.
+use mathlib.Core.Path.{_≡_, sym, _∙_}
+use mathlib.Core.List.{[]}
+use Prim.Native.Nat.{ℕ}
+use native.Mathlib.Omega.{arith}
+use Rattle.tag_file.proofs.RecordLaws.{read-past, read-within, read-count}
+use Rattle.pool_scan.proofs.union.Uniting.{start-adding, start-some, start-room, added-as, no-record-there, refused-there}
+use borrow.Author.Needs.{needs}
+use Rattle.pool_scan.proofs.union.add_first.Statement.{statement}
+use Rattle.pool_scan.proofs.union.add_first.Tie as tie
+
+read-record-requires : tie.Need-read-record-requires
+read-record-requires c κs = search needs
+
+enum-known-answer : tie.Need-enum-known-answer
+enum-known-answer c = search needs
+
+add-tags-requires : tie.Need-add-tags-requires
+add-tags-requires c κs =
+    let p = c .before .before .before .before .before .before .before .before .before .before .before .pre in
+    let file = c .before .before .before .before .before .before .before .before .before .before .before .args .first .now in
+    let at = c .before .before .before .before .before .before .before .before .before .before .before .args .at in
+    let e = sym (c .before .before .before .before .before .before .before .before .read-record .ensures) ∙ c .before .before .before .before .before .before .answer .given .1 in (
+      start-some (p .0) (p .1),
+      start-room (p .0) file _ _ (omega (arith, read-past file at e, read-within file at e))
+          (read-count file at e (λ i. c .before .before .before .before .before .before .before .before .before .before .shared-slice-known .given i .fits)),
+    )
+
+enum-told : tie.Need-enum-told
+enum-told c = search needs
+
+enum-told-2 : tie.Need-enum-told-2
+enum-told-2 c = search needs
+
+same-length : tie.Need-same-length
+same-length c = search needs
+
+returns : tie.Need-returns
+returns c =
+    let p = c .before .before .before .before .before .before .before .before .before .before .before .before .before .before .pre in
+    let e = sym (c .before .before .before .before .before .before .before .before .before .before .before .read-record .ensures) ∙ c .before .before .before .before .before .before .before .before .before .answer .given .1 in
+    λ count tags there. added-as (c .before .before .add-tags .ensures [] (start-adding (p .0) (p .1))) e there
+
+returns-2 : tie.Need-returns-2
+returns-2 c =
+    let e = sym (c .before .before .read-record .ensures) ∙ c .enum-told .given .1 in
+    λ count tags there. no-record-there e there
+
+returns-3 : tie.Need-returns-3
+returns-3 c =
+    let e = sym (c .before .before .read-record .ensures) ∙ c .enum-told2 .given .1 in
+    λ count tags there. refused-there e there
+
+pub add-first-spec : {M : Type 1} → statement M
+add-first-spec =
+    tie.close
+    (tie.spec
+    read-record-requires
+    enum-known-answer
+    add-tags-requires
+    enum-told
+    enum-told-2
+    same-length
+    returns
+    returns-2
+    returns-3)

@@ -1,0 +1,127 @@
+-- `pool_union::unite` meets its contract: by whether the first file has the number.
+use mathlib.Core.Path.{_≡_, refl, sym, ap, subst, _∙_}
+use Prim.Native.Nat.{ℕ, _+_, _<_}
+use native.Mathlib.Omega.{arith}
+use borrow.Author.Tests.{not-true, not-false}
+use Rattle.lists.proofs.Bools.{true-false}
+use Rattle.sets.specs.Limits.{maxSets}
+use Rattle.pool_scan.specs.right_slots.Slots.{slotOf, pooledMark}
+use Rattle.pool_scan.specs.union.Union.{RecordThere, KnownThere}
+use Rattle.tag_index.specs.Index.{tableOf}
+use Rattle.bit_sets.specs.BitSets.{member}
+use mathlib.Core.Bool.{true}
+use lib.ListN.{getD, set}
+use borrow.Author.Needs.{needs}
+use Rattle.pool_scan.proofs.union.unite.Statement.{statement}
+use Rattle.pool_scan.proofs.union.unite.Tie as tie
+
+-- the number is the first file's, and its slot has a place
+met : (a : tie.After-slot-of) → member (a .before .before .before .before .before .before .before .before .args .used .now) (a .before .before .before .before .before .before .before .before .args .number) ≡ true
+met a = sym (a .before .before .contains .ensures) ∙ not-false _ (a .before .if1 .left)
+
+slot-small : (a : tie.After-slot-of) → a .slot-of .result < maxSets
+slot-small a = let below = a .before .before .before .before .before .before .before .before .pre .slot (met a) in omega (arith, below, a .slot-of .ensures)
+
+known : (a : tie.After-slot-of)
+    → let s = a .before .before .before .before .before .before .before .before .args in
+    KnownThere (s .first .now) (getD (s .slots .now) (a .slot-of .result) 0) (tableOf (s .heads .now) (s .tails .now) (s .n) (s .order .now))
+known a =
+    let s = a .before .before .before .before .before .before .before .before .args in
+    subst (λ (k : ℕ). KnownThere (s .first .now) (getD (s .slots .now) k 0) (tableOf (s .heads .now) (s .tails .now) (s .n) (s .order .now)))
+    (sym (a .slot-of .ensures)) (a .before .before .before .before .before .before .before .before .pre .there (met a))
+
+there-at : (a : tie.After-slot-of) {count tags : ℕ}
+    → let s = a .before .before .before .before .before .before .before .before .args in
+    RecordThere (s .first .now) (getD (s .slots .now) (slotOf (s .used .now) (s .number)) 0) count tags
+    → RecordThere (s .first .now) (getD (s .slots .now) (a .slot-of .result) 0) count tags
+there-at a {count} {tags} there =
+    let s = a .before .before .before .before .before .before .before .before .args in
+    subst (λ (k : ℕ). RecordThere (s .first .now) (getD (s .slots .now) k 0) count tags) (sym (a .slot-of .ensures)) there
+
+contains-requires : tie.Need-contains-requires
+contains-requires c κs = search needs
+
+add-alone-requires : tie.Need-add-alone-requires
+add-alone-requires c κs = search needs
+
+returns : tie.Need-returns
+returns c =
+    let at-if = c .before .before .before .before .before in
+    let out = sym (c .before .before .before .before .before .before .contains .ensures) ∙ not-true _ (at-if .if1 .taken) in
+    let r = c .add-alone .ensures in
+    record {
+      told = r .told ∙ sym out;
+      alone = λ e. r .taken;
+      kept = λ e. refl;
+      met = λ e. true-false e out;
+      noted = λ e. true-false e out;
+    }
+
+slot-of-requires : tie.Need-slot-of-requires
+slot-of-requires c κs = search needs
+
+mul-at : tie.Need-mul-at
+mul-at c =
+    let below = slot-small c in omega (arith, below)
+
+slice-read-at : tie.Need-slice-read-at
+slice-read-at c =
+    let below = slot-small (c .before) in omega (arith, below, c .before .before .before .before .before .before .before .before .before .pre .size)
+
+cast-at : tie.Need-cast-at
+cast-at c =
+    omega (arith, c .slice-known2 .given (c .before .slot-of .result) .fits)
+
+add-both-requires : tie.Need-add-both-requires
+add-both-requires c κs =
+    let p = c .before .before .before .before .before .before .before .before .before .before .before .before .before .pre in
+    (p .index, (p .tags-inside, known (c .before .before .before .before .before)))
+
+cast-slots : tie.Need-cast-slots
+cast-slots c = search needs
+
+add-slots : tie.Need-add-slots
+add-slots c = search needs
+
+mul-slots : tie.Need-mul-slots
+mul-slots c =
+    let below = slot-small (c .before .before .before .before .before .before .before) in omega (arith, below)
+
+slice-write-slots : tie.Need-slice-write-slots
+slice-write-slots c =
+    let below = slot-small (c .before .before .before .before .before .before .before) in omega (arith, below, c .before .before .before .before .before .before .before .before .before .before .before .before .before .before .before .pre .size)
+
+same-length : tie.Need-same-length
+same-length c = search needs
+
+returns-2 : tie.Need-returns-2
+returns-2 c =
+    let at-slot = c .before .before .before .before .before .before .before in
+    let r = c .before .add-both .ensures in
+    let is = at-slot .slot-of .ensures in
+    record {
+      told = r .told ∙ sym (met at-slot);
+      alone = λ e. true-false (met at-slot) e;
+      kept = λ e. true-false (met at-slot) e;
+      met = λ e count tags there. r .taken count tags (there-at at-slot there);
+      noted = λ e. ap (λ (k : ℕ). set (c .before .before .before .before .before .before .before .before .before .before .before .before .before .before .before .args .slots .now) k (pooledMark + c .before .add-both .result .all)) is;
+    }
+
+pub unite-spec : {M : Type 1} → statement M
+unite-spec =
+    tie.close
+    (tie.spec
+    contains-requires
+    add-alone-requires
+    returns
+    slot-of-requires
+    mul-at
+    slice-read-at
+    cast-at
+    add-both-requires
+    cast-slots
+    add-slots
+    mul-slots
+    slice-write-slots
+    same-length
+    returns-2)

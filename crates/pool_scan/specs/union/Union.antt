@@ -1,0 +1,88 @@
+-- Inner: the tags of one right set of the second of two pooled files, taken in as a union: what is asked and promised.
+use Prim.Native.Nat.{ℕ, _+_, _<_, _≤_}
+use mathlib.Core.Path.{_≡_}
+use mathlib.Core.List.{List, [], _++_}
+use mathlib.Core.Bool.{true, false}
+use lib.ListN.{length, getD, set}
+use Rattle.lists.specs.Lists.{memb}
+use Rattle.bit_sets.specs.BitSets.{member}
+use Rattle.sets.specs.Limits.{maxItems, maxSets, maxSetLength, halfWords}
+use Rattle.sets.specs.declared.Side.{Side}
+use Rattle.tag_file.specs.declared.ReadAnswer.the-variants.{Record}
+use Rattle.tag_file.specs.Reading.{readAt, pastTags, tagsAt}
+use Rattle.tag_file.specs.Records.{insertAll, collapse}
+use Rattle.tag_index.specs.Index.{tableOf, Sorted}
+use Rattle.pool_scan.specs.right_slots.Slots.{numberWords, slotOf, BlocksCounted, pooledMark}
+use Rattle.pool_scan.specs.declared.union.United.{United}
+
+-- a whole record stands at a place, with so many tags from a place on
+pub record RecordThere (file : List ℕ) (at count tags : ℕ) : Type 0 where
+  pub side : Side
+  pub number : ℕ
+  pub next : ℕ
+  pub read : readAt file at ≡ Record side number count tags next
+
+-- there is one, and the index has its tags
+pub record KnownThere (file : List ℕ) (at : ℕ) (table : List ℕ) : Type 0 where
+  pub count : ℕ
+  pub tags : ℕ
+  pub there : RecordThere file at count tags
+  pub known : (y : ℕ) → memb y (tagsAt count file tags) ≡ true → memb y table ≡ true
+
+-- the index has n tags, with room for those of a record
+pub record IndexReady (heads tails : List ℕ) (n : ℕ) (order : List ℕ) : Type 0 where
+  pub sorted : Sorted heads tails n order
+  pub small : n ≤ maxItems
+
+-- a record's tags lie within its file, and are not too many
+pub record TagsInside (file : List ℕ) (tags count : ℕ) : Type 0 where
+  pub inside : pastTags tags count ≤ length file
+  pub few : count ≤ maxSetLength
+
+-- a record of the second file whose tags are to be taken in: where its number is the first file's, its slot has the place of the record
+-- there
+pub record UniteReady (first second : List ℕ) (number tags count n : ℕ) (heads tails order used counts slots : List ℕ) : Type 0 where
+  pub index : IndexReady heads tails n order
+  pub tags-inside : TagsInside second tags count
+  pub wide : length used ≡ numberWords
+  pub small : number < halfWords
+  pub counted : BlocksCounted used counts
+  pub size : length slots ≡ maxSets
+  pub slot : member used number ≡ true → slotOf used number < maxSets
+  pub there : member used number ≡ true → KnownThere first (getD slots (slotOf used number) 0) (tableOf heads tails n order)
+
+-- the tags of a set were taken in: new ones that are `tags`, behind those `own` of the first file
+pub record TakenIn (own new heads tails : List ℕ) (n : ℕ) (order : List ℕ) (r : United)
+    (now-heads now-tails now-order : List ℕ) : Type 0 where
+  pub sorted : Sorted now-heads now-tails (r .tags) now-order
+  pub table : tableOf now-heads now-tails (r .tags) now-order ≡ insertAll (tableOf heads tails n order) new
+  pub own-counted : r .own ≡ length (collapse own)
+  pub new-counted : r .fresh ≡ length (collapse new)
+  pub all-counted : r .all ≡ length (collapse (own ++ new))
+  pub less : r .own ≤ r .all
+  pub few : r .all ≤ maxSetLength + maxSetLength
+
+-- by themselves
+pub record AddedAlone (new heads tails : List ℕ) (n : ℕ) (order : List ℕ) (r : United) (now-heads now-tails now-order : List ℕ)
+    : Type 0 where
+  pub taken : TakenIn [] new heads tails n order r now-heads now-tails now-order
+  pub told : r .met ≡ false
+
+-- behind those of the record at a place of the first file
+pub record AddedBoth (first : List ℕ) (at : ℕ) (new heads tails : List ℕ) (n : ℕ) (order : List ℕ) (r : United)
+    (now-heads now-tails now-order : List ℕ) : Type 0 where
+  pub taken : (count tags : ℕ) → RecordThere first at count tags
+      → TakenIn (tagsAt count first tags) new heads tails n order r now-heads now-tails now-order
+  pub told : r .met ≡ true
+  pub few : r .all ≤ maxSetLength + maxSetLength
+
+-- those of a record of the second file: pooled with the record of its slot, or alone
+pub record Taking (first second : List ℕ) (number tags count n : ℕ) (heads tails order used slots : List ℕ) (r : United)
+    (now-heads now-tails now-order now-slots : List ℕ) : Type 0 where
+  pub told : r .met ≡ member used number
+  pub alone : member used number ≡ false
+      → TakenIn [] (tagsAt count second tags) heads tails n order r now-heads now-tails now-order
+  pub kept : member used number ≡ false → now-slots ≡ slots
+  pub met : member used number ≡ true → (c p : ℕ) → RecordThere first (getD slots (slotOf used number) 0) c p
+      → TakenIn (tagsAt c first p) (tagsAt count second tags) heads tails n order r now-heads now-tails now-order
+  pub noted : member used number ≡ true → now-slots ≡ set slots (slotOf used number) (pooledMark + r .all)

@@ -1,0 +1,75 @@
+// The tags of a record, added to the index and to those of a set. The ids of the tags that the set has are seen in a bit set, so that a
+// tag that comes again is not counted again.
+use crate::HINT_SLOTS;
+use crate::INDEX_ROOM;
+use crate::take_tag;
+use bit_sets::contains;
+use bit_sets::insert;
+use tag_file::TAG_LENGTH;
+ghost use mathlib.Core.Path.{_≡_};
+ghost use mathlib.Core.List.{List};
+ghost use Prim.Native.Nat.{ℕ, _≤_, _<_};
+ghost use lib.ListN.{length};
+ghost use Rattle.lists.specs.Lists.{one};
+ghost use Rattle.tag_index.specs.Index.{indexRoom};
+ghost use Rattle.tag_index.specs.tag_adding.Adding.{seenWords, Seen, Adding, SomeAdding, RoomToAdd, AllAdded};
+
+// The words of a bit set with a member for each id.
+pub const SEEN_WORDS: usize = (INDEX_ROOM + 63) / 64;
+
+// 1 for true, 0 for false.
+fn number(b: bool) -> usize
+    ensures { λ r. ⌜ (r ≡ one b) × (r ≤ 1) ⌝ }
+{
+    if b { 1 } else { 0 }
+}
+
+// Sees the tag of an id. 1 where it was not seen before, else 0.
+pub fn see(seen: &mut [u64], id: usize) -> usize
+    requires { ⌜ (id < indexRoom) × (length (now seen) ≡ seenWords) ⌝ }
+    ensures { λ r. ⌜ Seen (now (seen .entry)) id r (now (seen .exit)) ⌝ }
+{
+    let before = contains(seen, id);
+    insert(seen, id);
+    number(!before)
+}
+
+// How many tags the index has, and how many distinct ones the set whose tags are being added has so far.
+pub struct Added {
+    pub tags: usize,
+    pub fresh: usize,
+}
+
+// Adds the tags of a record, the first at start, to the index and to those of a set. The set may have tags from a record before:
+// `sum` counts its distinct ones so far, and `seen` has their ids. A set without tags starts with 0 and no ids.
+pub fn add_tags(
+    file: &[u8],
+    heads: &mut [usize; INDEX_ROOM],
+    tails: &mut [u32; INDEX_ROOM],
+    order: &mut [u16; INDEX_ROOM],
+    seen: &mut [u64],
+    hints: &mut [u16; HINT_SLOTS],
+    start: usize,
+    count: usize,
+    sum: Added,
+) -> Added
+    requires { ⌜ SomeAdding (now heads) (now tails) (sum .tags) (sum .fresh) (now order) (now seen) ⌝ }
+    requires { ⌜ RoomToAdd (now file) start count (sum .tags) (sum .fresh) ⌝ }
+    ensures { λ r. ⌜ ((done : List ℕ)
+        → Adding done (now (heads .entry)) (now (tails .entry)) (sum .tags) (sum .fresh) (now (order .entry)) (now (seen .entry))
+        → AllAdded done (now (file .entry)) start count (sum .tags) (now (heads .entry)) (now (tails .entry))
+        (now (order .entry)) (r .tags) (r .fresh)
+        (now (heads .exit)) (now (tails .exit)) (now (order .exit)) (now (seen .exit))) ⌝ }
+{
+    let mut tags = sum.tags;
+    let mut fresh = sum.fresh;
+    let mut k = 0;
+    while k < count {
+        let place = start + TAG_LENGTH * k;
+        let found = take_tag(file, heads, tails, order, hints, place, tags);
+        tags = found.tags;
+        fresh = fresh + see(seen, found.id);
+        k += 1;
+    }
+    Added { tags, fresh }
+}

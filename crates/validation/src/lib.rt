@@ -1,0 +1,5 @@
+// Whether the input is valid: the falls of a list, one set, a collection, a rank table.
+pub mod collections;
+pub mod falls;
+pub mod one_set;
+pub mod permutations;

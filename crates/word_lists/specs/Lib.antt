@@ -1,3 +1,0 @@
--- Contents: what the functions of this crate ask and answer.
-pub mod Words
-pub mod Merges

@@ -1,0 +1,105 @@
+-- `word_lists::subsets::search_down` meets its contract. The invariant is `Trimming`; the measure is what remains of the first part.
+use mathlib.Core.Path.{refl}
+use Prim.Native.Nat.{_-_}
+use native.Mathlib.Omega.{arith}
+use Rattle.words.proofs.Trimming.{Trimming, trimming-stop, trimming-other, trimming-same, trimming-end}
+use Rattle.words.proofs.subsets.search_down.Statement.{statement}
+use Rattle.words.proofs.subsets.search_down.Tie as tie
+
+abbrev Inv-loop : tie.InvT-loop
+Inv-loop work a b c e i₀ j₀ i j = Trimming work a b c e i j
+
+abbrev μ-loop : tie.MeasureT-loop
+μ-loop work a b c e i₀ j₀ i j = i - a
+
+loop-holds : tie.Need-loop-holds Inv-loop μ-loop
+loop-holds c =
+    let asked = c .before .pre in
+    record { first = omega arith; second = omega arith; firstRises = asked .0 .rise; secondRises = asked .1 .rise; same = refl }
+
+skip-higher-requires : tie.Need-skip-higher-requires Inv-loop μ-loop
+skip-higher-requires c κs =
+    let start = c .before .before .before in
+    let m = c .before .loop .inv in (
+      c .loop-test .taken,
+      (
+        record { within = omega (arith, m .first, start .pre .0 .within); rise = m .firstRises },
+        record { within = omega (arith, m .second, start .pre .1 .within); rise = m .secondRises },
+      ),
+    )
+
+returns : tie.Need-returns Inv-loop μ-loop
+returns c =
+    let skip = c .before in
+    let at-loop = skip .before .before in
+    let asked = at-loop .before .before .pre in
+    trimming-stop (at-loop .loop .inv) (skip .skip-higher .ensures) (asked .0) (asked .1) (skip .before .loop-test .taken)
+    (c .if1 .taken)
+
+sub-if2 : tie.Need-sub-if2 Inv-loop μ-loop
+sub-if2 c = omega arith
+
+mul-if2 : tie.Need-mul-if2 Inv-loop μ-loop
+mul-if2 c = omega arith
+
+shared-slice-read-if2 : tie.Need-shared-slice-read-if2 Inv-loop μ-loop
+shared-slice-read-if2 c = omega arith
+
+sub-if2-2 : tie.Need-sub-if2-2 Inv-loop μ-loop
+sub-if2-2 c = omega arith
+
+mul-if2-2 : tie.Need-mul-if2-2 Inv-loop μ-loop
+mul-if2-2 c = omega arith
+
+shared-slice-read-if2-2 : tie.Need-shared-slice-read-if2-2 Inv-loop μ-loop
+shared-slice-read-if2-2 c = omega arith
+
+returns-2 : tie.Need-returns-2 Inv-loop μ-loop
+returns-2 c =
+    let skip = c .before .before .before .before in
+    let at-loop = skip .before .before in
+    let asked = at-loop .before .before .pre in
+    trimming-other (at-loop .loop .inv) (skip .skip-higher .ensures) (asked .0) (asked .1) (skip .before .loop-test .taken)
+    (omega (arith, c .before .before .before .if1 .left)) (c .if2 .taken)
+
+sub-i : tie.Need-sub-i Inv-loop μ-loop
+sub-i c = omega arith
+
+sub-j : tie.Need-sub-j Inv-loop μ-loop
+sub-j c = omega arith
+
+loop-less : tie.Need-loop-less Inv-loop μ-loop
+loop-less c = omega arith
+
+loop-again : tie.Need-loop-again Inv-loop μ-loop
+loop-again c =
+    let skip = c .before .before .before .before in
+    let at-loop = skip .before .before in
+    let asked = at-loop .before .before .pre in
+    trimming-same (at-loop .loop .inv) (skip .skip-higher .ensures) (asked .0) (asked .1) (skip .before .loop-test .taken)
+    (omega (arith, c .before .before .before .if1 .left)) (c .if2 .left)
+
+returns-3 : tie.Need-returns-3 Inv-loop μ-loop
+returns-3 c = trimming-end (c .before .loop .inv) (c .loop-test .left)
+
+pub search-down-spec : {M : Type 1} → statement M
+search-down-spec =
+    tie.close
+    (tie.spec
+    Inv-loop
+    μ-loop
+    loop-holds
+    skip-higher-requires
+    returns
+    sub-if2
+    mul-if2
+    shared-slice-read-if2
+    sub-if2-2
+    mul-if2-2
+    shared-slice-read-if2-2
+    returns-2
+    sub-i
+    sub-j
+    loop-less
+    loop-again
+    returns-3)
