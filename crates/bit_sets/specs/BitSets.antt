@@ -6,7 +6,7 @@ use mathlib.Core.Bool.{Bool, _||_}
 use lib.Dec.{eqb}
 use lib.ListN.{length, getD}
 use Rattle.lists.specs.Lists.{onto, keep, memb, upto}
-use Rattle.lists.specs.Writing.{Room}
+use Rattle.lists.specs.Writing.{RoomFor}
 
 -- whether digit j of a word is 1
 abbrev pub bitAt : ℕ → ℕ → Bool
@@ -49,4 +49,4 @@ pub record InsertedAll (was new is : List ℕ) : Type 0 where
 -- the members fit 16 bits, and there is room for them from a place on
 pub record Drainable (words out : List ℕ) (at : ℕ) : Type 0 where
   pub small : 64 * length words ≤ 65536
-  pub room : Room out at (members words)
+  pub room : RoomFor out at (members words)

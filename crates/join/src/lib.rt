@@ -5,7 +5,7 @@ use crate::validate::test_join;
 use crate::validate::test_rule;
 use join_index::Layout;
 use join_index::build::build;
-use join_nodes::Settings;
+use join_nodes::WalkSettings;
 use join_nodes::Walked;
 use join_spec::JoinAnswer;
 use join_spec::Rule;
@@ -63,7 +63,7 @@ fn join_ready(
         rule,
         work,
     );
-    let st = Settings {
+    let st = WalkSettings {
         limit: limit as usize,
         rule: rule,
         budget: budget,

@@ -8,7 +8,7 @@ ghost use Rattle.join_spec.specs.PairList.{pairList};
 ghost use Rattle.join_spec.specs.Query.{Query};
 ghost use Rattle.join_spec.specs.Answer.{pairsAfter};
 ghost use Rattle.words.specs.flags.Flags.{Clear};
-ghost use Rattle.join_index.specs.Asking.{Some};
+ghost use Rattle.join_index.specs.Asking.{SomeQuery};
 ghost use Rattle.join.specs.output.Output.{AnswerRoom};
 
 // Writes the pair list of a join that answers with counts, and zeros after a refusal.
@@ -20,7 +20,7 @@ pub fn write_answer(
     answer: JoinAnswer,
     pairs: &mut [u16],
 )
-    requires { ⌜ Some (λ q. AnswerRoom lay q (now work) lefts answer (now pairs)) ⌝ }
+    requires { ⌜ SomeQuery (λ q. AnswerRoom lay q (now work) lefts answer (now pairs)) ⌝ }
     requires { ⌜ Clear (now flags) ⌝ }
     ensures { λ _. ⌜ ((q : Query) → AnswerRoom lay q (now (work .entry)) lefts answer (now (pairs .entry))
         → now (pairs .exit) ≡ pairsAfter answer (pairList (q .lefts) (q .rights)) (now (pairs .entry))) ⌝ }

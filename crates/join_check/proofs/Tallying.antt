@@ -1,5 +1,5 @@
 -- Counters that are raised step by step: what they have, with what remains, is what they had with all. One text for the checks
--- of a row and of a run. And what remains of a left set decides its check.
+-- of a row and of a range. And what remains of a left set decides its check.
 use Prim.Native.Nat.{ℕ, _+_, _≤_, _<_}
 use mathlib.Core.Path.{_≡_, refl, sym, ap, ap₂, _∙_}
 use mathlib.Core.List.{List, []}

@@ -13,7 +13,7 @@ use Rattle.join_index.specs.declared.Layout.{Layout}
 use Rattle.join_check.specs.declared.Tally.{Tally}
 use Rattle.join_index.specs.Asking.{LeftThere, PlacesThere}
 use Rattle.join_check.specs.Counters.{checksIn, Tallied}
-use Rattle.join_index.specs.Runs.{run}
+use Rattle.join_index.specs.Ranges.{range}
 
 -- the check of the left set k and the right set s
 abbrev pub checkAt : Query → ℕ → ℕ → Outcome
@@ -24,8 +24,8 @@ abbrev pub rowCount : Query → (Outcome → Bool) → List ℕ → ℕ → ℕ
 rowCount q is places k = count (λ s. is (checkAt q k s)) places
 
 -- how many checks of the left sets against the places end so
-abbrev pub runCount : Query → (Outcome → Bool) → List ℕ → List ℕ → ℕ
-runCount q is places lefts = sum (rowCount q is places) lefts
+abbrev pub rangeCount : Query → (Outcome → Bool) → List ℕ → List ℕ → ℕ
+rangeCount q is places lefts = sum (rowCount q is places) lefts
 
 -- whether each of the right sets is a candidate of the left set k after its first e ranks
 abbrev pub areCandidates : Query → ℕ → List ℕ → ℕ → Bool
@@ -38,19 +38,19 @@ pub record RowThere (lay : Layout) (q : Query) (w : List ℕ) (k e from to : ℕ
   pub candidates : areCandidates q e (slice from to w) k ≡ true
 
 -- the left sets at the places lo up to hi of the order can be checked so
-pub record RunsThere (lay : Layout) (q : Query) (w : List ℕ) (e lo hi from to : ℕ) : Type 0 where
+pub record RangesThere (lay : Layout) (q : Query) (w : List ℕ) (e lo hi from to : ℕ) : Type 0 where
   pub places : PlacesThere lay q w from to
   pub within : hi ≤ length (q .lefts)
-  pub candidates : all (areCandidates q e (slice from to w)) (run lay w lo hi) ≡ true
+  pub candidates : all (areCandidates q e (slice from to w)) (range lay w lo hi) ≡ true
 
 -- one left set was checked against each of the places
 pub record RowChecked (lay : Layout) (w : List ℕ) (k e from to : ℕ) (tally r : Tally) : Type 0 where
   pub grown : checksIn r ≡ checksIn tally + (to - from)
   pub tallied : (q : Query) → RowThere lay q w k e from to → Tallied (λ is. rowCount q is (slice from to w) k) tally r
 
--- each left set of a run was checked against each of the places
-pub record RunsChecked (lay : Layout) (w : List ℕ) (e lo hi from to : ℕ) (tally r : Tally) : Type 0 where
+-- each left set of a range was checked against each of the places
+pub record RangesChecked (lay : Layout) (w : List ℕ) (e lo hi from to : ℕ) (tally r : Tally) : Type 0 where
   pub grown : checksIn r ≡ checksIn tally + (hi - lo) * (to - from)
   pub tallied :
-      (q : Query) → RunsThere lay q w e lo hi from to
-      → Tallied (λ is. runCount q is (slice from to w) (run lay w lo hi)) tally r
+      (q : Query) → RangesThere lay q w e lo hi from to
+      → Tallied (λ is. rangeCount q is (slice from to w) (range lay w lo hi)) tally r

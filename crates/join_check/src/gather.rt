@@ -3,18 +3,18 @@
 use crate::Tally;
 use crate::check_row;
 use crate::keys::key_at;
-use crate::keys::run_end;
+use crate::keys::range_end;
 use join_index::Layout;
 use words::word_at;
 ghost use Prim.Native.Nat.{_+_, _-_, _*_, _<_};
 ghost use Rattle.sets.specs.Limits.{fullWords};
-ghost use Rattle.join_index.specs.Asking.{Some};
-ghost use Rattle.join_check.specs.Checks.{RunsThere, RunsChecked};
+ghost use Rattle.join_index.specs.Asking.{SomeQuery};
+ghost use Rattle.join_check.specs.Checks.{RangesThere, RangesChecked};
 ghost use Rattle.join_check.specs.Counters.{checksIn};
 
 // Checks the left sets at the places lo up to hi of the order, after their first e ranks, against each right set whose place
 // stands from one place of the work list up to another.
-pub fn check_run(
+pub fn check_range(
     work: &[u32],
     lay: Layout,
     e: usize,
@@ -24,11 +24,11 @@ pub fn check_run(
     to: usize,
     tally: Tally,
 ) -> Tally
-    requires { ⌜ Some (λ q. RunsThere lay q (now work) e lo hi from to) ⌝ }
+    requires { ⌜ SomeQuery (λ q. RangesThere lay q (now work) e lo hi from to) ⌝ }
     requires { ⌜ checksIn tally + (hi - lo) * (to - from) < fullWords ⌝ }
-    ensures { λ r. ⌜ RunsChecked lay (now (work .entry)) e lo hi from to tally r ⌝ }
+    ensures { λ r. ⌜ RangesChecked lay (now (work .entry)) e lo hi from to tally r ⌝ }
 {
-    let order = lay.order;
+    let order = lay.left_order;
     let mut r = tally;
     let mut i = lo;
     while i < hi {
@@ -39,7 +39,7 @@ pub fn check_run(
     r
 }
 
-// The same by the tree: the left sets at those places share their first d ranks. Those that end there are checked, and each run
+// The same by the tree: the left sets at those places share their first d ranks. Those that end there are checked, and each range
 // with the same next rank is a child, gathered in turn; at the limit all are checked.
 pub fn gather(
     work: &[u32],
@@ -53,22 +53,22 @@ pub fn gather(
     to: usize,
     tally: Tally,
 ) -> Tally
-    requires { ⌜ Some (λ q. RunsThere lay q (now work) e lo hi from to) ⌝ }
+    requires { ⌜ SomeQuery (λ q. RangesThere lay q (now work) e lo hi from to) ⌝ }
     requires { ⌜ checksIn tally + (hi - lo) * (to - from) < fullWords ⌝ }
-    ensures { λ r. ⌜ RunsChecked lay (now (work .entry)) e lo hi from to tally r ⌝ }
+    ensures { λ r. ⌜ RangesChecked lay (now (work .entry)) e lo hi from to tally r ⌝ }
 {
     if limit <= d {
-        return check_run(work, lay, e, lo, hi, from, to, tally);
+        return check_range(work, lay, e, lo, hi, from, to, tally);
     }
-    let order = lay.order;
+    let order = lay.left_order;
     let mut r = tally;
     let mut i = lo;
     while i < hi {
         let k = word_at(work, order + i);
         let key = key_at(work, lay, k, d);
-        let j = run_end(work, lay, d, i, hi);
+        let j = range_end(work, lay, d, i, hi);
         if key == 0 {
-            r = check_run(work, lay, e, i, j, from, to, r);
+            r = check_range(work, lay, e, i, j, from, to, r);
         } else {
             r = gather(work, lay, limit, d + 1, e, i, j, from, to, r);
         }

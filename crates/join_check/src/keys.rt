@@ -1,4 +1,4 @@
-// What the walk reads off the index to part the left sets and to weigh a node: the key of a left set at a depth, where a run with
+// What the walk reads off the index to part the left sets and to weigh a node: the key of a left set at a depth, where a range with
 // the same key ends, how many right sets are seen, and whether any holds a rank. The work list is read by its layout.
 use join_index::Layout;
 use words::number;
@@ -8,15 +8,15 @@ ghost use mathlib.Core.List.{[]};
 ghost use mathlib.Core.Bool.{false};
 ghost use Rattle.join_spec.specs.Query.{Query};
 ghost use Rattle.join_index.specs.Ground.{invertedList};
-ghost use Rattle.join_index.specs.Asking.{Some, RankThere, LeftThere, RunThere, RightThere, PlacesThere};
+ghost use Rattle.join_index.specs.Asking.{SomeQuery, RankThere, LeftThere, RangeThere, RightThere, PlacesThere};
 ghost use Rattle.join_index.specs.Grouping.{keyAt, rightAt};
-ghost use Rattle.join_index.specs.Runs.{RunEnd};
+ghost use Rattle.join_index.specs.Ranges.{RangeEnd};
 ghost use Rattle.lists.specs.Lists.{count, slice};
 ghost use Rattle.join_spec.specs.Node.{seen};
 
 // Whether a right set holds the rank r.
 pub fn is_held(work: &[u32], lay: Layout, r: usize) -> bool
-    requires { ⌜ Some (λ q. RankThere lay q (now work) r) ⌝ }
+    requires { ⌜ SomeQuery (λ q. RankThere lay q (now work) r) ⌝ }
     ensures { λ b. ⌜ ((q : Query) → RankThere lay q (now (work .entry)) r → b ≡ false → invertedList q r ≡ []) ⌝ }
 {
     let offsets = lay.offsets;
@@ -25,7 +25,7 @@ pub fn is_held(work: &[u32], lay: Layout, r: usize) -> bool
 
 // The key of the left set k at depth d: 0 where it has no further rank, else one more than the rank.
 pub fn key_at(work: &[u32], lay: Layout, k: usize, d: usize) -> usize
-    requires { ⌜ Some (λ q. LeftThere lay q (now work) k) ⌝ }
+    requires { ⌜ SomeQuery (λ q. LeftThere lay q (now work) k) ⌝ }
     ensures { λ r. ⌜ ((q : Query) → LeftThere lay q (now (work .entry)) k → r ≡ keyAt q d k) ⌝ }
 {
     let starts = lay.left_starts;
@@ -38,12 +38,12 @@ pub fn key_at(work: &[u32], lay: Layout, k: usize, d: usize) -> usize
     word_at(work, ranks + from + d) + 1
 }
 
-// Where the run of left sets with the same key at depth d ends that begins at place i of the order.
-pub fn run_end(work: &[u32], lay: Layout, d: usize, i: usize, hi: usize) -> usize
-    requires { ⌜ Some (λ q. RunThere lay q (now work) i hi) ⌝ }
-    ensures { λ r. ⌜ RunEnd lay (now (work .entry)) d i hi r ⌝ }
+// Where the range of left sets with the same key at depth d ends that begins at place i of the order.
+pub fn range_end(work: &[u32], lay: Layout, d: usize, i: usize, hi: usize) -> usize
+    requires { ⌜ SomeQuery (λ q. RangeThere lay q (now work) i hi) ⌝ }
+    ensures { λ r. ⌜ RangeEnd lay (now (work .entry)) d i hi r ⌝ }
 {
-    let order = lay.order;
+    let order = lay.left_order;
     let first = word_at(work, order + i);
     let key = key_at(work, lay, first, d);
     let mut j = i + 1;
@@ -59,7 +59,7 @@ pub fn run_end(work: &[u32], lay: Layout, d: usize, i: usize, hi: usize) -> usiz
 
 // Whether the right set s is seen.
 fn is_seen(work: &[u32], lay: Layout, s: usize, r: usize) -> bool
-    requires { ⌜ Some (λ q. RightThere lay q (now work) s) ⌝ }
+    requires { ⌜ SomeQuery (λ q. RightThere lay q (now work) s) ⌝ }
     ensures { λ b. ⌜ ((q : Query) → RightThere lay q (now (work .entry)) s → b ≡ seen r (rightAt q s)) ⌝ }
 {
     let starts = lay.right_starts;
@@ -75,7 +75,7 @@ fn is_seen(work: &[u32], lay: Layout, s: usize, r: usize) -> bool
 
 // How many of the right sets whose places stand from one place of the work list up to another are seen.
 pub fn count_seen(work: &[u32], lay: Layout, from: usize, to: usize, r: usize) -> usize
-    requires { ⌜ Some (λ q. PlacesThere lay q (now work) from to) ⌝ }
+    requires { ⌜ SomeQuery (λ q. PlacesThere lay q (now work) from to) ⌝ }
     ensures { λ n. ⌜ ((q : Query) → PlacesThere lay q (now (work .entry)) from to
         → n ≡ count (λ s. seen r (rightAt q s)) (slice from to (now (work .entry)))) ⌝ }
 {

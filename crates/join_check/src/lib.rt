@@ -8,7 +8,7 @@ ghost use Prim.Native.Nat.{_+_, _-_, _*_, _<_};
 ghost use Rattle.sets.specs.Limits.{fullWords};
 ghost use Rattle.words.specs.Merges.{Rising};
 ghost use Rattle.join_spec.specs.Query.{Query};
-ghost use Rattle.join_index.specs.Asking.{Some, LeftThere, RightThere};
+ghost use Rattle.join_index.specs.Asking.{SomeQuery, LeftThere, RightThere};
 ghost use Rattle.join_check.specs.Checks.{RowThere, RowChecked};
 ghost use Rattle.join_check.specs.Counters.{checksIn};
 ghost use Rattle.join_check.specs.Probes.{Probed, outcomeOf, probeOutcome, OneChecked};
@@ -54,7 +54,7 @@ fn is_upward(e: usize, ranks: usize) -> bool {
 
 // What remains of the left set k after its first e ranks; no rank where it has fewer.
 pub fn probe_left(work: &[u32], lay: Layout, k: usize, e: usize) -> Probe
-    requires { ⌜ Some (λ q. LeftThere lay q (now work) k) ⌝ }
+    requires { ⌜ SomeQuery (λ q. LeftThere lay q (now work) k) ⌝ }
     ensures { λ p. ⌜ Probed lay (now (work .entry)) k e p ⌝ }
 {
     let starts = lay.left_starts;
@@ -82,7 +82,7 @@ pub fn probe_left(work: &[u32], lay: Layout, k: usize, e: usize) -> Probe
 
 // Checks what remains of a left set against the right set s: signatures first, then ranks.
 pub fn check_probe(work: &[u32], lay: Layout, p: Probe, s: usize) -> Checked
-    requires { ⌜ Some (λ q. RightThere lay q (now work) s) ⌝ }
+    requires { ⌜ SomeQuery (λ q. RightThere lay q (now work) s) ⌝ }
     requires { ⌜ Rising (p .from) (p .to) (now work) ⌝ }
     ensures { λ r. ⌜ ((q : Query) → RightThere lay q (now (work .entry)) s
         → outcomeOf r ≡ probeOutcome q (now (work .entry)) p s) ⌝ }
@@ -106,7 +106,7 @@ pub fn check_probe(work: &[u32], lay: Layout, p: Probe, s: usize) -> Checked
 
 // The same, and counts the check.
 pub fn check_one(work: &[u32], lay: Layout, p: Probe, s: usize, tally: Tally) -> Tally
-    requires { ⌜ Some (λ q. RightThere lay q (now work) s) ⌝ }
+    requires { ⌜ SomeQuery (λ q. RightThere lay q (now work) s) ⌝ }
     requires { ⌜ Rising (p .from) (p .to) (now work) ⌝ }
     requires { ⌜ checksIn tally + 1 < fullWords ⌝ }
     ensures { λ r. ⌜ OneChecked lay (now (work .entry)) p s tally r ⌝ }
@@ -145,7 +145,7 @@ pub fn check_row(
     to: usize,
     tally: Tally,
 ) -> Tally
-    requires { ⌜ Some (λ q. RowThere lay q (now work) k e from to) ⌝ }
+    requires { ⌜ SomeQuery (λ q. RowThere lay q (now work) k e from to) ⌝ }
     requires { ⌜ checksIn tally + (to - from) < fullWords ⌝ }
     ensures { λ r. ⌜ RowChecked lay (now (work .entry)) k e from to tally r ⌝ }
 {

@@ -12,7 +12,7 @@ use Rattle.join_index.specs.Ground.{Ground}
 use Rattle.join_index.specs.declared.Layout.{Layout}
 
 -- there is a query of which it holds
-pub record Some (P : Query → Type 0) : Type 0 where
+pub record SomeQuery (P : Query → Type 0) : Type 0 where
   pub query : Query
   pub holds : P query
 
@@ -27,7 +27,7 @@ pub record LeftThere (lay : Layout) (q : Query) (w : List ℕ) (k : ℕ) : Type 
   pub below : k < length (q .lefts)
 
 -- the places i up to hi of the order are there, and are not none
-pub record RunThere (lay : Layout) (q : Query) (w : List ℕ) (i hi : ℕ) : Type 0 where
+pub record RangeThere (lay : Layout) (q : Query) (w : List ℕ) (i hi : ℕ) : Type 0 where
   pub index : Index lay q w
   pub some : i < hi
   pub within : hi ≤ length (q .lefts)

@@ -61,7 +61,7 @@ pub record Ground (lay : Layout) (q : Query) (w : List ℕ) : Type 0 where
   pub seenFirst :
       asksSeen (q .rule) ≡ true → (r : ℕ) → r < q .T
       → Listing (length (q .rights)) (λ s. seen r (rightAt q s)) (slice (lay .«by_least») (lay .«by_least» + seenCount lay w r) w)
-  pub ordered : RegionHolds w (lay .slots) (lay .order) (lay .order + length (q .lefts)) (orderOf q)
+  pub ordered : RegionHolds w (lay .slots) (lay .«left_order») (lay .«left_order» + length (q .lefts)) (orderOf q)
   -- the regions that are read by place lie below the slots
   pub leftStartsWithin : lay .«left_starts» + suc (length (q .lefts)) ≤ lay .slots
   pub rightStartsWithin : lay .«right_starts» + suc (length (q .rights)) ≤ lay .slots

@@ -3,7 +3,7 @@
 pub mod Grouping
 pub mod Ground
 pub mod Asking
-pub mod Runs
+pub mod Ranges
 pub mod regions
 pub mod stages
 pub mod build

@@ -30,7 +30,7 @@ pub struct Layout {
     // The right sets by least rank, and then the empty ones. Both are filled only where the rule asks which right sets are seen.
     pub by_least: usize,
     // The left sets, so that those with a common prefix stand together.
-    pub order: usize,
+    pub left_order: usize,
     // Two words a set, low then high.
     pub right_signatures: usize,
     pub left_signatures: usize,

@@ -50,7 +50,7 @@ pub fn lay_out(
         left_ranks: left_ranks,
         least_offsets: least_offsets,
         by_least: by_least,
-        order: order,
+        left_order: order,
         right_signatures: right_signatures,
         left_signatures: left_signatures,
         slots: slots,

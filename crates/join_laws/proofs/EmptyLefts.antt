@@ -21,7 +21,7 @@ use Rattle.join_spec.specs.declared.JoinAnswer.the-variants.{Joined}
 use Rattle.join_spec.specs.PairList.{countPairs, pairCount}
 use Rattle.join_spec.specs.Query.{Settings, Query, queryOf, inOrder}
 use Rattle.join_spec.specs.Node.{goesOn, goesOnAt, candidates, holders, beginning}
-use Rattle.join_spec.specs.Walk.{Ending, ending, endingFrom, endingIn}
+use Rattle.join_spec.specs.Walk.{Ending, ending, endingFrom, goes, endingIn}
 use Rattle.join_spec.specs.Walk.{Outcome, notMet, byPath, check, outcomeAfter, outcome}
 use Rattle.join_spec.specs.Answer.{RunCall}
 use Rattle.join_spec.specs.Counting.{total, isByPath, isConfirmed, isCheck, isDropped, isFalse, countsOf}
@@ -49,10 +49,6 @@ outcome-empty q right = outcome-ended q [] right (ordered-nil (q .T) (q .ranks))
 some : (i : ℕ) (items : List ℕ) → hasItem (i ∷ items) ≡ true
 some i items = lt-ltb 0 (length (i ∷ items)) (omega arith)
 
--- whether the walk of a query goes on at a node
-abbrev goes : Query → List ℕ → Bool
-goes q path = goesOnAt (q .rule) (map (inOrder q) (q .lefts)) (map (inOrder q) (q .rights)) path
-
 module _ (q : Query) where
   -- no empty left set begins with a path
   same-beginning : (r : ℕ) (path : List ℕ)
@@ -70,7 +66,7 @@ module _ (q : Query) where
 
   -- so the rule decides the same at every node
   same-goes : (r : ℕ) (path : List ℕ) → goes (withoutEmpty q) (r ∷ path) ≡ goes q (r ∷ path)
-  unfolding goesOnAt withoutEmpty
+  unfolding goes goesOnAt withoutEmpty
   same-goes r path =
       ap
       (goesOn (q .rule) (candidates (map (inOrder q) (q .rights)) (r ∷ path)) (holders (map (inOrder q) (q .rights)) (r ∷ path)))

@@ -1,4 +1,4 @@
--- What stays the same at a node while only slots from its last rank on change: the index, the offsets, and the order's runs.
+-- What stays the same at a node while only slots from its last rank on change: the index, the offsets, and the order's ranges.
 use Prim.Native.Nat.{ℕ, _+_, _≤_, _<_}
 use mathlib.Core.Path.{_≡_, refl, ap, _∙_}
 use mathlib.Core.List.{List}
@@ -9,7 +9,7 @@ use Rattle.join_spec.specs.Query.{Query}
 use Rattle.join_index.specs.Ground.{offsetOf}
 use Rattle.join_index.specs.declared.Layout.{Layout}
 use Rattle.join_index.specs.Asking.{Index}
-use Rattle.join_index.specs.Runs.{run}
+use Rattle.join_index.specs.Ranges.{range}
 use Rattle.join_index.proofs.Reading.{index-frame}
 use Rattle.join_nodes.specs.Narrowing.{slotOf}
 use Rattle.join_nodes.specs.Visiting.{Framed}
@@ -36,9 +36,9 @@ module _ {lay : Layout} {q : Query} {w w′ : List ℕ} {slot : ℕ} (index : In
   pub slot-framed : (r : ℕ) → r ≤ q .T → slotOf lay w′ r ≡ slotOf lay w r
   slot-framed r h = ap (λ (n : ℕ). lay .slots + n) (offset-framed r h)
 
-  pub run-framed : (lo hi : ℕ) → hi ≤ length (q .lefts) → run lay w′ lo hi ≡ run lay w lo hi
-  run-framed lo hi few =
-      frame-slice (lay .order + lo) (lay .order + hi) (lay .slots) w w′ (omega (arith, index .ground .ordered .within)) base
+  pub range-framed : (lo hi : ℕ) → hi ≤ length (q .lefts) → range lay w′ lo hi ≡ range lay w lo hi
+  range-framed lo hi few =
+      frame-slice (lay .«left_order» + lo) (lay .«left_order» + hi) (lay .slots) w w′ (omega (arith, index .ground .ordered .within)) base
 
 pub framed-none : (slot : ℕ) (w : List ℕ) → Framed slot w w
 framed-none slot w = record { size = refl; frame = refl }

@@ -1,4 +1,4 @@
--- Laws of a node, without code: what a row is where a walk ends or goes on, the runs of left sets in the order, the decision and the
+-- Laws of a node, without code: what a row is where a walk ends or goes on, the ranges of left sets in the order, the decision and the
 -- candidates at a node, and how visits of one part after another make one.
 pub mod Asked
 pub mod PathLaws
@@ -9,7 +9,7 @@ pub mod NodeLaws
 pub mod Narrowing
 pub mod CandidateLaws
 pub mod VisitLaws
-pub mod RunLaws
+pub mod RangeLaws
 pub mod NodeFacts
 pub mod FrameLaws
 pub mod PartLoop

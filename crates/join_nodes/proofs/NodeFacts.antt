@@ -1,5 +1,5 @@
 -- What a node's record gives the code: its first left set begins with its path, so the path's ranks can be read off that set;
--- and its three numbers are the lengths of its run and of its candidates, and a count over an inverted list.
+-- and its three numbers are the lengths of its range and of its candidates, and a count over an inverted list.
 use Prim.Native.Nat.{ℕ, suc, _+_, _-_, _≤_, _<_}
 use mathlib.Core.Path.{_≡_, refl, sym, ap, subst, _∙_}
 use mathlib.Core.List.{List, map}
@@ -20,19 +20,18 @@ use Rattle.join_spec.specs.declared.Rule.{Rule}
 use Rattle.join_spec.specs.declared.Rule.the-variants.{Merge, Check, Weighed}
 use Rattle.join_spec.specs.Query.{Query, inOrder}
 use Rattle.join_spec.specs.Node.{seen, firstOf, lastOf, candidates, holders, beginning, goesOn, goesOnAt}
-use Rattle.join_spec.specs.Walk.{isCandidate}
+use Rattle.join_spec.specs.Walk.{isCandidate, goes}
 use Rattle.join_index.specs.Grouping.{leftAt, rightAt, keyAt}
 use Rattle.counting_sort.specs.Holding.{RegionHolds}
 use Rattle.join_index.specs.Ground.{invertedList, asksSeen}
 use Rattle.join_index.specs.declared.Layout.{Layout}
 use Rattle.join_index.proofs.GroundLaws.{slot-bound}
 use Rattle.join_index.specs.Asking.{Index, LeftThere, PlacesThere}
-use Rattle.join_index.specs.Runs.{leftIn}
+use Rattle.join_index.specs.Ranges.{leftIn}
 use Rattle.words.specs.Words.{Word}
 use Rattle.join_index.proofs.Orders.{order-left}
-use Rattle.join_nodes.specs.Rows.{goes}
 use Rattle.join_nodes.specs.Visiting.{OnPath, NodeAt}
-use Rattle.join_nodes.proofs.RunLaws.{run-length, begins-first}
+use Rattle.join_nodes.proofs.RangeLaws.{range-length, begins-first}
 use Rattle.join_nodes.proofs.Prefixes.{prefix-take, prefix-length}
 use Rattle.join_nodes.proofs.NodeLaws.{beginning-is, candidates-is, holders-is, goes-is}
 use Rattle.join_nodes.proofs.Narrowing.{listing-length}
@@ -56,10 +55,10 @@ module _ {lay : Layout} {q : Query} {path w : List ℕ} {lo i : ℕ} (on : OnPat
   on-key = rw (lt-leb (length (leftAt q (leftIn lay w lo))) i on-deep) (ap suc (sym on-rank))
 
   -- the left set as it was read, and its key
-  pub on-word : {k : ℕ} → Word w (lay .order + lo) k → LeftThere lay q w k
+  pub on-word : {k : ℕ} → Word w (lay .«left_order» + lo) k → LeftThere lay q w k
   on-word word = subst (λ (n : ℕ). LeftThere lay q w n) (sym (word .is)) on-left
 
-  pub on-read : {k r : ℕ} → Word w (lay .order + lo) k → ((q : Query) → LeftThere lay q w k → r ≡ keyAt q i k)
+  pub on-read : {k r : ℕ} → Word w (lay .«left_order» + lo) k → ((q : Query) → LeftThere lay q w k → r ≡ keyAt q i k)
       → r ≡ suc (getD path i 0)
   on-read word read = read q (on-word word) ∙ ap (keyAt q i) (word .is) ∙ on-key
 
@@ -83,7 +82,7 @@ module _ {lay : Layout} {q : Query} {path w : List ℕ} {d lo hi from to : ℕ} 
   -- m
   pub node-lefts : beginning (map (inOrder q) (q .lefts)) path ≡ hi - lo
   node-lefts =
-      beginning-is q path (q .limit - d) d ∙ sym (ap length (node .lefts)) ∙ run-length lay q w lo hi index (node .few)
+      beginning-is q path (q .limit - d) d ∙ sym (ap length (node .lefts)) ∙ range-length lay q w lo hi index (node .few)
 
   candidates-within : to ≤ length w
   candidates-within =

@@ -1,4 +1,4 @@
--- The three numbers of a node, as the walk finds them: m is the length of its run of left sets, c that of its list of
+-- The three numbers of a node, as the walk finds them: m is the length of its range of left sets, c that of its list of
 -- candidates, and t a count over the inverted list of its last rank. And the candidates after a node: those before it that hold
 -- its last rank.
 use Prim.Native.Nat.{ℕ, zero, suc, _+_, _-_, _<_}
@@ -16,11 +16,10 @@ use Rattle.lists.proofs.Filtering.{length-keep, count-keep}
 use Rattle.lists.proofs.Ranges.{count-places}
 use Rattle.join_spec.specs.Query.{Query, inOrder}
 use Rattle.join_spec.specs.Node.{seen, firstOf, lastOf, frontOf, beginning, candidates, holders, goesOn, goesOnAt}
-use Rattle.join_spec.specs.Walk.{isCandidate}
+use Rattle.join_spec.specs.Walk.{isCandidate, goes}
 use Rattle.join_index.specs.Grouping.{leftAt, rightAt, keyAt, orderFrom}
 use Rattle.join_index.specs.Ground.{invertedList}
 use Rattle.join_index.proofs.Ordering.{keyAt-below}
-use Rattle.join_nodes.specs.Rows.{goes}
 use Rattle.join_nodes.proofs.Groups.{count-groups}
 
 -- the order holds every left place once

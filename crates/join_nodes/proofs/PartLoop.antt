@@ -11,17 +11,17 @@ use Rattle.lists.proofs.Bools.{true-false}
 use Rattle.join_spec.specs.Query.{Query}
 use Rattle.join_index.specs.declared.Layout.{Layout}
 use Rattle.join_index.specs.Asking.{Index}
-use Rattle.join_index.specs.Runs.{run}
+use Rattle.join_index.specs.Ranges.{range}
 use Rattle.join_check.specs.Counters.{checksIn}
 use Rattle.kept_rows.specs.Kept.{RowsKept}
-use Rattle.join_index.proofs.Orders.{run-none}
+use Rattle.join_index.proofs.Orders.{range-none}
 use Rattle.join_nodes.specs.Narrowing.{SomePath}
-use Rattle.join_nodes.specs.Visiting.{Visited, RunVisited}
+use Rattle.join_nodes.specs.Visiting.{Visited, RangeVisited}
 use Rattle.join_nodes.specs.declared.Progress.{Progress}
 use Rattle.join_nodes.specs.declared.Walked.{Walked}
-use Rattle.join_nodes.proofs.RunLaws.{run-split}
+use Rattle.join_nodes.proofs.RangeLaws.{range-split}
 use Rattle.join_nodes.proofs.VisitLaws.{added-none, visited-then, visited-early}
-use Rattle.join_nodes.proofs.FrameLaws.{run-framed, framed-none, framed-then}
+use Rattle.join_nodes.proofs.FrameLaws.{range-framed, framed-none, framed-then}
 
 -- what remains to be visited, at depth d and up to place hi: with the words w, from place i on, the walk being at p. Only words from
 -- a path's slot on change
@@ -36,7 +36,7 @@ module _ (lay : Layout) (budget d hi : ℕ) (slot : List ℕ → List ℕ → �
   -- the part up to place j was visited, and the words became w′
   pub record PartDone (q : Query) (path w : List ℕ) (i : ℕ) (p : Progress) (w′ : List ℕ) (j : ℕ) (one : Walked) : Type 0 where
     pub facts : Facts q path w
-    pub visit : RunVisited lay q budget (slot path w) d w w′ i j (p .tally) one
+    pub visit : RangeVisited lay q budget (slot path w) d w w′ i j (p .tally) one
     pub steady : slot path w′ ≡ slot path w
     pub next : one .spent ≡ false → Rest q path w′ j (one .at)
 
@@ -45,8 +45,8 @@ module _ (lay : Layout) (budget d hi : ℕ) (slot : List ℕ → List ℕ → �
     pub size : length w ≡ length w₀
     pub rest : (q : Query) (path : List ℕ) → Rest q path w₀ lo p₀ → Rest q path w i p
     pub whole : (q : Query) (path : List ℕ) → Rest q path w₀ lo p₀ → (w′ : List ℕ) (one : Walked)
-        → RunVisited lay q budget (slot path w) d w w′ i hi (p .tally) one
-        → RunVisited lay q budget (slot path w₀) d w₀ w′ lo hi (p₀ .tally) one
+        → RangeVisited lay q budget (slot path w) d w w′ i hi (p .tally) one
+        → RangeVisited lay q budget (slot path w₀) d w₀ w′ lo hi (p₀ .tally) one
 
   pub continuing-start : {w : List ℕ} {lo : ℕ} {p : Progress} → SomePath (λ q path. Rest q path w lo p)
       → Continuing w lo p w lo p
@@ -78,16 +78,16 @@ module _ {lay : Layout} {budget d hi : ℕ} {slot : List ℕ → List ℕ → �
                 framed = framed-then (omega (arith, part .steady)) (part .visit .framed) (done .framed);
                 visited =
                     subst (λ (l : List ℕ). Visited q budget d l (p .tally) two)
-                    (sym (run-split lay q w i j hi (known .index) low high (known .few)))
+                    (sym (range-split lay q w i j hi (known .index) low high (known .few)))
                     (visited-then (part .visit .visited .added calm)
                     (subst (λ (l : List ℕ). Visited q budget d l (one .at .tally) two)
-                    (run-framed (known .index) (part .visit .framed) (known .slots) j hi (known .few)) (done .visited)));
+                    (range-framed (known .index) (part .visit .framed) (known .slots) j hi (known .few)) (done .visited)));
                 rows = done .rows;
               });
         }
 
     pub continuing-spent : one .spent ≡ true → (q : Query) (path : List ℕ) → Rest q path w₀ lo p₀
-        → RunVisited lay q budget (slot path w₀) d w₀ w′ lo hi (p₀ .tally) one
+        → RangeVisited lay q budget (slot path w₀) d w₀ w′ lo hi (p₀ .tally) one
     continuing-spent spent q path first =
         let part = each q path (so .rest q path first) in
         let known = part .facts in
@@ -96,8 +96,8 @@ module _ {lay : Layout} {budget d hi : ℕ} {slot : List ℕ → List ℕ → �
           framed = part .visit .framed;
           visited =
               subst (λ (l : List ℕ). Visited q budget d l (p .tally) one)
-              (sym (run-split lay q w i j hi (known .index) low high (known .few)))
-              (visited-early (run lay w j hi) spent (part .visit .visited));
+              (sym (range-split lay q w i j hi (known .index) low high (known .few)))
+              (visited-early (range lay w j hi) spent (part .visit .visited));
           rows = part .visit .rows;
         })
 
@@ -105,13 +105,13 @@ module _ {lay : Layout} {budget d hi : ℕ} {slot : List ℕ → List ℕ → �
   pub continuing-end : hi ≤ i → checksIn (p .tally) ≤ budget
       → ((q : Query) (path : List ℕ) → Rest q path w i p → RowsKept lay q w (p .top)) → (q : Query) (path : List ℕ)
       → Rest q path w₀ lo p₀
-      → RunVisited lay q budget (slot path w₀) d w₀ w lo hi (p₀ .tally) (record { at = p; spent = false })
+      → RangeVisited lay q budget (slot path w₀) d w₀ w lo hi (p₀ .tally) (record { at = p; spent = false })
   continuing-end past covered kept q path first =
       so .whole q path first w (record { at = p; spent = false })
       (record {
         framed = framed-none (slot path w) w;
         visited = record {
-          added = λ calm. added-none q d (run-none lay w i hi past);
+          added = λ calm. added-none q d (range-none lay w i hi past);
           within = λ calm. covered;
           beyond = λ spent. true-false spent refl;
         };

@@ -48,7 +48,7 @@ prefix-further (p ∷ ps) r (x ∷ xs) =
     ∙ sym (ap (λ (b : Bool). eqb p x && prefix ps xs && eqb (cond b 0 (suc (getD xs (length ps) 0))) (suc r))
     (leb·suc-suc (length xs) (length ps)))
 
--- the left sets of a run with a further rank r are those that begin with the path and r
+-- the left sets of a range with a further rank r are those that begin with the path and r
 pub keep-further : (q : Query) (path : List ℕ) (r : ℕ) (l : List ℕ)
     → keep (λ k. eqb (keyAt q (length path) k) (suc r)) (keep (λ k. prefix path (leftAt q k)) l)
     ≡ keep (λ k. prefix (path ++ (r ∷ [])) (leftAt q k)) l

@@ -12,11 +12,11 @@ use lib.ListN.{length, take}
 use Rattle.lists.specs.Lists.{count, upto}
 use Rattle.lists.proofs.Counting.{count-same}
 use Rattle.join_spec.specs.Query.{Query}
-use Rattle.join_spec.specs.Walk.{Outcome, notMet, byPath, merged, checkedAfter, endingFrom, isCandidate}
+use Rattle.join_spec.specs.Walk.{Outcome, notMet, byPath, merged, checkedAfter, endingFrom, isCandidate, goes}
 use Rattle.join_index.specs.Grouping.{leftAt, rightAt}
 use Rattle.join_index.specs.Ground.{Listing}
 use Rattle.join_check.specs.Checks.{checkAt}
-use Rattle.join_nodes.specs.Rows.{goes, outcomeFrom, row, pathPairs}
+use Rattle.join_nodes.specs.Rows.{outcomeFrom, row, pathPairs}
 use Rattle.join_nodes.proofs.PathLaws.{paths-one}
 
 -- a kind of outcome that a pair which is not met does not have

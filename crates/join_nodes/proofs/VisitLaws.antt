@@ -21,7 +21,7 @@ use Rattle.join_check.proofs.Tallying.{tallied-same, tallied-sum}
 use Rattle.join_check.specs.declared.Tally.{Tally}
 use Rattle.join_nodes.specs.Rows.{row, outcomeFrom}
 use Rattle.join_nodes.specs.Visiting.{Underway, Added, Visited}
-use Rattle.join_nodes.specs.declared.Settings.{Settings}
+use Rattle.join_nodes.specs.declared.WalkSettings.{WalkSettings}
 use Rattle.join_nodes.specs.declared.Walked.{Walked}
 
 module _ (q : Query) (d : ℕ) where
@@ -118,7 +118,7 @@ module _ {q : Query} {d : ℕ} where
       }
 
   -- what remains to be counted after some rows were added
-  pub underway-next : {st : Settings} {tally r : Tally} {l : List ℕ} {n m : ℕ} → Underway st q tally n → Added q d l tally r
+  pub underway-next : {st : WalkSettings} {tally r : Tally} {l : List ℕ} {n m : ℕ} → Underway st q tally n → Added q d l tally r
       → n ≡ length l + m → checksIn r ≤ st .budget → Underway st q r m
   underway-next {st} {tally} {r} {l} {n} {m} before add split low =
       record {

@@ -1,18 +1,13 @@
 -- Inner: what one left set adds to the counts from a depth on, one row of the sums over left and right sets; and what left sets
 -- add that end at a node.
 use Prim.Native.Nat.{ℕ, _-_, _*_}
-use mathlib.Core.List.{List, [], map}
+use mathlib.Core.List.{List, []}
 use mathlib.Core.Bool.{Bool, cond}
 use lib.ListN.{length, getD}
 use Rattle.lists.specs.Lists.{count, upto}
-use Rattle.join_spec.specs.Query.{Query, inOrder}
-use Rattle.join_spec.specs.Node.{goesOnAt}
-use Rattle.join_spec.specs.Walk.{Outcome, byPath, endingFrom, check, outcomeAfter}
+use Rattle.join_spec.specs.Query.{Query}
+use Rattle.join_spec.specs.Walk.{Outcome, byPath, endingFrom, check, goes, outcomeAfter}
 use Rattle.join_index.specs.Grouping.{leftAt, rightAt}
-
--- whether the walk of a query goes on at a path
-unfoldable pub goes : Query → List ℕ → Bool
-goes q path = goesOnAt (q .rule) (map (inOrder q) (q .lefts)) (map (inOrder q) (q .rights)) path
 
 -- the outcome of left place k with right place s, its walk being at depth d
 unfoldable pub outcomeFrom : Query → ℕ → ℕ → ℕ → Outcome

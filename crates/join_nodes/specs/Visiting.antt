@@ -14,18 +14,18 @@ use Rattle.counting_sort.specs.Groups.{groupsFrom}
 use Rattle.join_index.specs.Grouping.{leftAt, keyAt, orderFrom}
 use Rattle.join_index.specs.declared.Layout.{Layout}
 use Rattle.join_index.specs.Asking.{Index}
-use Rattle.join_index.specs.Runs.{run, leftIn}
+use Rattle.join_index.specs.Ranges.{range, leftIn}
 use Rattle.join_check.specs.Counters.{checksIn, pairsIn, Tallied}
 use Rattle.join_check.specs.declared.Tally.{Tally}
 use Rattle.kept_rows.specs.Kept.{RowsKept}
 use Rattle.join_nodes.specs.Rows.{row, pathPairs}
 use Rattle.join_nodes.specs.Narrowing.{Candidates, candidateList, slotOf}
 use Rattle.join_nodes.specs.declared.Progress.{Progress}
-use Rattle.join_nodes.specs.declared.Settings.{Settings}
+use Rattle.join_nodes.specs.declared.WalkSettings.{WalkSettings}
 use Rattle.join_nodes.specs.declared.Walked.{Walked}
 
 -- the settings are the query's, the checks so far are within the budget, and there is room to count n further left sets
-pub record Underway (st : Settings) (q : Query) (tally : Tally) (n : ℕ) : Type 0 where
+pub record Underway (st : WalkSettings) (q : Query) (tally : Tally) (n : ℕ) : Type 0 where
   pub limit : st .limit ≡ q .limit
   pub shallow : q .limit ≤ maxLimit
   pub rule : st .rule ≡ q .rule
@@ -49,17 +49,17 @@ pub record NodeAt (lay : Layout) (q : Query) (path w : List ℕ) (d lo hi from t
   pub within : d ≤ q .limit
   pub some : lo < hi
   pub few : hi ≤ length (q .lefts)
-  pub lefts : run lay w lo hi ≡ beginners q path d
+  pub lefts : range lay w lo hi ≡ beginners q path d
 
 -- a node that is to be visited
-pub record Node (lay : Layout) (st : Settings) (q : Query) (path w : List ℕ) (d lo hi from to : ℕ) (p : Progress) : Type 0 where
+pub record Node (lay : Layout) (st : WalkSettings) (q : Query) (path w : List ℕ) (d lo hi from to : ℕ) (p : Progress) : Type 0 where
   pub at : NodeAt lay q path w d lo hi from to
   pub underway : Underway st q (p .tally) (hi - lo)
   pub rows : RowsKept lay q w (p .top)
 
 -- the left sets at the places lo up to hi go on after a path of d ranks and stand by their next rank: all that have one of some keys
 -- in a row there; the partitions are the children of the path without ranks
-pub record Children (lay : Layout) (st : Settings) (q : Query) (path w : List ℕ) (d lo hi : ℕ) (p : Progress) : Type 0 where
+pub record Children (lay : Layout) (st : WalkSettings) (q : Query) (path w : List ℕ) (d lo hi : ℕ) (p : Progress) : Type 0 where
   pub index : Index lay q w
   pub underway : Underway st q (p .tally) (hi - lo)
   pub rows : RowsKept lay q w (p .top)
@@ -71,7 +71,7 @@ pub record Children (lay : Layout) (st : Settings) (q : Query) (path w : List �
   pub span : ℕ
   pub keys : least + span ≤ suc (q .T)
   pub further : 0 < least
-  pub lefts : run lay w lo hi ≡ groupsFrom (keyAt q d) least span (beginners q path (suc d))
+  pub lefts : range lay w lo hi ≡ groupsFrom (keyAt q d) least span (beginners q path (suc d))
 
 -- the words from..to are the candidates after a path of d ranks, below the slots of all ranks beyond its last
 pub record After (lay : Layout) (q : Query) (path w : List ℕ) (d from to : ℕ) : Type 0 where
@@ -82,7 +82,7 @@ pub record After (lay : Layout) (q : Query) (path w : List ℕ) (d from to : ℕ
   pub holds : slice from to w ≡ candidateList q path d
 
 -- the children of a node that are to be visited
-pub record ChildrenAt (lay : Layout) (st : Settings) (q : Query) (path w : List ℕ) (d lo hi from to : ℕ)
+pub record ChildrenAt (lay : Layout) (st : WalkSettings) (q : Query) (path w : List ℕ) (d lo hi from to : ℕ)
     (p : Progress) : Type 0 where
   pub kids : Children lay st q path w d lo hi p
   pub after : After lay q path w d from to
@@ -108,17 +108,17 @@ pub record Framed (slot : ℕ) (w w′ : List ℕ) : Type 0 where
 
 -- the left sets at the places lo up to hi were visited at depth d: only words from a slot on changed, their rows were added, and the
 -- rows that are kept end at the new top
-pub record RunVisited (lay : Layout) (q : Query) (budget slot d : ℕ) (w w′ : List ℕ) (lo hi : ℕ) (tally : Tally)
+pub record RangeVisited (lay : Layout) (q : Query) (budget slot d : ℕ) (w w′ : List ℕ) (lo hi : ℕ) (tally : Tally)
     (r : Walked) : Type 0 where
   pub framed : Framed slot w w′
-  pub visited : Visited q budget d (run lay w lo hi) tally r
+  pub visited : Visited q budget d (range lay w lo hi) tally r
   pub rows : r .spent ≡ false → RowsKept lay q w′ (r .at .top)
 
 -- a node was visited: only slots of its last rank and beyond changed
-abbrev pub NodeVisited : Layout → Settings → Query → List ℕ → List ℕ → List ℕ → ℕ → ℕ → ℕ → Tally → Walked → Type 0
-NodeVisited lay st q path w w′ d lo hi tally r = RunVisited lay q (st .budget) (slotOf lay w (lastOf path)) d w w′ lo hi tally r
+abbrev pub NodeVisited : Layout → WalkSettings → Query → List ℕ → List ℕ → List ℕ → ℕ → ℕ → ℕ → Tally → Walked → Type 0
+NodeVisited lay st q path w w′ d lo hi tally r = RangeVisited lay q (st .budget) (slotOf lay w (lastOf path)) d w w′ lo hi tally r
 
 -- the children of a node were visited: only slots beyond its last rank changed
-abbrev pub ChildrenVisited : Layout → Settings → Query → List ℕ → List ℕ → List ℕ → ℕ → ℕ → ℕ → Tally → Walked → Type 0
+abbrev pub ChildrenVisited : Layout → WalkSettings → Query → List ℕ → List ℕ → List ℕ → ℕ → ℕ → ℕ → Tally → Walked → Type 0
 ChildrenVisited lay st q path w w′ d lo hi tally r =
-    RunVisited lay q (st .budget) (slotOf lay w (suc (lastOf path))) (suc d) w w′ lo hi tally r
+    RangeVisited lay q (st .budget) (slotOf lay w (suc (lastOf path))) (suc d) w w′ lo hi tally r

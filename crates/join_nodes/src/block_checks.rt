@@ -1,13 +1,13 @@
 // The checks of a block of left sets against every right set of a list, made only where the budget covers all of them.
 use crate::Progress;
-use crate::Settings;
+use crate::WalkSettings;
 use crate::Walked;
 use join_check::Tally;
 use join_check::gather::gather;
 use join_index::Layout;
 ghost use Prim.Native.Nat.{_≤_};
-ghost use Rattle.join_index.specs.Asking.{Some};
-ghost use Rattle.join_check.specs.Checks.{RunsThere};
+ghost use Rattle.join_index.specs.Asking.{SomeQuery};
+ghost use Rattle.join_check.specs.Checks.{RangesThere};
 ghost use Rattle.join_check.specs.Counters.{checksIn};
 ghost use Rattle.join_nodes.specs.block_checks.BlockChecks.{Covered, Small, Blocked};
 
@@ -26,7 +26,7 @@ pub fn covers(budget: u32, tally: Tally, checks: usize) -> bool
 pub fn check_block(
     work: &[u32],
     lay: Layout,
-    st: Settings,
+    st: WalkSettings,
     d: usize,
     e: usize,
     lo: usize,
@@ -35,7 +35,7 @@ pub fn check_block(
     to: usize,
     p: Progress,
 ) -> Walked
-    requires { ⌜ Some (λ q. RunsThere lay q (now work) e lo hi from to) ⌝ }
+    requires { ⌜ SomeQuery (λ q. RangesThere lay q (now work) e lo hi from to) ⌝ }
     requires { ⌜ Small (st .budget) lo hi from to (p .tally) ⌝ }
     ensures { λ r. ⌜ Blocked lay (now (work .entry)) (st .budget) e lo hi from to p r ⌝ }
 {

@@ -1,12 +1,12 @@
 // What becomes of the left sets of a node that have no child to visit: checks, and pairs by path, with the rows that are kept.
 use crate::Progress;
-use crate::Settings;
+use crate::WalkSettings;
 use crate::Walked;
 use crate::block_checks::check_block;
 use crate::block_checks::covers;
 use join_check::Tally;
 use join_check::keys::key_at;
-use join_check::keys::run_end;
+use join_check::keys::range_end;
 use join_index::Layout;
 use kept_rows::checked::record_row;
 use kept_rows::keep_list;
@@ -15,14 +15,14 @@ ghost use mathlib.Core.List.{List};
 ghost use Prim.Native.Nat.{ℕ, _+_, _-_, _≤_, _<_};
 ghost use Rattle.sets.specs.Limits.{maxPairs};
 ghost use Rattle.join_spec.specs.Query.{Query};
-ghost use Rattle.join_index.specs.Asking.{Some, RunThere};
+ghost use Rattle.join_index.specs.Asking.{SomeQuery, RangeThere};
 ghost use Rattle.join_spec.specs.Counting.{isByPath};
 ghost use Rattle.join_check.specs.Counters.{checksIn};
 ghost use Rattle.kept_rows.specs.Keeping.{ListThere};
-ghost use Rattle.kept_rows.specs.checked.Recording.{RecordThere};
+ghost use Rattle.kept_rows.specs.checked.Recording.{RowRecordable};
 ghost use Rattle.join_nodes.specs.Rows.{pathPairs};
 ghost use Rattle.join_nodes.specs.Narrowing.{SomePath};
-ghost use Rattle.join_nodes.specs.Visiting.{RunVisited, Merged};
+ghost use Rattle.join_nodes.specs.Visiting.{RangeVisited, Merged};
 ghost use Rattle.join_nodes.specs.blocks.Blocks.{MergedEnd, PairsKept, RowFinished, Going, AtLimit, Settles};
 
 // The left sets up to place mid were paired by path.
@@ -33,15 +33,15 @@ pub struct Settled {
 
 // Where the left sets end that have no rank after depth d; they stand first.
 pub fn merged_end(work: &[u32], lay: Layout, d: usize, lo: usize, hi: usize) -> usize
-    requires { ⌜ Some (λ q. RunThere lay q (now work) lo hi) ⌝ }
+    requires { ⌜ SomeQuery (λ q. RangeThere lay q (now work) lo hi) ⌝ }
     ensures { λ r. ⌜ MergedEnd lay (now (work .entry)) d lo hi r ⌝ }
 {
-    let order = lay.order;
+    let order = lay.left_order;
     let k = word_at(work, order + lo);
     if key_at(work, lay, k, d) != 0 {
         return lo;
     }
-    run_end(work, lay, d, lo, hi)
+    range_end(work, lay, d, lo, hi)
 }
 
 // Counts the pairs of m left sets that end at a node with the c candidates after it.
@@ -68,7 +68,7 @@ fn pair_ended(
     to: usize,
     p: Progress,
 ) -> Progress
-    requires { ⌜ Some (λ q. ListThere lay q (now work) lo hi from to (p .top)) ⌝ }
+    requires { ⌜ SomeQuery (λ q. ListThere lay q (now work) lo hi from to (p .top)) ⌝ }
     requires { ⌜ lo ≤ hi ⌝ }
     requires { ⌜ p .tally .«by_path» + pathPairs (hi - lo) (to - from) isByPath ≤ maxPairs ⌝ }
     ensures { λ r. ⌜ PairsKept lay (now (work .entry)) lo hi from to p (now (work .exit)) r ⌝ }
@@ -85,7 +85,7 @@ fn pair_ended(
 pub fn settle(
     work: &mut [u32],
     lay: Layout,
-    st: Settings,
+    st: WalkSettings,
     d: usize,
     lo: usize,
     hi: usize,
@@ -107,14 +107,14 @@ pub fn settle(
 fn finish_row(
     work: &mut [u32],
     lay: Layout,
-    st: Settings,
+    st: WalkSettings,
     k: usize,
     e: usize,
     from: usize,
     to: usize,
     p: Progress,
 ) -> Walked
-    requires { ⌜ Some (λ q. RecordThere lay q (now work) k e from to (p .top)) ⌝ }
+    requires { ⌜ SomeQuery (λ q. RowRecordable lay q (now work) k e from to (p .top)) ⌝ }
     requires { ⌜ from ≤ to ⌝ }
     requires { ⌜ checksIn (p .tally) ≤ st .budget ⌝ }
     ensures { λ r. ⌜ RowFinished lay (now (work .entry)) (st .budget) k e from to p (now (work .exit)) r ⌝ }
@@ -137,7 +137,7 @@ fn finish_row(
 fn finish_one(
     work: &mut [u32],
     lay: Layout,
-    st: Settings,
+    st: WalkSettings,
     d: usize,
     i: usize,
     from: usize,
@@ -146,9 +146,9 @@ fn finish_one(
 ) -> Walked
     requires { ⌜ SomePath (λ q path. AtLimit lay st q path (now work) d i (i + 1) from to p) ⌝ }
     ensures { λ r. ⌜ ((q : Query) (path : List ℕ) → AtLimit lay st q path (now (work .entry)) d i (i + 1) from to p
-        → RunVisited lay q (st .budget) (lay .«row_starts») d (now (work .entry)) (now (work .exit)) i (i + 1) (p .tally) r) ⌝ }
+        → RangeVisited lay q (st .budget) (lay .«row_starts») d (now (work .entry)) (now (work .exit)) i (i + 1) (p .tally) r) ⌝ }
 {
-    let order = lay.order;
+    let order = lay.left_order;
     let k = word_at(work, order + i);
     if key_at(work, lay, k, d) == 0 {
         let at = pair_ended(work, lay, i, i + 1, from, to, p);
@@ -167,7 +167,7 @@ fn finish_one(
 pub fn finish(
     work: &mut [u32],
     lay: Layout,
-    st: Settings,
+    st: WalkSettings,
     d: usize,
     lo: usize,
     hi: usize,
@@ -177,7 +177,7 @@ pub fn finish(
 ) -> Walked
     requires { ⌜ SomePath (λ q path. AtLimit lay st q path (now work) d lo hi from to p) ⌝ }
     ensures { λ r. ⌜ ((q : Query) (path : List ℕ) → AtLimit lay st q path (now (work .entry)) d lo hi from to p
-        → RunVisited lay q (st .budget) (lay .«row_starts») d (now (work .entry)) (now (work .exit)) lo hi (p .tally) r) ⌝ }
+        → RangeVisited lay q (st .budget) (lay .«row_starts») d (now (work .entry)) (now (work .exit)) lo hi (p .tally) r) ⌝ }
 {
     let mut r = p;
     let mut i = lo;

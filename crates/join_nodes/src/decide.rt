@@ -13,7 +13,7 @@ ghost use Rattle.sets.specs.Limits.{maxSets};
 ghost use Rattle.join_spec.specs.declared.Rule.the-variants.{Weighed};
 ghost use Rattle.join_spec.specs.Query.{Query};
 ghost use Rattle.join_spec.specs.Node.{goesOn};
-ghost use Rattle.join_nodes.specs.Rows.{goes};
+ghost use Rattle.join_spec.specs.Walk.{goes};
 ghost use Rattle.join_nodes.specs.Narrowing.{SomePath};
 ghost use Rattle.join_nodes.specs.Visiting.{OnPath, NodeAt};
 
@@ -22,7 +22,7 @@ pub fn rank_on(work: &[u32], lay: Layout, lo: usize, i: usize) -> usize
     requires { ⌜ SomePath (λ q path. OnPath lay q path (now work) lo i) ⌝ }
     ensures { λ r. ⌜ ((q : Query) (path : List ℕ) → OnPath lay q path (now (work .entry)) lo i → r ≡ getD path i 0) ⌝ }
 {
-    let order = lay.order;
+    let order = lay.left_order;
     let k = word_at(work, order + lo);
     key_at(work, lay, k, i) - 1
 }

@@ -1,6 +1,6 @@
 // A node where the walk goes on, up to the visit of its children.
 use crate::Progress;
-use crate::Settings;
+use crate::WalkSettings;
 use crate::blocks::finish;
 use crate::blocks::settle;
 use crate::decide::rank_on;
@@ -32,7 +32,7 @@ pub fn enter_node(
     work: &mut [u32],
     flags: &mut [u8],
     lay: Layout,
-    st: Settings,
+    st: WalkSettings,
     d: usize,
     lo: usize,
     hi: usize,

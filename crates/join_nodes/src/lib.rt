@@ -3,7 +3,7 @@ use join_check::Tally;
 use join_spec::Rule;
 
 // The settings that bear on the walk.
-pub struct Settings {
+pub struct WalkSettings {
     pub limit: usize,
     pub rule: Rule,
     pub budget: u32,

@@ -1,7 +1,7 @@
 // A left set that is alone at its node, under the rule that always goes on: it pairs by path with exactly the right sets that
 // contain it, however many of its ranks are left, so they are found at once.
 use crate::Progress;
-use crate::Settings;
+use crate::WalkSettings;
 use crate::blocks::add_paths;
 use join_check::Tally;
 use join_check::keys::key_at;
@@ -14,9 +14,9 @@ ghost use mathlib.Core.Path.{_≡_};
 ghost use mathlib.Core.List.{List};
 ghost use Prim.Native.Nat.{ℕ, _+_, _≤_};
 ghost use Rattle.join_spec.specs.Query.{Query};
-ghost use Rattle.join_index.specs.Asking.{Some, RunThere};
+ghost use Rattle.join_index.specs.Asking.{SomeQuery, RangeThere};
 ghost use Rattle.join_nodes.specs.Narrowing.{SomePath};
-ghost use Rattle.join_nodes.specs.Visiting.{RunVisited};
+ghost use Rattle.join_nodes.specs.Visiting.{RangeVisited};
 ghost use Rattle.join_nodes.specs.blocks.Blocks.{Going};
 ghost use Rattle.join_nodes.specs.lone.Lone.{Lone};
 
@@ -25,19 +25,19 @@ ghost use Rattle.join_nodes.specs.lone.Lone.{Lone};
 pub fn is_lone(
     work: &[u32],
     lay: Layout,
-    st: Settings,
+    st: WalkSettings,
     lo: usize,
     hi: usize,
     from: usize,
     to: usize,
     top: usize,
 ) -> bool
-    requires { ⌜ Some (λ q. RunThere lay q (now work) lo hi) ⌝ }
+    requires { ⌜ SomeQuery (λ q. RangeThere lay q (now work) lo hi) ⌝ }
     requires { ⌜ from ≤ to ⌝ }
     requires { ⌜ top ≤ lay .end ⌝ }
     ensures { λ r. ⌜ (r ≡ true → Lone lay st (now (work .entry)) lo hi from to top) ⌝ }
 {
-    let order = lay.order;
+    let order = lay.left_order;
     let limit = st.limit;
     let rule = st.rule;
     if hi - lo != 1 {
@@ -60,7 +60,7 @@ pub fn is_lone(
 pub fn pair_lone(
     work: &mut [u32],
     lay: Layout,
-    st: Settings,
+    st: WalkSettings,
     d: usize,
     lo: usize,
     from: usize,
@@ -70,10 +70,10 @@ pub fn pair_lone(
     requires { ⌜ SomePath (λ q path. Going lay st q path (now work) d lo (lo + 1) from to p) ⌝ }
     requires { ⌜ Lone lay st (now work) lo (lo + 1) from to (p .top) ⌝ }
     ensures { λ r. ⌜ ((q : Query) (path : List ℕ) → Going lay st q path (now (work .entry)) d lo (lo + 1) from to p
-        → RunVisited lay q (st .budget) (lay .«row_starts») d (now (work .entry)) (now (work .exit)) lo (lo + 1) (p .tally)
+        → RangeVisited lay q (st .budget) (lay .«row_starts») d (now (work .entry)) (now (work .exit)) lo (lo + 1) (p .tally)
         (record { at = r; spent = false })) ⌝ }
 {
-    let order = lay.order;
+    let order = lay.left_order;
     let k = word_at(work, order + lo);
     let none = Tally {
         by_path: 0,

@@ -7,7 +7,7 @@ use join_check::Probe;
 use join_check::probe_left;
 use join_index::Layout;
 ghost use Rattle.words.specs.flags.Flags.{Clear};
-ghost use Rattle.join_index.specs.Asking.{Some};
+ghost use Rattle.join_index.specs.Asking.{SomeQuery};
 ghost use Rattle.join_pairs.specs.left_search.LeftRows.{LeftRoom, LeftWritten};
 
 // Writes the pairs of the left set k with all right sets that contain it, and returns where they end. An empty left set has none.
@@ -19,7 +19,7 @@ pub fn search_left(
     pairs: &mut [u16],
     at: usize,
 ) -> usize
-    requires { ⌜ Some (λ q. LeftRoom lay q (now work) k at (now pairs)) ⌝ }
+    requires { ⌜ SomeQuery (λ q. LeftRoom lay q (now work) k at (now pairs)) ⌝ }
     requires { ⌜ Clear (now flags) ⌝ }
     ensures wrote { λ r. ⌜ LeftWritten lay (now (work .entry)) k at (now (pairs .entry)) (now (work .exit))
         (now (pairs .exit)) r ⌝ }

@@ -10,7 +10,7 @@ ghost use lib.ListN.{length, drop};
 ghost use Rattle.join_spec.specs.Query.{Query};
 ghost use Rattle.join_spec.specs.PairList.{pairList};
 ghost use Rattle.words.specs.flags.Flags.{Clear};
-ghost use Rattle.join_index.specs.Asking.{Some};
+ghost use Rattle.join_index.specs.Asking.{SomeQuery};
 ghost use Rattle.join_pairs.specs.Writing.{PairsRoom};
 ghost use Rattle.join_pairs.specs.left_search.LeftRows.{LeftRoom, LeftWritten};
 
@@ -20,7 +20,7 @@ pub mod shortlists;
 
 // Writes the pair list of the query whose index the work list holds. Candidates go into the slots of the work list.
 pub fn write_pairs(work: &mut [u32], flags: &mut [u8], lay: Layout, lefts: usize, pairs: &mut [u16])
-    requires { ⌜ Some (λ q. PairsRoom lay q (now work) lefts (now pairs)) ⌝ }
+    requires { ⌜ SomeQuery (λ q. PairsRoom lay q (now work) lefts (now pairs)) ⌝ }
     requires { ⌜ Clear (now flags) ⌝ }
     ensures { λ _. ⌜ ((q : Query) → PairsRoom lay q (now (work .entry)) lefts (now (pairs .entry))
         → now (pairs .exit)
@@ -44,7 +44,7 @@ pub fn write_left(
     pairs: &mut [u16],
     at: usize,
 ) -> usize
-    requires { ⌜ Some (λ q. LeftRoom lay q (now work) k at (now pairs)) ⌝ }
+    requires { ⌜ SomeQuery (λ q. LeftRoom lay q (now work) k at (now pairs)) ⌝ }
     requires { ⌜ Clear (now flags) ⌝ }
     ensures wrote { λ r. ⌜ LeftWritten lay (now (work .entry)) k at (now (pairs .entry)) (now (work .exit))
         (now (pairs .exit)) r ⌝ }

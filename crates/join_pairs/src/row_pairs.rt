@@ -10,8 +10,8 @@ ghost use Rattle.lists.specs.Lists.{slice};
 ghost use Rattle.lists.specs.Writing.{Put};
 ghost use Rattle.join_spec.specs.Query.{Query};
 ghost use Rattle.join_spec.specs.PairList.{ontoPair};
-ghost use Rattle.join_index.specs.Asking.{Some, RightThere};
-ghost use Rattle.join_pairs.specs.row_pairs.Containing.{rowOf, pairsWith, CheckThere};
+ghost use Rattle.join_index.specs.Asking.{SomeQuery, RightThere};
+ghost use Rattle.join_pairs.specs.row_pairs.Containing.{rowAmong, pairsWith, CheckThere};
 ghost use Rattle.join_pairs.specs.row_pairs.Writing.{PushRoom, KeptRoom, RowRoom};
 ghost use mathlib.Core.Path.{_≡_};
 ghost use Prim.Native.Nat.{ℕ};
@@ -66,9 +66,9 @@ pub fn write_row(
     pairs: &mut [u16],
     at: usize,
 ) -> usize
-    requires { ⌜ Some (λ q. RowRoom lay q (now work) p k from to at (now pairs)) ⌝ }
+    requires { ⌜ SomeQuery (λ q. RowRoom lay q (now work) p k from to at (now pairs)) ⌝ }
     ensures { λ r. ⌜ ((q : Query) → RowRoom lay q (now (work .entry)) p k from to at (now (pairs .entry))
-        → Put (now (pairs .entry)) at (rowOf q k (slice from to (now (work .entry)))) r (now (pairs .exit))) ⌝ }
+        → Put (now (pairs .entry)) at (rowAmong q k (slice from to (now (work .entry)))) r (now (pairs .exit))) ⌝ }
 {
     let mut n = at;
     let mut i = from;
@@ -84,7 +84,7 @@ pub fn write_row(
 // Whether the right set s contains the left set of which p is the rest to be looked for: it does where there is no rank in the
 // rest, else it is checked.
 pub fn is_contained(work: &[u32], lay: Layout, p: Probe, s: usize) -> bool
-    requires { ⌜ Some (λ q. RightThere lay q (now work) s) ⌝ }
+    requires { ⌜ SomeQuery (λ q. RightThere lay q (now work) s) ⌝ }
     requires { ⌜ Rising (p .from) (p .to) (now work) ⌝ }
     ensures { λ b. ⌜ ((q : Query) (k : ℕ) → CheckThere lay q (now (work .entry)) p k s → b ≡ containedAt q k s) ⌝ }
 {

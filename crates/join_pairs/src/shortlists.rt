@@ -6,13 +6,13 @@ use words::word_at;
 ghost use mathlib.Core.Path.{_≡_};
 ghost use mathlib.Core.Bool.{true};
 ghost use Rattle.lists.specs.Lists.{memb, slice};
-ghost use Rattle.join_index.specs.Asking.{Some, RankThere};
+ghost use Rattle.join_index.specs.Asking.{SomeQuery, RankThere};
 ghost use Rattle.join_pairs.specs.shortlists.Shortlists.{RanksThere, Located, SpanThere, RankMet, FindThere, Shortlisted};
 ghost use Rattle.words.specs.flags.Flags.{Clear};
 
 // How many right sets hold a rank.
-pub fn holders(work: &[u32], lay: Layout, r: usize) -> usize
-    requires { ⌜ Some (λ q. RankThere lay q (now work) r) ⌝ }
+pub fn count_holders(work: &[u32], lay: Layout, r: usize) -> usize
+    requires { ⌜ SomeQuery (λ q. RankThere lay q (now work) r) ⌝ }
 {
     let offsets = lay.offsets;
     word_at(work, offsets + r + 1) - word_at(work, offsets + r)
@@ -20,15 +20,15 @@ pub fn holders(work: &[u32], lay: Layout, r: usize) -> usize
 
 // Of the ranks that stand from one place of the work list up to another, one that fewest right sets hold.
 pub fn pivot(work: &[u32], lay: Layout, from: usize, to: usize) -> usize
-    requires { ⌜ Some (λ q. RanksThere lay q (now work) from to) ⌝ }
+    requires { ⌜ SomeQuery (λ q. RanksThere lay q (now work) from to) ⌝ }
     ensures { λ r. ⌜ memb r (slice from to (now (work .entry))) ≡ true ⌝ }
 {
     let mut rank = word_at(work, from);
-    let mut least = holders(work, lay, rank);
+    let mut least = count_holders(work, lay, rank);
     let mut i = from + 1;
     while i < to {
         let next = word_at(work, i);
-        let n = holders(work, lay, next);
+        let n = count_holders(work, lay, next);
         if n < least {
             rank = next;
             least = n;
@@ -58,7 +58,7 @@ pub struct Shortlist {
 
 // Where the inverted list of a rank lies.
 fn list_of(work: &[u32], lay: Layout, r: usize) -> Span
-    requires { ⌜ Some (λ q. RankThere lay q (now work) r) ⌝ }
+    requires { ⌜ SomeQuery (λ q. RankThere lay q (now work) r) ⌝ }
     ensures { λ s. ⌜ Located lay (now (work .entry)) r s ⌝ }
 {
     let offsets = lay.offsets;
@@ -70,7 +70,7 @@ fn list_of(work: &[u32], lay: Layout, r: usize) -> Span
 
 // Whether n candidates of a left set with so many ranks are better looked at than cut down by the rank r.
 fn stops(work: &[u32], lay: Layout, r: usize, pivot: usize, n: usize, ranks: usize) -> bool
-    requires { ⌜ Some (λ q. RankThere lay q (now work) r) ⌝ }
+    requires { ⌜ SomeQuery (λ q. RankThere lay q (now work) r) ⌝ }
 {
     if r == pivot {
         return false;
@@ -81,7 +81,7 @@ fn stops(work: &[u32], lay: Layout, r: usize, pivot: usize, n: usize, ranks: usi
     if n < FEW_CANDIDATES {
         return true;
     }
-    n < holders(work, lay, r) / 4
+    n < count_holders(work, lay, r) / 4
 }
 
 // Cuts candidates that all hold the pivot down to those that hold the rank r, in the slot of r.
@@ -94,7 +94,7 @@ fn meet(
     from: usize,
     to: usize,
 ) -> Span
-    requires { ⌜ Some (λ q. SpanThere lay q (now work) r pivot from to) ⌝ }
+    requires { ⌜ SomeQuery (λ q. SpanThere lay q (now work) r pivot from to) ⌝ }
     requires { ⌜ Clear (now flags) ⌝ }
     ensures met { λ s. ⌜ RankMet lay (now (work .entry)) r pivot from to (now (work .exit)) s ⌝ }
     ensures clear { λ _. ⌜ Clear (now (flags .exit)) ⌝ }
@@ -119,7 +119,7 @@ pub fn find_candidates(
     to: usize,
     pivot: usize,
 ) -> Shortlist
-    requires { ⌜ Some (λ q. FindThere lay q (now work) from to pivot) ⌝ }
+    requires { ⌜ SomeQuery (λ q. FindThere lay q (now work) from to pivot) ⌝ }
     requires { ⌜ Clear (now flags) ⌝ }
     ensures listed { λ c. ⌜ Shortlisted lay (now (work .entry)) from to pivot (now (work .exit)) c ⌝ }
     ensures clear { λ _. ⌜ Clear (now (flags .exit)) ⌝ }

@@ -18,7 +18,7 @@ use Rattle.join_spec.specs.declared.Rule.{Rule}
 use Rattle.join_spec.specs.declared.Rule.the-variants.{Merge, Check, Weighed}
 use Rattle.join_spec.specs.Query.{settingsOf}
 use Rattle.join_spec.specs.Node.{seen, goesOn, goesOnAt}
-use Rattle.join_spec.specs.Walk.{ending, endingFrom, isCandidate, endingIn, outcome}
+use Rattle.join_spec.specs.Walk.{ending, endingFrom, isCandidate, goes, endingIn, outcome}
 use Rattle.join_spec.specs.Counting.{total}
 use Rattle.join_spec.specs.Answer.{joinAnswer, joinWords, joinTests, walkAnswer, badSettings}
 use Rattle.join_spec.proofs.Examples.{same, greatest, accepted, noCounts}
@@ -204,7 +204,7 @@ borderCases =
 -- the definitions give every case
 border-cases-right : T (all right borderCases)
 unfolding all any count sum keep memb range rising risingAfter distinct prefix setsFrom contained firstBadFrom badSet lastEnd ordered
-    isPermutation position signatureFrom seen goesOn goesOnAt ending endingFrom isCandidate endingIn outcome total
+    isPermutation position signatureFrom seen goesOn goesOnAt ending endingFrom isCandidate goes endingIn outcome total
     joinAnswer joinTests setsTest wordsNeeded workTest walkAnswer badSettings lt add mul ofInt right borderCases endsFrom itemsOf one two whole weighed meets shelf
     shelfWeighed refuses emptyAlone same greatest accepted noCounts
 border-cases-right = tt

@@ -19,7 +19,7 @@ use Rattle.join_spec.specs.declared.Rule.the-variants.{Merge, Check, Wei
 use Rattle.join_spec.specs.PairList.{pairList, pairsFrom, rowFrom}
 use Rattle.join_spec.specs.Query.{settingsOf}
 use Rattle.join_spec.specs.Node.{seen, goesOn, goesOnAt}
-use Rattle.join_spec.specs.Walk.{ending, endingFrom, isCandidate, endingIn, outcome}
+use Rattle.join_spec.specs.Walk.{ending, endingFrom, isCandidate, goes, endingIn, outcome}
 use Rattle.join_spec.specs.Counting.{total}
 use Rattle.join_spec.specs.Answer.{joinAnswer, joinWords, joinTests, walkAnswer, badSettings, pairsAfter}
 
@@ -163,7 +163,7 @@ examples =
 -- the definitions give every example
 examples-right : T (all right examples)
 unfolding all any count sum keep memb range rising risingAfter distinct prefix setsFrom contained firstBadFrom badSet lastEnd ordered
-    isPermutation position signatureFrom pairsFrom rowFrom seen goesOn goesOnAt ending endingFrom isCandidate endingIn
+    isPermutation position signatureFrom pairsFrom rowFrom seen goesOn goesOnAt ending endingFrom isCandidate goes endingIn
     outcome total joinAnswer joinTests setsTest wordsNeeded workTest walkAnswer badSettings lt add mul ofInt right examples shelfDecided shelf shelfAccepted other same alike
     greatest ten shelfPairs accepted noCounts weighed
 examples-right = tt

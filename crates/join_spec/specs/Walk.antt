@@ -54,10 +54,13 @@ outcomeAfter merged leftRanks rightRanks paired checked =
 outcomeAfter (checkedAfter d) leftRanks rightRanks paired checked =
     cond (isCandidate d leftRanks rightRanks) checked notMet
 
+-- whether the walk of a query goes on at a path
+unfoldable pub goes : Query → List ℕ → Bool
+goes q path = goesOnAt (q .rule) (map (inOrder q) (q .lefts)) (map (inOrder q) (q .rights)) path
+
 -- the ending of a left set in a query
 unfoldable pub endingIn : Query → List ℕ → Ending
-endingIn q left =
-    ending (goesOnAt (q .rule) (map (inOrder q) (q .lefts)) (map (inOrder q) (q .rights))) (q .limit) (inOrder q left)
+endingIn q left = ending (goes q) (q .limit) (inOrder q left)
 
 -- the outcome of a left and a right set in a query
 unfoldable pub outcome : Query → List ℕ → List ℕ → Outcome

@@ -6,9 +6,9 @@ use native.Mathlib.Omega.{arith}
 use lib.ListN.{length, drop, length-append}
 use Rattle.lists.specs.Writing.{Put}
 use Rattle.lists.proofs.Writing.{written-whole}
-use Rattle.join_text.specs.JoinText.{Fills}
+use Rattle.join_text.specs.JoinText.{FillsText}
 
-pub put-fills : {text was : List ℕ} {r : ℕ} {is : List ℕ} → Put was 0 text r is → r ≤ length was → Fills text was r is
+pub put-fills : {text was : List ℕ} {r : ℕ} {is : List ℕ} → Put was 0 text r is → r ≤ length was → FillsText text was r is
 put-fills put room =
     record {
       long = omega (arith, put .past);
@@ -17,10 +17,10 @@ put-fills put room =
     }
 
 -- the text lies within the list
-pub fills-within : {text was : List ℕ} {r : ℕ} {is : List ℕ} → Fills text was r is → r ≤ length is
+pub fills-within : {text was : List ℕ} {r : ℕ} {is : List ℕ} → FillsText text was r is → r ≤ length is
 fills-within {text} {was} {r} {is} f =
     omega (arith, f .long, ap length (f .list), length-append text (drop (length text) was))
 
 -- the same text, said otherwise
-pub fills-same : {text other was : List ℕ} {r : ℕ} {is : List ℕ} → text ≡ other → Fills text was r is → Fills other was r is
-fills-same {text} {other} {was} {r} {is} e f = subst (λ (t : List ℕ). Fills t was r is) e f
+pub fills-same : {text other was : List ℕ} {r : ℕ} {is : List ℕ} → text ≡ other → FillsText text was r is → FillsText other was r is
+fills-same {text} {other} {was} {r} {is} e f = subst (λ (t : List ℕ). FillsText t was r is) e f

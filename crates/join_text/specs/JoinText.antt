@@ -41,7 +41,7 @@ joinText repeats leftNumbers rightNumbers i s =
     answerText repeats leftNumbers rightNumbers (pairList (leftSets i) (rightSets i)) (joinAnswer i s programRoom)
 
 -- a text fills a lent list from its beginning, which is as before beyond; r is the text's length, and the list holds it
-pub record Fills (text was : List ℕ) (r : ℕ) (is : List ℕ) : Type 0 where
+pub record FillsText (text was : List ℕ) (r : ℕ) (is : List ℕ) : Type 0 where
   pub long : r ≡ length text
   pub room : r ≤ length was
   pub list : is ≡ filledOver text was

@@ -9,7 +9,7 @@ use text::number_lines::put_refusal;
 ghost use mathlib.Core.Path.{_≡_};
 ghost use lib.ListN.{length};
 ghost use Rattle.inputs.specs.Input.{inputOf};
-ghost use Rattle.join_text.specs.JoinText.{workWords, pairPlaces, settingsUnder, programSettings, joinText, Fills};
+ghost use Rattle.join_text.specs.JoinText.{workWords, pairPlaces, settingsUnder, programSettings, joinText, FillsText};
 ghost use Rattle.join_text.specs.Inner.{Numbered};
 
 // The most pairs that are listed.
@@ -49,7 +49,7 @@ fn list_ordered(
     text: &mut [u8],
 ) -> usize
     requires { ⌜ Numbered (now «left_numbers») (now «left_ends») (now «right_numbers») (now «right_ends») (now text) ⌝ }
-    ensures { λ r. ⌜ Fills (joinText repeats (now («left_numbers» .entry)) (now («right_numbers» .entry))
+    ensures { λ r. ⌜ FillsText (joinText repeats (now («left_numbers» .entry)) (now («right_numbers» .entry))
         (inputOf t (now («left_ends» .entry)) (now («left_items» .entry)) (now («right_ends» .entry)) (now («right_items» .entry)))
         (settingsUnder (now (ranks .entry)))) (now (text .entry)) r (now (text .exit)) ⌝ }
 {
@@ -86,7 +86,7 @@ pub fn list_loaded(
 ) -> usize
     requires { ⌜ Numbered (now «left_numbers») (now «left_ends») (now «right_numbers») (now «right_ends») (now text) ⌝ }
     requires { ⌜ length (now ranks) ≡ t ⌝ }
-    ensures { λ r. ⌜ Fills (joinText repeats (now («left_numbers» .entry)) (now («right_numbers» .entry))
+    ensures { λ r. ⌜ FillsText (joinText repeats (now («left_numbers» .entry)) (now («right_numbers» .entry))
         (inputOf t (now («left_ends» .entry)) (now («left_items» .entry)) (now («right_ends» .entry)) (now («right_items» .entry)))
         (programSettings (inputOf t (now («left_ends» .entry)) (now («left_items» .entry))
         (now («right_ends» .entry)) (now («right_items» .entry))))) (now (text .entry)) r (now (text .exit)) ⌝ }

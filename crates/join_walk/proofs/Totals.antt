@@ -15,13 +15,13 @@ use Rattle.lists.proofs.Filtering.{sum-keep}
 use Rattle.lists.proofs.Summing.{sum-append, sum-same, sum-add}
 use Rattle.lists.proofs.Ranges.{sum-places, count-places}
 use Rattle.join_spec.specs.Query.{Query}
-use Rattle.join_spec.specs.Walk.{Outcome, byPath, Ending, ending, endingIn, outcome, check, outcomeAfter, endingFrom}
+use Rattle.join_spec.specs.Walk.{Outcome, byPath, Ending, ending, endingIn, outcome, check, outcomeAfter, endingFrom, goes}
 use Rattle.join_spec.specs.Counting.{total}
 use Rattle.join_spec.proofs.Outcomes.{outcome-ended}
 use Rattle.counting_sort.specs.Groups.{groupsFrom}
 use Rattle.join_index.specs.Grouping.{leftAt, rightAt, keyAt, orderFrom}
 use Rattle.join_index.proofs.Ordering.{keyAt-below}
-use Rattle.join_nodes.specs.Rows.{goes, row, outcomeFrom}
+use Rattle.join_nodes.specs.Rows.{row, outcomeFrom}
 use Rattle.join_nodes.proofs.Groups.{within, within-zero, within-suc, apart}
 use Rattle.join_nodes.proofs.RowLaws.{MetOnly}
 use Rattle.join_nodes.proofs.blocks.BlockLaws.{key-ended, key-longer}

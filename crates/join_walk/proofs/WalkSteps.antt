@@ -21,8 +21,8 @@ use Rattle.join_spec.specs.Kinds.{Kind, isOf, kinds, checkKinds}
 use Rattle.join_spec.proofs.KindLaws.{sum-zero, kind-met}
 use Rattle.join_index.specs.Grouping.{leftAt, keyAt, orderFrom, orderOf}
 use Rattle.join_index.specs.declared.Layout.{Layout}
-use Rattle.join_index.specs.Asking.{Index, RunThere}
-use Rattle.join_index.specs.Runs.{run}
+use Rattle.join_index.specs.Asking.{Index, RangeThere}
+use Rattle.join_index.specs.Ranges.{range}
 use Rattle.join_check.specs.Counters.{counter}
 use Rattle.join_check.specs.declared.Tally.{Tally}
 use Rattle.kept_rows.specs.Kept.{RowsKept}
@@ -30,9 +30,9 @@ use Rattle.kept_rows.specs.Keeping.{Cleared}
 use Rattle.kept_rows.proofs.RowLaws.{index-kept}
 use Rattle.join_nodes.specs.Rows.{row}
 use Rattle.join_nodes.specs.Visiting.{beginners}
-use Rattle.join_nodes.specs.declared.Settings.{Settings}
+use Rattle.join_nodes.specs.declared.WalkSettings.{WalkSettings}
 use Rattle.join_nodes.specs.declared.Walked.{Walked}
-use Rattle.join_nodes.proofs.RunLaws.{Cut}
+use Rattle.join_nodes.proofs.RangeLaws.{Cut}
 use Rattle.join_nodes.proofs.RowLaws.{MetOnly}
 use Rattle.join_nodes.proofs.VisitLaws.{checks-added}
 use Rattle.join_nodes.proofs.FrameLaws.{framed-none}
@@ -49,7 +49,7 @@ keep-every q [] = refl
 keep-every q (x ∷ xs) = ap (λ (l : List ℕ). x ∷ l) (keep-every q xs)
 
 -- a walk over no left sets
-pub walk-none : {lay : Layout} {st : Settings} {q : Query} {w : List ℕ} {lefts : ℕ} → WalkReady lay st q w lefts
+pub walk-none : {lay : Layout} {st : WalkSettings} {q : Query} {w : List ℕ} {lefts : ℕ} → WalkReady lay st q w lefts
     → lefts ≡ 0
     → {none : Tally} {top : ℕ} → ((kind : Kind) → counter kind none ≡ 0) → RowsKept lay q w top
     → WalkDone lay q (st .budget) w w (record { at = record { tally = none; top = top }; spent = false })
@@ -72,7 +72,7 @@ walk-none {lay} {st} {q} {w} ready gone zero kept =
         let empty : sum (start is q) (upto 0) ≡ 0 = unfold range sum in refl in
         total-order is q 0 0 ∙ none ∙ empty
 
-module _ {lay : Layout} {st : Settings} {q : Query} {w : List ℕ} {lefts : ℕ}
+module _ {lay : Layout} {st : WalkSettings} {q : Query} {w : List ℕ} {lefts : ℕ}
     (ready : WalkReady lay st q w lefts) (some : 0 < lefts) where
   index : Index lay q w
   index = ready .index
@@ -80,8 +80,8 @@ module _ {lay : Layout} {st : Settings} {q : Query} {w : List ℕ} {lefts : ℕ}
   few : lefts ≤ length (q .lefts)
   few = omega (arith, ready .leftCount)
 
-  pub walk-run : RunThere lay q w 0 lefts
-  walk-run = record { index = index; some = some; within = few }
+  pub walk-range : RangeThere lay q w 0 lefts
+  walk-range = record { index = index; some = some; within = few }
 
   abbrev rest : List ℕ
   rest = beginners q [] 1
@@ -92,18 +92,18 @@ module _ {lay : Layout} {st : Settings} {q : Query} {w : List ℕ} {lefts : ℕ}
       ap (λ (n : ℕ). orderFrom q n 0) all-depths ∙ sym (keep-every q (orderFrom q (q .limit - 0) 0))
       ∙ beginners-grouped q [] 0 (ready .some)
 
-  whole : run lay w 0 lefts ≡ endedAt q 0 rest ++ goingOn q 0 rest
+  whole : range lay w 0 lefts ≡ endedAt q 0 rest ++ goingOn q 0 rest
   whole =
-      let low : lay .order + 0 ≡ lay .order = omega arith in
-      let high : lay .order + lefts ≡ lay .order + length (q .lefts) = omega (arith, ready .leftCount) in
+      let low : lay .«left_order» + 0 ≡ lay .«left_order» = omega arith in
+      let high : lay .«left_order» + lefts ≡ lay .«left_order» + length (q .lefts) = omega (arith, ready .leftCount) in
       ap₂ (λ (a b : ℕ). slice a b w) low high ∙ index .ground .ordered .is ∙ order-is
 
   module _ {mid : ℕ} (end : MergedEnd lay w 0 0 lefts mid) where
     parted : Cut lay w 0 mid lefts (endedAt q 0 rest) (goingOn q 0 rest)
-    parted = ended-cut rest walk-run whole end
+    parted = ended-cut rest walk-range whole end
 
     -- the query's counts: nothing for the empty left sets, and the rows of the others
-    rows-total : (is : Outcome → Bool) → MetOnly is → total is q ≡ sum (row is q 1) (run lay w mid lefts)
+    rows-total : (is : Outcome → Bool) → MetOnly is → total is q ≡ sum (row is q 1) (range lay w mid lefts)
     rows-total is met =
         total-order is q (q .limit) 0 ∙ ap (sum (start is q)) order-is
         ∙ sum-append (start is q) (endedAt q 0 rest) (goingOn q 0 rest)
@@ -114,7 +114,7 @@ module _ {lay : Layout} {st : Settings} {q : Query} {w : List ℕ} {lefts : ℕ}
         (sum-same-where (λ k. not (eqb (keyAt q 0 k) 0)) (start is q) (row is q 1) (goingOn q 0 rest) (going-keys q 0 rest)
         (λ k e. start-row is q k (not-true (eqb (keyAt q 0 k) 0) e))
         ∙ sym (ap (sum (row is q 1)) (parted .back)))
-        ∙ zero-add (sum (row is q 1) (run lay w mid lefts))
+        ∙ zero-add (sum (row is q 1) (range lay w mid lefts))
 
     module _ {none : Tally} (zero : (kind : Kind) → counter kind none ≡ 0) where
       nothing : (ks : List Kind) → sum (λ kind. counter kind none) ks ≡ 0
@@ -170,7 +170,7 @@ module _ {lay : Layout} {st : Settings} {q : Query} {w : List ℕ} {lefts : ℕ}
           }
 
 -- no row is kept before it
-module _ {lay : Layout} {st : Settings} {q : Query} {w w′ : List ℕ} {lefts : ℕ} (ready : WalkReady lay st q w lefts)
+module _ {lay : Layout} {st : WalkSettings} {q : Query} {w w′ : List ℕ} {lefts : ℕ} (ready : WalkReady lay st q w lefts)
     (cleared : Cleared lay w lefts w′) where
   pub ready-cleared : WalkReady lay st q w′ lefts
   ready-cleared =

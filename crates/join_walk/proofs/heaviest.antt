@@ -1,2 +1,2 @@
--- Laws of the runs of a node, parted where one begins.
-pub mod RunParts
+-- Laws of the ranges of a node, parted where one begins.
+pub mod RangeParts

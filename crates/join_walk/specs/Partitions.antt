@@ -15,15 +15,15 @@ use Rattle.join_check.specs.Counters.{counter}
 use Rattle.kept_rows.specs.Kept.{RowsKept}
 use Rattle.join_nodes.specs.Visiting.{Children, Framed}
 use Rattle.join_nodes.specs.declared.Progress.{Progress}
-use Rattle.join_nodes.specs.declared.Settings.{Settings}
+use Rattle.join_nodes.specs.declared.WalkSettings.{WalkSettings}
 use Rattle.join_nodes.specs.declared.Walked.{Walked}
 
 -- partitions: the children of the path without ranks
-abbrev pub Partitions : Layout → Settings → Query → List ℕ → ℕ → ℕ → Progress → Type 0
+abbrev pub Partitions : Layout → WalkSettings → Query → List ℕ → ℕ → ℕ → Progress → Type 0
 Partitions lay st q w lo hi p = Children lay st q [] w 0 lo hi p
 
 -- the walk can begin
-pub record WalkReady (lay : Layout) (st : Settings) (q : Query) (w : List ℕ) (lefts : ℕ) : Type 0 where
+pub record WalkReady (lay : Layout) (st : WalkSettings) (q : Query) (w : List ℕ) (lefts : ℕ) : Type 0 where
   pub index : Index lay q w
   pub limit : st .limit ≡ q .limit
   pub shallow : q .limit ≤ maxLimit

@@ -1,15 +1,15 @@
 // The heaviest child of a node, with which its visit goes on.
-use join_check::keys::run_end;
+use join_check::keys::range_end;
 use join_index::Layout;
 ghost use mathlib.Core.Path.{_≡_};
 ghost use mathlib.Core.Bool.{cond};
 ghost use Prim.Native.Nat.{_-_, _≤_};
 ghost use lib.Dec.{ltb};
-ghost use Rattle.join_index.specs.Asking.{Some, RunThere};
-ghost use Rattle.join_walk.specs.heaviest.Heaviest.{RunChosen};
+ghost use Rattle.join_index.specs.Asking.{SomeQuery, RangeThere};
+ghost use Rattle.join_walk.specs.heaviest.Heaviest.{RangeChosen};
 
 // At a depth below this no child is preferred to another. Visits lie above each other at most so often there, whatever the limit,
-// and the nodes with many children, whose runs would be looked for twice, stand there.
+// and the nodes with many children, whose ranges would be looked for twice, stand there.
 const SHALLOW: usize = 16;
 
 // Places lo up to hi of the order.
@@ -29,11 +29,11 @@ fn longer(best: Span, other: Span) -> Span
     best
 }
 
-// The longest of the runs with the same key at depth d, among the left sets at the places lo up to hi; none at a shallow depth, but
+// The longest of the ranges with the same key at depth d, among the left sets at the places lo up to hi; none at a shallow depth, but
 // for an only left set, which most nodes have and which costs no search.
-pub fn heaviest_run(work: &[u32], lay: Layout, d: usize, lo: usize, hi: usize) -> Span
-    requires { ⌜ Some (λ q. RunThere lay q (now work) lo hi) ⌝ }
-    ensures { λ r. ⌜ RunChosen lay (now (work .entry)) d lo hi r ⌝ }
+pub fn heaviest_range(work: &[u32], lay: Layout, d: usize, lo: usize, hi: usize) -> Span
+    requires { ⌜ SomeQuery (λ q. RangeThere lay q (now work) lo hi) ⌝ }
+    ensures { λ r. ⌜ RangeChosen lay (now (work .entry)) d lo hi r ⌝ }
 {
     if hi - lo == 1 {
         return Span { lo: lo, hi: hi };
@@ -44,7 +44,7 @@ pub fn heaviest_run(work: &[u32], lay: Layout, d: usize, lo: usize, hi: usize) -
     }
     let mut i = lo;
     while i < hi {
-        let j = run_end(work, lay, d, i, hi);
+        let j = range_end(work, lay, d, i, hi);
         best = longer(best, Span { lo: i, hi: j });
         i = j;
     }

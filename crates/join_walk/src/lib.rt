@@ -1,15 +1,15 @@
 // The whole walk: partition by partition in rank order, each with the right sets seen at its rank.
 use crate::partition::visit_partition;
 use join_check::Tally;
-use join_check::keys::run_end;
+use join_check::keys::range_end;
 use join_index::Layout;
 use join_nodes::Progress;
-use join_nodes::Settings;
+use join_nodes::WalkSettings;
 use join_nodes::Walked;
 use join_nodes::blocks::merged_end;
 use kept_rows::clear_rows;
 ghost use Rattle.join_spec.specs.Query.{Query};
-ghost use Rattle.join_index.specs.Asking.{Some};
+ghost use Rattle.join_index.specs.Asking.{SomeQuery};
 ghost use Rattle.words.specs.flags.Flags.{Clear};
 ghost use Rattle.join_walk.specs.partition.Partition.{PartVisited};
 ghost use Rattle.join_walk.specs.Partitions.{Partitions, WalkReady, WalkDone};
@@ -23,12 +23,12 @@ fn visit_partitions(
     work: &mut [u32],
     flags: &mut [u8],
     lay: Layout,
-    st: Settings,
+    st: WalkSettings,
     lo: usize,
     hi: usize,
     p: Progress,
 ) -> Walked
-    requires { ⌜ Some (λ q. Partitions lay st q (now work) lo hi p) ⌝ }
+    requires { ⌜ SomeQuery (λ q. Partitions lay st q (now work) lo hi p) ⌝ }
     requires { ⌜ Clear (now flags) ⌝ }
     ensures visited { λ r. ⌜ ((q : Query) → Partitions lay st q (now (work .entry)) lo hi p
         → PartVisited lay st q (now (work .entry)) (now (work .exit)) lo hi (p .tally) r) ⌝ }
@@ -37,7 +37,7 @@ fn visit_partitions(
     let mut r = p;
     let mut i = lo;
     while i < hi {
-        let j = run_end(work, lay, 0, i, hi);
+        let j = range_end(work, lay, 0, i, hi);
         let one = visit_partition(work, flags, lay, st, i, j, r);
         if one.spent {
             return one;
@@ -53,8 +53,14 @@ fn visit_partitions(
 
 // The whole walk over the index of a query. Empty left sets stand first in the order, are in no partition and pair with nothing: they
 // are passed over.
-pub fn walk(work: &mut [u32], flags: &mut [u8], lay: Layout, st: Settings, lefts: usize) -> Walked
-    requires { ⌜ Some (λ q. WalkReady lay st q (now work) lefts) ⌝ }
+pub fn walk(
+    work: &mut [u32],
+    flags: &mut [u8],
+    lay: Layout,
+    st: WalkSettings,
+    lefts: usize,
+) -> Walked
+    requires { ⌜ SomeQuery (λ q. WalkReady lay st q (now work) lefts) ⌝ }
     requires { ⌜ Clear (now flags) ⌝ }
     ensures walked { λ r. ⌜ ((q : Query) → WalkReady lay st q (now (work .entry)) lefts
         → WalkDone lay q (st .budget) (now (work .entry)) (now (work .exit)) r) ⌝ }

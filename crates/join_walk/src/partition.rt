@@ -6,7 +6,7 @@ use join_check::keys::key_at;
 use join_index::Layout;
 use join_index::asks_seen;
 use join_nodes::Progress;
-use join_nodes::Settings;
+use join_nodes::WalkSettings;
 use join_nodes::Walked;
 use kept_rows::keep_list;
 use words::word_at;
@@ -22,7 +22,7 @@ pub fn visit_partition(
     work: &mut [u32],
     flags: &mut [u8],
     lay: Layout,
-    st: Settings,
+    st: WalkSettings,
     lo: usize,
     hi: usize,
     p: Progress,
@@ -33,7 +33,7 @@ pub fn visit_partition(
         → PartVisited lay st q (now (work .entry)) (now (work .exit)) lo hi (p .tally) one) ⌝ }
     ensures clear { λ _. ⌜ Clear (now (flags .exit)) ⌝ }
 {
-    let order = lay.order;
+    let order = lay.left_order;
     let offsets = lay.least_offsets;
     let first = lay.by_least;
     let none = lay.slots;

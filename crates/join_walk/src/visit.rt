@@ -2,11 +2,11 @@
 // depth falls. The child with most left sets is left out of these calls: the visit goes on with it in place of the node. Each of the
 // others has at most half of the node's left sets, so that calls lie above each other only as often as these can be halved,
 // whatever the limit.
-use crate::heaviest::heaviest_run;
-use join_check::keys::run_end;
+use crate::heaviest::heaviest_range;
+use join_check::keys::range_end;
 use join_index::Layout;
 use join_nodes::Progress;
-use join_nodes::Settings;
+use join_nodes::WalkSettings;
 use join_nodes::Walked;
 use join_nodes::block_checks::check_block;
 use join_nodes::decide::decide;
@@ -25,7 +25,7 @@ pub fn visit_node(
     work: &mut [u32],
     flags: &mut [u8],
     lay: Layout,
-    st: Settings,
+    st: WalkSettings,
     d: usize,
     lo: usize,
     hi: usize,
@@ -59,7 +59,7 @@ pub fn visit_node(
                 spent: on.spent,
             };
         }
-        let heavy = heaviest_run(work, lay, e, mid, j);
+        let heavy = heaviest_range(work, lay, e, mid, j);
         first = on.from;
         last = on.to;
         r = at;
@@ -90,7 +90,7 @@ pub fn visit_children(
     work: &mut [u32],
     flags: &mut [u8],
     lay: Layout,
-    st: Settings,
+    st: WalkSettings,
     d: usize,
     lo: usize,
     hi: usize,
@@ -107,7 +107,7 @@ pub fn visit_children(
     let mut r = p;
     let mut i = lo;
     while i < hi {
-        let j = run_end(work, lay, d, i, hi);
+        let j = range_end(work, lay, d, i, hi);
         let one = visit_node(work, flags, lay, st, d + 1, i, j, from, to, r);
         if one.spent {
             return one;

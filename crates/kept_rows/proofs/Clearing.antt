@@ -11,7 +11,7 @@ use Rattle.lists.specs.Parts.{Changed}
 use Rattle.lists.proofs.Bools.{by-test}
 use Rattle.lists.proofs.Slices.{changed-none, changed-store}
 use Rattle.join_index.specs.declared.Layout.{Layout}
-use Rattle.join_index.specs.Asking.{Some}
+use Rattle.join_index.specs.Asking.{SomeQuery}
 use Rattle.kept_rows.specs.Keeping.{ClearThere, Cleared}
 use Rattle.kept_rows.proofs.RowLaws.{index-kept, rows-none}
 
@@ -25,7 +25,7 @@ clearing-start {starts} {lefts} {w} =
     record { changed = changed-none starts (starts + lefts) w; none = λ j h. absurd (omega (arith, h)) }
 
 -- there is a word for each left set
-pub clearing-room : {lay : Layout} {lefts : ℕ} {w₀ w : List ℕ} {k : ℕ} → Some (λ q. ClearThere lay q w₀ lefts)
+pub clearing-room : {lay : Layout} {lefts : ℕ} {w₀ w : List ℕ} {k : ℕ} → SomeQuery (λ q. ClearThere lay q w₀ lefts)
     → Clearing (lay .«row_starts») lefts w₀ w k → k < lefts → lay .«row_starts» + k < length w
 clearing-room some so more =
     let there = some .holds in

@@ -12,9 +12,9 @@ use Rattle.join_index.specs.declared.Layout.{Layout}
 use Rattle.words.specs.Words.{Word}
 use Rattle.words.specs.flags.Flags.{Behind}
 use Rattle.words.specs.copies.Copies.{Copied}
-use Rattle.join_index.specs.Asking.{Some, Index}
-use Rattle.join_index.specs.Runs.{leftIn}
-use Rattle.join_index.proofs.Orders.{order-within, run-left}
+use Rattle.join_index.specs.Asking.{SomeQuery, Index}
+use Rattle.join_index.specs.Ranges.{leftIn}
+use Rattle.join_index.proofs.Orders.{order-within, range-left}
 use Rattle.kept_rows.specs.Kept.{containing, RowIs, RowsKept}
 use Rattle.kept_rows.specs.Keeping.{WordsRoom, rowStored, ShareThere, Shared, ListThere, ListKept}
 use Rattle.kept_rows.proofs.RowLaws.{index-kept, row-moved, rows-grown, rows-stored, words-room}
@@ -24,7 +24,7 @@ use Rattle.kept_rows.proofs.RowLaws.{stored-slice, stored-frame, stored
 order-stays : {lay : Layout} {q : Query} {w : List ℕ} (v : List ℕ) (i : ℕ) → Index lay q w → i < length (q .lefts)
     → take (lay .«row_starts») v ≡ take (lay .«row_starts») w → leftIn lay v i ≡ leftIn lay w i
 order-stays {lay} {q} {w} v i index below frame =
-    frame-at 0 (lay .order + i) (lay .«row_starts») w v
+    frame-at 0 (lay .«left_order» + i) (lay .«row_starts») w v
     (omega (arith, index .ground .ordered .within, below, index .ground .slotsBelow)) frame
 
 -- some left sets have the row
@@ -45,13 +45,13 @@ module _ {lay : Layout} {w₀ : List ℕ} {lo hi from to : ℕ} where
       sharing-index : Index lay q w
       sharing-index = index-kept (so .frame) (so .size) (there .index)
 
-      pub sharing-read : lay .order + i < length w
+      pub sharing-read : lay .«left_order» + i < length w
       sharing-read = omega (arith, order-within sharing-index, there .within, more)
 
-      module _ {k : ℕ} (word : Word w (lay .order + i) k) where
+      module _ {k : ℕ} (word : Word w (lay .«left_order» + i) k) where
         below : k < length (q .lefts)
         below =
-            run-left (record { index = sharing-index; some = more; within = there .within }) i more word .below
+            range-left (record { index = sharing-index; some = more; within = there .within }) i more word .below
 
         own : RowIs lay q w to k from to
         own =
@@ -68,7 +68,7 @@ module _ {lay : Layout} {w₀ : List ℕ} {lo hi from to : ℕ} where
         sharing-rows = rows-stored (sharing-index .ground) k from to below own (so .rows q there)
 
     -- one left set more
-    pub sharing-step : {k : ℕ} {v : List ℕ} → Some (λ q. ShareThere lay q w₀ lo hi from to) → i < hi → Word w (lay .order + i) k
+    pub sharing-step : {k : ℕ} {v : List ℕ} → SomeQuery (λ q. ShareThere lay q w₀ lo hi from to) → i < hi → Word w (lay .«left_order» + i) k
         → v ≡ rowStored lay k from to w → Sharing lay w₀ lo hi from to v (i + 1)
     sharing-step {k} some more word kept =
         let g = sharing-index (some .holds) more .ground in
@@ -122,7 +122,7 @@ module _ {lay : Layout} {w : List ℕ} {lo hi from to top : ℕ} where
               };
         }
 
-    pub list-kept : {v : List ℕ} → Some (λ q. ListThere lay q w lo hi from to top) → to - from ≤ lay .end - top
+    pub list-kept : {v : List ℕ} → SomeQuery (λ q. ListThere lay q w lo hi from to top) → to - from ≤ lay .end - top
         → Shared lay w′ lo hi top r v → ListKept lay w lo hi from to top v r
     list-kept some fits shared =
         record {

@@ -8,7 +8,7 @@ use Rattle.sets.specs.Limits.{fullWords}
 use Rattle.join_spec.specs.Query.{Query}
 use Rattle.join_index.specs.declared.Layout.{Layout}
 use Rattle.join_index.specs.Asking.{Index}
-use Rattle.join_index.specs.Runs.{leftIn}
+use Rattle.join_index.specs.Ranges.{leftIn}
 use Rattle.kept_rows.specs.Kept.{containing, RowIs, RowsKept}
 
 -- the index of a query with so many left sets

@@ -8,9 +8,9 @@ use join_index::Layout;
 use words::word_at;
 ghost use Prim.Native.Nat.{_+_, _-_, _<_};
 ghost use Rattle.sets.specs.Limits.{fullWords};
-ghost use Rattle.join_index.specs.Asking.{Some};
+ghost use Rattle.join_index.specs.Asking.{SomeQuery};
 ghost use Rattle.join_check.specs.Counters.{checksIn};
-ghost use Rattle.kept_rows.specs.checked.Recording.{RecordThere, RowRecorded};
+ghost use Rattle.kept_rows.specs.checked.Recording.{RowRecordable, RowRecorded};
 
 // The counters after the checks of a row, and where the kept rows end.
 pub struct Recorded {
@@ -31,7 +31,7 @@ pub fn record_row(
     tally: Tally,
     top: usize,
 ) -> Recorded
-    requires { ⌜ Some (λ q. RecordThere lay q (now work) k e from to top) ⌝ }
+    requires { ⌜ SomeQuery (λ q. RowRecordable lay q (now work) k e from to top) ⌝ }
     requires { ⌜ checksIn tally + (to - from) < fullWords ⌝ }
     ensures { λ r. ⌜ RowRecorded lay (now (work .entry)) k e from to tally top (now (work .exit)) r ⌝ }
 {

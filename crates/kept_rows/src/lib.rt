@@ -3,14 +3,14 @@ use join_index::Layout;
 use words::copies::copy_words;
 use words::word_at;
 ghost use mathlib.Core.Path.{_≡_};
-ghost use Rattle.join_index.specs.Asking.{Some};
+ghost use Rattle.join_index.specs.Asking.{SomeQuery};
 ghost use Rattle.kept_rows.specs.Keeping.{ClearThere, Cleared, WordsRoom, rowStored, ShareThere, Shared, ListThere, ListKept};
 
 pub mod checked;
 
 // No left set has a row.
 pub fn clear_rows(work: &mut [u32], lay: Layout, lefts: usize)
-    requires { ⌜ Some (λ q. ClearThere lay q (now work) lefts) ⌝ }
+    requires { ⌜ SomeQuery (λ q. ClearThere lay q (now work) lefts) ⌝ }
     ensures { λ _. ⌜ Cleared lay (now (work .entry)) lefts (now (work .exit)) ⌝ }
 {
     let row_starts = lay.row_starts;
@@ -32,10 +32,10 @@ pub fn keep_row(work: &mut [u32], lay: Layout, k: usize, from: usize, to: usize)
 
 // The left sets at the places lo up to hi of the order share one row, which lies from one place of the work list up to another.
 fn share_row(work: &mut [u32], lay: Layout, lo: usize, hi: usize, from: usize, to: usize)
-    requires { ⌜ Some (λ q. ShareThere lay q (now work) lo hi from to) ⌝ }
+    requires { ⌜ SomeQuery (λ q. ShareThere lay q (now work) lo hi from to) ⌝ }
     ensures { λ _. ⌜ Shared lay (now (work .entry)) lo hi from to (now (work .exit)) ⌝ }
 {
-    let order = lay.order;
+    let order = lay.left_order;
     let mut j = lo;
     while j < hi {
         let k = word_at(work, order + j);
@@ -56,7 +56,7 @@ pub fn keep_list(
     to: usize,
     top: usize,
 ) -> usize
-    requires { ⌜ Some (λ q. ListThere lay q (now work) lo hi from to top) ⌝ }
+    requires { ⌜ SomeQuery (λ q. ListThere lay q (now work) lo hi from to top) ⌝ }
     ensures { λ r. ⌜ ListKept lay (now (work .entry)) lo hi from to top (now (work .exit)) r ⌝ }
 {
     if hi <= lo {

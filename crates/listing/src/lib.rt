@@ -19,7 +19,7 @@ ghost use Rattle.sets.specs.Refusals.{unless};
 ghost use Rattle.tag_file.specs.Records.{records};
 ghost use Rattle.tag_file.specs.Loading.{fileFault};
 ghost use Rattle.text.specs.Lines.{refusalLine};
-ghost use Rattle.join_text.specs.JoinText.{Fills};
+ghost use Rattle.join_text.specs.JoinText.{FillsText};
 ghost use Rattle.join_text.specs.Inner.{textRoom};
 ghost use Rattle.listing_spec.specs.Listing.{maxFile, recordsText, listing};
 ghost use Rattle.listing_spec.specs.Inner.{tableBytes, sideItems, Within, cutText};
@@ -48,7 +48,7 @@ fn list_counted(
 ) -> usize
     requires { ⌜ Within loaded (now «left_numbers») (now «left_ends») (now «left_items»)
         (now «right_numbers») (now «right_ends») (now «right_items») (now ranks) (now text) ⌝ }
-    ensures { λ r. ⌜ Fills (cutText loaded repeats
+    ensures { λ r. ⌜ FillsText (cutText loaded repeats
         (now («left_numbers» .entry)) (now («left_ends» .entry)) (now («left_items» .entry))
         (now («right_numbers» .entry)) (now («right_ends» .entry)) (now («right_items» .entry)))
         (now (text .entry)) r (now (text .exit)) ⌝ }
@@ -99,7 +99,7 @@ fn new_items() -> [u16; ITEMS]
 // The text of a file that is not too long. The lists hold every such file without a fault.
 fn list_short(file: &[u8], text: &mut [u8]) -> usize
     requires { ⌜ (length (now file) ≤ maxFile) × (textRoom ≤ length (now text)) ⌝ }
-    ensures { λ r. ⌜ Fills (unless refusalLine (fileFault (now (file .entry))) (recordsText (records (now (file .entry)))))
+    ensures { λ r. ⌜ FillsText (unless refusalLine (fileFault (now (file .entry))) (recordsText (records (now (file .entry)))))
         (now (text .entry)) r (now (text .exit)) ⌝ }
 {
     let mut tags = new_tags();
@@ -139,7 +139,7 @@ fn list_short(file: &[u8], text: &mut [u8]) -> usize
 
 // Writes the text of a file, and returns how long it is; beyond it the lent list is as before.
 pub fn list_file(file: &[u8], text: &mut [u8; TEXT_ROOM]) -> usize
-    ensures { λ r. ⌜ Fills (listing (now (file .entry))) (now (text .entry)) r (now (text .exit)) ⌝ }
+    ensures { λ r. ⌜ FillsText (listing (now (file .entry))) (now (text .entry)) r (now (text .exit)) ⌝ }
 {
     if MAX_FILE < file.len() {
         return put_refusal(text, Refusal::ShortWork);

@@ -10,7 +10,7 @@ use Rattle.inputs.specs.Tests.{setsTest, wordsNeeded, workTest}
 use Rattle.item_order_spec.specs.Order.{rankTable}
 use Rattle.join_spec.specs.PairList.{pairsFrom, rowFrom}
 use Rattle.join_spec.specs.Node.{seen, goesOn, goesOnAt}
-use Rattle.join_spec.specs.Walk.{ending, endingFrom, isCandidate, endingIn, outcome}
+use Rattle.join_spec.specs.Walk.{ending, endingFrom, isCandidate, goes, endingIn, outcome}
 use Rattle.join_spec.specs.Counting.{total}
 use Rattle.join_spec.specs.Answer.{badSettings, joinTests, walkAnswer, joinAnswer}
 use Rattle.tag_file.specs.Format.{valueFrom, bytesOf, tagBytes}
@@ -32,7 +32,7 @@ file = (0x4B ∷ 0x54 ∷ 0 ∷ 7 ∷ 2 ∷ []) ++ (tag 1 ++ tag 2) ++ (0x53 ∷
 
 pub example-listing : listing file ≡ ascii "pairs 1 path 1 confirmed 0 checks 0 dropped 0 false 0\nrepeats 0 1\n7 9\n"
 unfolding listing joinText joinAnswer joinTests walkAnswer badSettings setsTest wordsNeeded workTest rankTable pairsFrom rowFrom
-    seen goesOn goesOnAt ending endingFrom isCandidate endingIn outcome total isPermutation ordered position signatureFrom
+    seen goesOn goesOnAt ending endingFrom isCandidate goes endingIn outcome total isPermutation ordered position signatureFrom
     setsFrom contained firstBadFrom badSet lastEnd fileFault firstFault faultOf tooMany readAt tagsAt recordsFrom valueFrom
     bytesOf tagBytes insert insertAll allTags itemsOf endsFrom join all any count sum keep memb range rising risingAfter distinct prefix
     repeatsIn decimalFrom decimal refusedLine countsLine repeatsLine pairLine pairLines

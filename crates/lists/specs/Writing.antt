@@ -6,8 +6,8 @@ use lib.ListN.{length}
 use lib.Seq.{sets}
 
 -- there is room for what is to be written at a place
-abbrev pub Room : List ℕ → ℕ → List ℕ → Type 0
-Room list at new = at + length new ≤ length list
+abbrev pub RoomFor : List ℕ → ℕ → List ℕ → Type 0
+RoomFor list at new = at + length new ≤ length list
 
 -- new numbers were written at a place, and r is the place after them
 pub record Put (was : List ℕ) (at : ℕ) (new : List ℕ) (r : ℕ) (is : List ℕ) : Type 0 where

@@ -3,7 +3,7 @@
 // it wrote.
 ghost use Prim.Native.Nat.{_+_, _≤_};
 ghost use lib.ListN.{length};
-ghost use Rattle.lists.specs.Writing.{Room, Put};
+ghost use Rattle.lists.specs.Writing.{RoomFor, Put};
 ghost use Rattle.text.specs.Lines.{decimal, labelled};
 ghost use Rattle.text.specs.Room.{twoNumbers, numbersRoom};
 
@@ -14,7 +14,7 @@ pub mod pair_lines;
 
 // A word.
 pub fn put_word(text: &mut [u8], at: usize, word: &[u8]) -> usize
-    requires { ⌜ Room (now text) at (now word) ⌝ }
+    requires { ⌜ RoomFor (now text) at (now word) ⌝ }
     ensures { λ r. ⌜ Put (now (text .entry)) at (now (word .entry)) r (now (text .exit)) ⌝ }
 {
     let mut n = at;
@@ -29,7 +29,7 @@ pub fn put_word(text: &mut [u8], at: usize, word: &[u8]) -> usize
 
 // A number in decimal.
 pub fn put_number(text: &mut [u8], at: usize, number: u64) -> usize
-    requires { ⌜ Room (now text) at (decimal number) ⌝ }
+    requires { ⌜ RoomFor (now text) at (decimal number) ⌝ }
     ensures { λ r. ⌜ Put (now (text .entry)) at (decimal number) r (now (text .exit)) ⌝ }
 {
     let mut digits = [0u8; 20];
@@ -39,7 +39,7 @@ pub fn put_number(text: &mut [u8], at: usize, number: u64) -> usize
 
 // A word before a number.
 pub fn put_labelled(text: &mut [u8], at: usize, word: &[u8], number: u64) -> usize
-    requires { ⌜ Room (now text) at (labelled (now word) number) ⌝ }
+    requires { ⌜ RoomFor (now text) at (labelled (now word) number) ⌝ }
     ensures { λ r. ⌜ Put (now (text .entry)) at (labelled (now (word .entry)) number) r (now (text .exit)) ⌝ }
 {
     let n = put_word(text, at, word);

@@ -34,18 +34,6 @@ passed p = found (p .before .before) ∙ p .enum-told .given .1
 searchable : (p : tie.After-enum-told) → Searchable (searched p .args .t) (lefts (searched p)) (searched p .args .right .now)
 searchable p = first-passed (searched p .args .t) (lefts (searched p)) (searched p .args .right .now) (passed p)
 
-test-first-requires : tie.Need-test-first-requires
-test-first-requires c κs = search needs
-
-enum-known-tested : tie.Need-enum-known-tested
-enum-known-tested c = search needs
-
-enum-told : tie.Need-enum-told
-enum-told c = search needs
-
-slice-aggregate-insert-part : tie.Need-slice-aggregate-insert-part
-slice-aggregate-insert-part c = search needs
-
 insert-part-requires : tie.Need-insert-part-requires
 insert-part-requires c κs =
     let p = c .before in
@@ -81,13 +69,5 @@ returns-2 c =
 pub find-first-spec : {M : Type 1} → statement M
 find-first-spec =
     tie.close
-    (tie.spec
-    test-first-requires
-    enum-known-tested
-    enum-told
-    slice-aggregate-insert-part
-    insert-part-requires
-    slice-aggregate-search
-    search-requires
-    returns
-    returns-2)
+    (tie.spec (λ c κs. search needs) (λ c. search needs) (λ c. search needs) (λ c. search needs) insert-part-requires
+    slice-aggregate-search search-requires returns returns-2)

@@ -7,9 +7,6 @@ use Rattle.first_search.proofs.Searching.{marked-some, marked-none}
 use Rattle.first_search.proofs.is_marked.Statement.{statement}
 use Rattle.first_search.proofs.is_marked.Tie as tie
 
-contains-part-requires : tie.Need-contains-part-requires
-contains-part-requires c κs = search needs
-
 returns : tie.Need-returns
 returns c =
     let s = c .before .before .before .before in
@@ -21,4 +18,4 @@ returns-2 c =
     le-ltb (s .args .start) (s .args .end) (omega arith) ∙ marked-none (s .args .marks .now) (s .args .items .now) (omega arith)
 
 pub is-marked-spec : {M : Type 1} → statement M
-is-marked-spec = tie.close (tie.spec contains-part-requires returns returns-2)
+is-marked-spec = tie.close (tie.spec (λ c κs. search needs) returns returns-2)

@@ -19,12 +19,6 @@ loop-holds : tie.Need-loop-holds Inv-loop μ-loop
 loop-holds c =
     let a = c .before .before .before .args in searching-start (a .left-ends .now) (a .left-items .now) (a .marks .now)
 
-mul-end : tie.Need-mul-end Inv-loop μ-loop
-mul-end c = search needs
-
-shared-slice-read-end : tie.Need-shared-slice-read-end Inv-loop μ-loop
-shared-slice-read-end c = search needs
-
 cast-end : tie.Need-cast-end Inv-loop μ-loop
 cast-end c = omega (arith, c .shared-slice-known4 .given (c .before .before .loop .k) .fits)
 
@@ -33,19 +27,10 @@ is-marked-requires c κs =
     let p = c .before in
     searching-part (p .before .loop .inv) (p .loop-test .taken) (p .before .before .before .before .before .pre)
 
-add-t12 : tie.Need-add-t12 Inv-loop μ-loop
-add-t12 c = search needs
-
 returns : tie.Need-returns Inv-loop μ-loop
 returns c =
     let p = c .before .before .before in
     searching-stop (p .before .loop .inv) (p .loop-test .taken) (sym (c .if1 .taken) ∙ c .before .is-marked .ensures)
-
-add-k : tie.Need-add-k Inv-loop μ-loop
-add-k c = search needs
-
-loop-less : tie.Need-loop-less Inv-loop μ-loop
-loop-less c = omega arith
 
 loop-again : tie.Need-loop-again Inv-loop μ-loop
 loop-again c =
@@ -58,17 +43,5 @@ returns-2 c = searching-end (c .before .loop .inv) (omega (arith, c .loop-test .
 pub search-spec : {M : Type 1} → statement M
 search-spec =
     tie.close
-    (tie.spec
-    Inv-loop
-    μ-loop
-    loop-holds
-    mul-end
-    shared-slice-read-end
-    cast-end
-    is-marked-requires
-    add-t12
-    returns
-    add-k
-    loop-less
-    loop-again
-    returns-2)
+    (tie.spec Inv-loop μ-loop loop-holds (λ c. search needs) (λ c. search needs) cast-end is-marked-requires
+    (λ c. search needs) returns (λ c. search needs) (λ c. omega arith) loop-again returns-2)

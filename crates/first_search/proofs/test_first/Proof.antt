@@ -29,37 +29,16 @@ items-passed p = items-found (before-side p) ∙ p .before .enum-told .given .1
 left-found : (p : tie.After-test-side) → sideTest (start (before-side p) .args .t) Left (lefts (start (before-side p))) ≡ p .test-side .result
 left-found p = sym (p .test-side .ensures)
 
-test-items-requires : tie.Need-test-items-requires
-test-items-requires c κs = search needs
-
-enum-known-items : tie.Need-enum-known-items
-enum-known-items c = search needs
-
 returns : tie.Need-returns
 returns c =
     let p = c .before .before .before in
     first-items-failed (start p .args .t) (lefts (start p)) (start p .args .right .now) (items-found p ∙ c .before .items .given .1)
-
-enum-told : tie.Need-enum-told
-enum-told c = search needs
-
-test-side-requires : tie.Need-test-side-requires
-test-side-requires c κs = search needs
-
-enum-known-left : tie.Need-enum-known-left
-enum-known-left c = search needs
 
 returns-2 : tie.Need-returns-2
 returns-2 c =
     let p = c .before .before .before in
     let s = start (before-side p) in
     first-lefts-failed (s .args .t) (lefts s) (s .args .right .now) (items-passed p) (left-found p ∙ c .before .left .given .1)
-
-enum-told-2 : tie.Need-enum-told-2
-enum-told-2 c = search needs
-
-test-lone-requires : tie.Need-test-lone-requires
-test-lone-requires c κs = search needs
 
 returns-3 : tie.Need-returns-3
 returns-3 c =
@@ -71,14 +50,5 @@ returns-3 c =
 pub test-first-spec : {M : Type 1} → statement M
 test-first-spec =
     tie.close
-    (tie.spec
-    test-items-requires
-    enum-known-items
-    returns
-    enum-told
-    test-side-requires
-    enum-known-left
-    returns-2
-    enum-told-2
-    test-lone-requires
-    returns-3)
+    (tie.spec (λ c κs. search needs) (λ c. search needs) returns (λ c. search needs) (λ c κs. search needs)
+    (λ c. search needs) returns-2 (λ c. search needs) (λ c κs. search needs) returns-3)

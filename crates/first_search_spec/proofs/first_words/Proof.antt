@@ -14,18 +14,6 @@ byte-one : (b : Bool) → boolByte b ≡ one b
 byte-one true = refl
 byte-one false = refl
 
-enum-known-answer : tie.Need-enum-known-answer
-enum-known-answer c = search needs
-
-cast-t6 : tie.Need-cast-t6
-cast-t6 c = search needs
-
-enum-known-answer-2 : tie.Need-enum-known-answer-2
-enum-known-answer-2 c = search needs
-
-head-of-requires : tie.Need-head-of-requires
-head-of-requires c κs = search needs
-
 returns : tie.Need-returns
 returns c =
     let a = c .before .before .answer .given in
@@ -41,4 +29,4 @@ returns-2 c =
 pub first-words-spec : {M : Type 1} → statement M
 first-words-spec =
     tie.close
-    (tie.spec enum-known-answer cast-t6 enum-known-answer-2 head-of-requires returns returns-2)
+    (tie.spec (λ c. search needs) (λ c. search needs) (λ c. search needs) (λ c κs. search needs) returns returns-2)

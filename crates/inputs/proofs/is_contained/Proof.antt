@@ -24,30 +24,9 @@ loop-holds c = containing-start _ _ (omega arith) (c .before .pre .0) (c .before
 returns-2 : tie.Need-returns-2 Inv-loop μ-loop
 returns-2 c = containing-stop (c .before .before .loop .inv) (omega arith) (c .if2 .taken)
 
-mul-x : tie.Need-mul-x Inv-loop μ-loop
-mul-x c = omega arith
-
-shared-slice-read-x : tie.Need-shared-slice-read-x Inv-loop μ-loop
-shared-slice-read-x c = omega arith
-
-mul-y : tie.Need-mul-y Inv-loop μ-loop
-mul-y c = omega arith
-
-shared-slice-read-y : tie.Need-shared-slice-read-y Inv-loop μ-loop
-shared-slice-read-y c = omega arith
-
 returns-3 : tie.Need-returns-3 Inv-loop μ-loop
 returns-3 c =
     containing-low (c .before .before .before .before .before .loop .inv) (omega arith) (omega arith) (c .if3 .taken)
-
-add-i : tie.Need-add-i Inv-loop μ-loop
-add-i c = omega arith
-
-add-j : tie.Need-add-j Inv-loop μ-loop
-add-j c = omega arith
-
-loop-less : tie.Need-loop-less Inv-loop μ-loop
-loop-less c = omega arith
 
 loop-again : tie.Need-loop-again Inv-loop μ-loop
 loop-again c =
@@ -63,19 +42,5 @@ returns-4 c = containing-end (c .before .loop .inv) (c .loop-test .left)
 pub is-contained-spec : {M : Type 1} → statement M
 is-contained-spec =
     tie.close
-    (tie.spec
-    Inv-loop
-    μ-loop
-    returns
-    loop-holds
-    returns-2
-    mul-x
-    shared-slice-read-x
-    mul-y
-    shared-slice-read-y
-    returns-3
-    add-i
-    add-j
-    loop-less
-    loop-again
-    returns-4)
+    (tie.spec Inv-loop μ-loop returns loop-holds returns-2 (λ c. omega arith) (λ c. omega arith) (λ c. omega arith)
+    (λ c. omega arith) returns-3 (λ c. omega arith) (λ c. omega arith) (λ c. omega arith) loop-again returns-4)

@@ -5,9 +5,6 @@ use borrow.Author.Needs.{needs}
 use Rattle.inputs.proofs.test_lone.Statement.{statement}
 use Rattle.inputs.proofs.test_lone.Tie as tie
 
-good-items-requires : tie.Need-good-items-requires
-good-items-requires c κs = search needs
-
 returns : tie.Need-returns
 returns c = lone-passed _ _ _ (sym (c .if1 .taken) ∙ c .before .good-items .ensures)
 
@@ -15,4 +12,4 @@ returns-2 : tie.Need-returns-2
 returns-2 c = lone-failed _ _ _ (sym (c .if1 .left) ∙ c .before .good-items .ensures)
 
 pub test-lone-spec : {M : Type 1} → statement M
-test-lone-spec = tie.close (tie.spec good-items-requires returns returns-2)
+test-lone-spec = tie.close (tie.spec (λ c κs. search needs) returns returns-2)

@@ -5,18 +5,6 @@ use borrow.Author.Needs.{needs}
 use Rattle.inputs.proofs.test_sets.Statement.{statement}
 use Rattle.inputs.proofs.test_sets.Tie as tie
 
-test-side-requires : tie.Need-test-side-requires
-test-side-requires c κs = search needs
-
-enum-known-left : tie.Need-enum-known-left
-enum-known-left c = search needs
-
-enum-told : tie.Need-enum-told
-enum-told c = search needs
-
-test-side-requires-2 : tie.Need-test-side-requires-2
-test-side-requires-2 c κs = search needs
-
 returns : tie.Need-returns
 returns c = sets-failed _ (sym (c .before .before .before .test-side .ensures) ∙ c .before .left .given .1)
 
@@ -28,4 +16,4 @@ returns-2 c =
 pub test-sets-spec : {M : Type 1} → statement M
 test-sets-spec =
     tie.close
-    (tie.spec test-side-requires enum-known-left enum-told test-side-requires-2 returns returns-2)
+    (tie.spec (λ c κs. search needs) (λ c. search needs) (λ c. search needs) (λ c κs. search needs) returns returns-2)

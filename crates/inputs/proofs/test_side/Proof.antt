@@ -5,15 +5,6 @@ use borrow.Author.Needs.{needs}
 use Rattle.inputs.proofs.test_side.Statement.{statement}
 use Rattle.inputs.proofs.test_side.Tie as tie
 
-first-bad-requires : tie.Need-first-bad-requires
-first-bad-requires c κs = search needs
-
-enum-told : tie.Need-enum-told
-enum-told c = search needs
-
-enum-known-verdict : tie.Need-enum-known-verdict
-enum-known-verdict c = search needs
-
 returns : tie.Need-returns
 returns c = side-passed _ _ _ (sym (c .before .before .first-bad .ensures) ∙ c .enum-told .given .1)
 
@@ -21,5 +12,4 @@ returns-2 : tie.Need-returns-2
 returns-2 c = side-failed _ _ _ (sym (c .before .before .before .first-bad .ensures) ∙ c .before .verdict .given .1)
 
 pub test-side-spec : {M : Type 1} → statement M
-test-side-spec =
-    tie.close (tie.spec first-bad-requires enum-told enum-known-verdict returns returns-2)
+test-side-spec = tie.close (tie.spec (λ c κs. search needs) (λ c. search needs) (λ c. search needs) returns returns-2)

@@ -5,9 +5,6 @@ use borrow.Author.Needs.{needs}
 use Rattle.inputs.proofs.test_work.Statement.{statement}
 use Rattle.inputs.proofs.test_work.Tie as tie
 
-words-needed-requires : tie.Need-words-needed-requires
-words-needed-requires c κs = search needs
-
 returns : tie.Need-returns
 returns c = work-short _ _ (rw (c .before .words-needed .ensures) at (c .if1 .taken))
 
@@ -15,4 +12,4 @@ returns-2 : tie.Need-returns-2
 returns-2 c = sym (enough-work _ _ (rw (c .before .words-needed .ensures) at (c .if1 .left)))
 
 pub test-work-spec : {M : Type 1} → statement M
-test-work-spec = tie.close (tie.spec words-needed-requires returns returns-2)
+test-work-spec = tie.close (tie.spec (λ c κs. search needs) returns returns-2)

@@ -22,15 +22,6 @@ start p = p .before .before .before .before .before .before
 found : (p : tie.After-test-order) → orderTest (input (start p)) (length (start p .args .ranks .now)) ≡ p .test-order .result
 found p = sym (p .test-order .ensures)
 
-test-order-requires : tie.Need-test-order-requires
-test-order-requires c κs = search needs
-
-enum-known-tested : tie.Need-enum-known-tested
-enum-known-tested c = search needs
-
-enum-told : tie.Need-enum-told
-enum-told c = search needs
-
 fill-ranks-requires : tie.Need-fill-ranks-requires
 fill-ranks-requires c κs =
     let told = c .before in
@@ -42,9 +33,6 @@ returns c =
     let p = c .before .before .before in
     let s = start p in
     call-refused (input s) (s .args .falling) (s .args .ranks .now) _ (found p ∙ c .before .tested .given .1)
-
-same-length : tie.Need-same-length
-same-length c = search needs
 
 returns-2 : tie.Need-returns-2
 returns-2 c =
@@ -58,11 +46,5 @@ returns-2 c =
 pub order-spec : {M : Type 1} → statement M
 order-spec =
     tie.close
-    (tie.spec
-    test-order-requires
-    enum-known-tested
-    enum-told
-    fill-ranks-requires
-    returns
-    same-length
+    (tie.spec (λ c κs. search needs) (λ c. search needs) (λ c. search needs) fill-ranks-requires returns (λ c. search needs)
     returns-2)

@@ -20,28 +20,16 @@ start p = p .before .before .before .before .before
 found : (p : tie.After-test-items) → itemsTest (start p .args .t) ≡ p .test-items .result
 found p = sym (p .test-items .ensures)
 
-test-items-requires : tie.Need-test-items-requires
-test-items-requires c κs = search needs
-
-enum-known-items : tie.Need-enum-known-items
-enum-known-items c = search needs
-
 returns : tie.Need-returns
 returns c =
     let p = c .before .before .before in
     test-items (input (start p)) (start p .args .places) (found p ∙ c .before .items .given .1)
-
-enum-told : tie.Need-enum-told
-enum-told c = search needs
 
 returns-2 : tie.Need-returns-2
 returns-2 c =
     let told = c .before in
     let p = told .before .before in
     test-length (input (start p)) (start p .args .places) (found p ∙ told .enum-told .given .1) (c .if1 .taken)
-
-test-sets-requires : tie.Need-test-sets-requires
-test-sets-requires c κs = search needs
 
 returns-3 : tie.Need-returns-3
 returns-3 c =
@@ -53,11 +41,5 @@ returns-3 c =
 pub test-order-spec : {M : Type 1} → statement M
 test-order-spec =
     tie.close
-    (tie.spec
-    test-items-requires
-    enum-known-items
-    returns
-    enum-told
-    returns-2
-    test-sets-requires
+    (tie.spec (λ c κs. search needs) (λ c. search needs) returns (λ c. search needs) returns-2 (λ c κs. search needs)
     returns-3)

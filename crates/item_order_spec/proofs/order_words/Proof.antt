@@ -6,18 +6,6 @@ use borrow.Author.Needs.{needs}
 use Rattle.item_order_spec.proofs.order_words.Statement.{statement}
 use Rattle.item_order_spec.proofs.order_words.Tie as tie
 
-enum-told : tie.Need-enum-told
-enum-told c = search needs
-
-enum-known-answer : tie.Need-enum-known-answer
-enum-known-answer c = search needs
-
-head-of-requires : tie.Need-head-of-requires
-head-of-requires c κs = search needs
-
-returns : tie.Need-returns
-returns c = search needs
-
 returns-2 : tie.Need-returns-2
 returns-2 c =
     let a = c .before .before .answer .given in
@@ -26,4 +14,5 @@ returns-2 c =
 
 pub order-words-spec : {M : Type 1} → statement M
 order-words-spec =
-    tie.close (tie.spec enum-told enum-known-answer head-of-requires returns returns-2)
+    tie.close
+    (tie.spec (λ c. search needs) (λ c. search needs) (λ c κs. search needs) (λ c. search needs) returns-2)

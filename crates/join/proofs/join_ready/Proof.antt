@@ -41,12 +41,6 @@ done c =
 build-requires : tie.Need-build-requires
 build-requires c κs = build-room (c .before .before .before .before .before .before .before .before .pre)
 
-clear-flags-requires : tie.Need-clear-flags-requires
-clear-flags-requires c κs = search needs
-
-slice-aggregate-walk : tie.Need-slice-aggregate-walk
-slice-aggregate-walk c = search needs
-
 walk-requires : tie.Need-walk-requires
 walk-requires c κs =
     let made = c .before .before .before .before .before in
@@ -61,9 +55,6 @@ walk-requires c κs =
 answer-tally-requires : tie.Need-answer-tally-requires
 answer-tally-requires c κs = let walked = c .before .before .before in sums-fit (start walked .pre) (done walked)
 
-slice-aggregate-write-answer : tie.Need-slice-aggregate-write-answer
-slice-aggregate-write-answer c = search needs
-
 write-answer-requires : tie.Need-write-answer-requires
 write-answer-requires c κs =
     let answered = c .before .before .before in
@@ -74,12 +65,6 @@ write-answer-requires c κs =
       },
       walked .walk .ensures .1,
     )
-
-same-length : tie.Need-same-length
-same-length c = search needs
-
-same-length-2 : tie.Need-same-length-2
-same-length-2 c = search needs
 
 returns : tie.Need-returns
 returns c =
@@ -92,14 +77,5 @@ returns c =
 pub join-ready-spec : {M : Type 1} → statement M
 join-ready-spec =
     tie.close
-    (tie.spec
-    build-requires
-    clear-flags-requires
-    slice-aggregate-walk
-    walk-requires
-    answer-tally-requires
-    slice-aggregate-write-answer
-    write-answer-requires
-    same-length
-    same-length-2
-    returns)
+    (tie.spec build-requires (λ c κs. search needs) (λ c. search needs) walk-requires answer-tally-requires
+    (λ c. search needs) write-answer-requires (λ c. search needs) (λ c. search needs) returns)

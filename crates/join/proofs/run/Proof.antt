@@ -7,15 +7,6 @@ use Rattle.join.proofs.CallLaws.{call-refused, call-walked}
 use Rattle.join.proofs.run.Statement.{statement}
 use Rattle.join.proofs.run.Tie as tie
 
-test-join-requires : tie.Need-test-join-requires
-test-join-requires c κs = search needs
-
-enum-known-tested : tie.Need-enum-known-tested
-enum-known-tested c = search needs
-
-enum-told : tie.Need-enum-told
-enum-told c = search needs
-
 join-ready-requires : tie.Need-join-ready-requires
 join-ready-requires c κs =
     let told = c .before .before in
@@ -28,12 +19,6 @@ returns c =
     let tested = told .before .before in
     call-refused _ _ _ _ (sym (tested .test-join .ensures) ∙ told .tested .given .1)
 
-same-length : tie.Need-same-length
-same-length c = search needs
-
-same-length-2 : tie.Need-same-length-2
-same-length-2 c = search needs
-
 returns-2 : tie.Need-returns-2
 returns-2 c =
     let done = c .before .before .before .before in
@@ -45,12 +30,5 @@ returns-2 c =
 pub run-spec : {M : Type 1} → statement M
 run-spec =
     tie.close
-    (tie.spec
-    test-join-requires
-    enum-known-tested
-    enum-told
-    join-ready-requires
-    returns
-    same-length
-    same-length-2
-    returns-2)
+    (tie.spec (λ c κs. search needs) (λ c. search needs) (λ c. search needs) join-ready-requires returns (λ c. search needs)
+    (λ c. search needs) returns-2)

@@ -6,32 +6,11 @@ use borrow.Author.Needs.{needs}
 use Rattle.join.proofs.run_numbered.Statement.{statement}
 use Rattle.join.proofs.run_numbered.Tie as tie
 
-test-rule-requires : tie.Need-test-rule-requires
-test-rule-requires c κs = search needs
-
-enum-known-tested : tie.Need-enum-known-tested
-enum-known-tested c = search needs
-
-enum-told : tie.Need-enum-told
-enum-told c = search needs
-
-rule-of-requires : tie.Need-rule-of-requires
-rule-of-requires c κs = search needs
-
-run-requires : tie.Need-run-requires
-run-requires c κs = search needs
-
 returns : tie.Need-returns
 returns c =
     let told = c .before in
     let tested = told .before .before in
     number-failed _ _ _ _ _ _ _ _ (sym (tested .test-rule .ensures) ∙ told .tested .given .1)
-
-same-length : tie.Need-same-length
-same-length c = search needs
-
-same-length-2 : tie.Need-same-length-2
-same-length-2 c = search needs
 
 returns-2 : tie.Need-returns-2
 returns-2 c =
@@ -45,13 +24,5 @@ returns-2 c =
 pub run-numbered-spec : {M : Type 1} → statement M
 run-numbered-spec =
     tie.close
-    (tie.spec
-    test-rule-requires
-    enum-known-tested
-    enum-told
-    rule-of-requires
-    run-requires
-    returns
-    same-length
-    same-length-2
-    returns-2)
+    (tie.spec (λ c κs. search needs) (λ c. search needs) (λ c. search needs) (λ c κs. search needs) (λ c κs. search needs)
+    returns (λ c. search needs) (λ c. search needs) returns-2)

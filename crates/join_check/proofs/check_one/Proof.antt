@@ -1,4 +1,4 @@
--- `join_check::checks::check_one` meets its contract: each end of a check raises its counter.
+-- `join_check::check_one` meets its contract: each end of a check raises its counter.
 use mathlib.Core.Path.{sym, ap, _∙_}
 use native.Mathlib.Omega.{arith}
 use Rattle.lists.specs.Lists.{sum}
@@ -8,25 +8,13 @@ use borrow.Author.Needs.{needs}
 use Rattle.join_check.proofs.check_one.Statement.{statement}
 use Rattle.join_check.proofs.check_one.Tie as tie
 
-check-probe-requires : tie.Need-check-probe-requires
-check-probe-requires c κs = search needs
-
-enum-told : tie.Need-enum-told
-enum-told c = search needs
-
 add-t8 : tie.Need-add-t8
 unfolding sum
 add-t8 c = search needs
 
-enum-told-2 : tie.Need-enum-told-2
-enum-told-2 c = search needs
-
 add-t9 : tie.Need-add-t9
 unfolding sum
 add-t9 c = search needs
-
-enum-told-3 : tie.Need-enum-told-3
-enum-told-3 c = search needs
 
 add-t10 : tie.Need-add-t10
 unfolding sum
@@ -71,14 +59,5 @@ returns-3 c =
 pub check-one-spec : {M : Type 1} → statement M
 check-one-spec =
     tie.close
-    (tie.spec
-    check-probe-requires
-    enum-told
-    add-t8
-    enum-told-2
-    add-t9
-    enum-told-3
-    add-t10
-    returns
-    returns-2
-    returns-3)
+    (tie.spec (λ c κs. search needs) (λ c. search needs) add-t8 (λ c. search needs) add-t9 (λ c. search needs) add-t10 returns
+    returns-2 returns-3)

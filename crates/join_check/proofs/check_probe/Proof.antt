@@ -1,4 +1,4 @@
--- `join_check::checks::check_probe` meets its contract: the signatures tell a drop, else the ranks decide.
+-- `join_check::check_probe` meets its contract: the signatures tell a drop, else the ranks decide.
 use mathlib.Core.Path.{_≡_, sym, ap, _∙_}
 use mathlib.Core.Bool.{Bool, cond}
 use native.Mathlib.Omega.{arith}
@@ -12,39 +12,15 @@ use borrow.Author.Needs.{needs}
 use Rattle.join_check.proofs.check_probe.Statement.{statement}
 use Rattle.join_check.proofs.check_probe.Tie as tie
 
-mul-double-at : tie.Need-mul-double-at
-mul-double-at c = search needs
-
-add-double-at : tie.Need-add-double-at
-add-double-at c = search needs
-
-double-at-requires : tie.Need-double-at-requires
-double-at-requires c κs = search needs
-
 returns : tie.Need-returns
 returns c =
     let at-double-at = c .before in
     let p = at-double-at .before .before .args .p in
     λ q there. sym (outcome-dropped p (at-double-at .double-at .ensures) there (c .if1 .taken))
 
-add-word-at : tie.Need-add-word-at
-add-word-at c = search needs
-
-word-at-requires : tie.Need-word-at-requires
-word-at-requires c κs = search needs
-
 add-from : tie.Need-add-from
 add-from c =
     let s = right-stored (c .before .before .before .before .pre .0 .holds) in omega arith
-
-add-word-at-2 : tie.Need-add-word-at-2
-add-word-at-2 c = search needs
-
-add-word-at-3 : tie.Need-add-word-at-3
-add-word-at-3 c = search needs
-
-word-at-requires-2 : tie.Need-word-at-requires-2
-word-at-requires-2 c κs = search needs
 
 add-to : tie.Need-add-to
 add-to c =
@@ -79,18 +55,6 @@ returns-3 c =
 pub check-probe-spec : {M : Type 1} → statement M
 check-probe-spec =
     tie.close
-    (tie.spec
-    mul-double-at
-    add-double-at
-    double-at-requires
-    returns
-    add-word-at
-    word-at-requires
-    add-from
-    add-word-at-2
-    add-word-at-3
-    word-at-requires-2
-    add-to
-    subset-words-requires
-    returns-2
-    returns-3)
+    (tie.spec (λ c. search needs) (λ c. search needs) (λ c κs. search needs) returns (λ c. search needs)
+    (λ c κs. search needs) add-from (λ c. search needs) (λ c. search needs) (λ c κs. search needs) add-to
+    subset-words-requires returns-2 returns-3)

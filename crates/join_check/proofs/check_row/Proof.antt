@@ -1,4 +1,4 @@
--- `join_check::checks::check_row` meets its contract. The invariant is `RowChecking`: the counters, with the checks of
+-- `join_check::check_row` meets its contract. The invariant is `RowChecking`: the counters, with the checks of
 -- the places still to come, are what they were with all. The measure is how many places are to come.
 use Prim.Native.Nat.{_-_}
 use native.Mathlib.Omega.{arith}
@@ -45,14 +45,6 @@ check-one-requires c κs =
       ),
     )
 
-add-i : tie.Need-add-i Inv-loop μ-loop
-add-i c =
-    omega arith
-
-loop-less : tie.Need-loop-less Inv-loop μ-loop
-loop-less c =
-    omega arith
-
 loop-again : tie.Need-loop-again Inv-loop μ-loop
 loop-again c =
     let test = c .before .before in
@@ -66,14 +58,5 @@ returns c = row-end (c .before .loop .inv) (c .loop-test .left)
 pub check-row-spec : {M : Type 1} → statement M
 check-row-spec =
     tie.close
-    (tie.spec
-    Inv-loop
-    μ-loop
-    probe-left-requires
-    loop-holds
-    word-at-requires
-    check-one-requires
-    add-i
-    loop-less
-    loop-again
-    returns)
+    (tie.spec Inv-loop μ-loop probe-left-requires loop-holds word-at-requires check-one-requires (λ c. omega arith)
+    (λ c. omega arith) loop-again returns)

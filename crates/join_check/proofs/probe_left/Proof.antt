@@ -1,4 +1,4 @@
--- `join_check::checks::probe_left` meets its contract: the ranks of a left set lie between two starts.
+-- `join_check::probe_left` meets its contract: the ranks of a left set lie between two starts.
 use mathlib.Core.Bool.{false}
 use native.Mathlib.Omega.{arith}
 use Rattle.join_index.proofs.Reading.{left-stored, left-low}
@@ -7,33 +7,9 @@ use borrow.Author.Needs.{needs}
 use Rattle.join_check.proofs.probe_left.Statement.{statement}
 use Rattle.join_check.proofs.probe_left.Tie as tie
 
-mul-double-at : tie.Need-mul-double-at
-mul-double-at c = search needs
-
-add-double-at : tie.Need-add-double-at
-add-double-at c = search needs
-
-double-at-requires : tie.Need-double-at-requires
-double-at-requires c κs = search needs
-
-add-word-at : tie.Need-add-word-at
-add-word-at c = search needs
-
-word-at-requires : tie.Need-word-at-requires
-word-at-requires c κs = search needs
-
 add-from : tie.Need-add-from
 add-from c =
     let s = left-stored (c .before .before .before .pre .holds) in omega arith
-
-add-word-at-2 : tie.Need-add-word-at-2
-add-word-at-2 c = search needs
-
-add-word-at-3 : tie.Need-add-word-at-3
-add-word-at-3 c = search needs
-
-word-at-requires-2 : tie.Need-word-at-requires-2
-word-at-requires-2 c κs = search needs
 
 add-to : tie.Need-add-to
 add-to c =
@@ -64,9 +40,6 @@ sub-is-upward : tie.Need-sub-is-upward
 sub-is-upward c =
     let s = left-stored (c .before .before .before .before .before .pre .holds) in omega arith
 
-is-upward-requires : tie.Need-is-upward-requires
-is-upward-requires c κs = search needs
-
 add-t13 : tie.Need-add-t13
 add-t13 c =
     let s = left-stored (c .before .before .before .before .before .before .pre .holds) in omega arith
@@ -91,20 +64,6 @@ returns-2 c =
 pub probe-left-spec : {M : Type 1} → statement M
 probe-left-spec =
     tie.close
-    (tie.spec
-    mul-double-at
-    add-double-at
-    double-at-requires
-    add-word-at
-    word-at-requires
-    add-from
-    add-word-at-2
-    add-word-at-3
-    word-at-requires-2
-    add-to
-    sub-if1
-    returns
-    sub-is-upward
-    is-upward-requires
-    add-t13
-    returns-2)
+    (tie.spec (λ c. search needs) (λ c. search needs) (λ c κs. search needs) (λ c. search needs) (λ c κs. search needs)
+    add-from (λ c. search needs) (λ c. search needs) (λ c κs. search needs) add-to sub-if1 returns sub-is-upward
+    (λ c κs. search needs) add-t13 returns-2)

@@ -5,15 +5,6 @@ use Rattle.join_index.specs.Ground.{asksSeen}
 use Rattle.join_index.proofs.asks_seen.Statement.{statement}
 use Rattle.join_index.proofs.asks_seen.Tie as tie
 
-enum-told : tie.Need-enum-told
-enum-told c = search needs
-
-enum-told-2 : tie.Need-enum-told-2
-enum-told-2 c = search needs
-
-enum-told-3 : tie.Need-enum-told-3
-enum-told-3 c = search needs
-
 returns : tie.Need-returns
 unfolding asksSeen
 returns c = sym (ap asksSeen (c .enum-told .given .1))
@@ -27,4 +18,4 @@ unfolding asksSeen
 returns-3 c = sym (ap asksSeen (c .enum-told3 .given .1))
 
 pub asks-seen-spec : {M : Type 1} → statement M
-asks-seen-spec = tie.close (tie.spec enum-told enum-told-2 enum-told-3 returns returns-2 returns-3)
+asks-seen-spec = tie.close (tie.spec (λ c. search needs) (λ c. search needs) (λ c. search needs) returns returns-2 returns-3)

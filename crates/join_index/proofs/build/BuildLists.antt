@@ -26,10 +26,10 @@ use Rattle.join_index.specs.stages.Stages.{heldKey}
 use Rattle.join_index.specs.declared.Layout.{Layout}
 use Rattle.join_index.proofs.Ordering.{key-is}
 use Rattle.join_index.proofs.GroupLaws.{upto-place, ordered-agree}
-use Rattle.join_index.proofs.stages.HeldSets.{run-set}
+use Rattle.join_index.proofs.stages.HeldSets.{range-set}
 use Rattle.join_index.proofs.build.BuildPlan.{Planned, left-long, right-long}
 use Rattle.join_index.proofs.build.BuildPlan.{least-below, order-above, signed-above, slots-above}
-use Rattle.join_index.proofs.build.BuildStages.{Built, least-runs, order-runs}
+use Rattle.join_index.proofs.build.BuildStages.{Built, least-ranges, order-ranges}
 
 -- the order by the keys of the left sets
 order-from : (q : Query) (n d : ℕ) → orderedBy (keyAt q) (q .T) (upto (length (q .lefts))) n d ≡ orderFrom q n d
@@ -83,11 +83,11 @@ module _ {leftEnds leftItems rightEnds rightItems ranks w a b c d f : List ℕ} 
       frame-at 0 (lay .«least_offsets» + suc r) (lay .«by_least» + length rightEnds) c f
       (omega (arith, plan .out .byLeast)) from-least
 
-  seen-run : asksSeen rule ≡ true → (r : ℕ) → r < T
+  seen-range : asksSeen rule ≡ true → (r : ℕ) → r < T
       → slice (lay .«by_least») (lay .«by_least» + seenCount lay f r) f
       ≡ slice (sortedAt (lay .«least_offsets») (T + 1))
       (sortedAt (lay .«least_offsets») (T + 1) + getD c (lay .«least_offsets» + suc r) 0) c
-  seen-run asked r h =
+  seen-range asked r h =
       ap₂ (λ (s n : ℕ). slice s (s + n) f) (plan .out .byLeast) (seen-at r h)
       ∙ frame-slice (sortedAt (lay .«least_offsets») (T + 1))
       (sortedAt (lay .«least_offsets») (T + 1) + getD c (lay .«least_offsets» + suc r) 0)
@@ -101,14 +101,14 @@ module _ {leftEnds leftItems rightEnds rightItems ranks w a b c d f : List ℕ} 
   unfolding rightAt
   seen-same r s h =
       ap (λ (l : List ℕ). seen r l)
-      (run-set (lay .«right_starts») (lay .«right_ranks») (lay .«least_offsets») (length rightEnds) T b
-      (λ s. ordered T ranks (getD rights s [])) (least-runs plan (built .rightBuilt) (built .leftBuilt)) s h)
+      (range-set (lay .«right_starts») (lay .«right_ranks») (lay .«least_offsets») (length rightEnds) T b
+      (λ s. ordered T ranks (getD rights s [])) (least-ranges plan (built .rightBuilt) (built .leftBuilt)) s h)
 
   pub seen-first : asksSeen rule ≡ true → (r : ℕ) → r < T
       → Listing (length rights) (λ s. seen r (rightAt q s))
       (slice (lay .«by_least») (lay .«by_least» + seenCount lay f r) f)
   seen-first asked r h p =
-      ap (λ (l : List ℕ). count p l) (seen-run asked r h)
+      ap (λ (l : List ℕ). count p l) (seen-range asked r h)
       ∙ built .leastBuilt .seenFirst asked r h p
       ∙ count-agree (λ s. seen r (setAt b (lay .«right_starts») (lay .«right_ranks») s) && p s)
       (λ s. seen r (rightAt q s) && p s)
@@ -123,8 +123,8 @@ module _ {leftEnds leftItems rightEnds rightItems ranks w a b c d f : List ℕ} 
   unfolding leftAt
   order-keys e k h =
       ap (λ (l : List ℕ). keyIn e l)
-      (run-set (lay .«left_starts») (lay .«left_ranks») (lay .«by_least» + length rightEnds) (length leftEnds) T c
-      (λ k. ordered T ranks (getD lefts k [])) (order-runs plan (built .rightBuilt) (built .leftBuilt) (built .leastBuilt)) k h)
+      (range-set (lay .«left_starts») (lay .«left_ranks») (lay .«by_least» + length rightEnds) (length leftEnds) T c
+      (λ k. ordered T ranks (getD lefts k [])) (order-ranges plan (built .rightBuilt) (built .leftBuilt) (built .leastBuilt)) k h)
       ∙ sym (key-is q e k)
 
   order-is : orderedBy (heldKey c (lay .«left_starts») (lay .«left_ranks»)) T (upto (length leftEnds)) limit 0 ≡ orderOf q
@@ -134,16 +134,16 @@ module _ {leftEnds leftItems rightEnds rightItems ranks w a b c d f : List ℕ} 
       ∙ ap (λ (n : ℕ). orderedBy (keyAt q) T (upto n) limit 0) (sym (left-long plan))
       ∙ order-from q limit 0
 
-  order-end : lay .order + length lefts ≡ lay .«right_signatures»
+  order-end : lay .«left_order» + length lefts ≡ lay .«right_signatures»
   order-end = omega (arith, plan .out .rightSignatures, left-long plan)
 
-  pub in-order : RegionHolds f (lay .slots) (lay .order) (lay .order + length lefts) (orderOf q)
+  pub in-order : RegionHolds f (lay .slots) (lay .«left_order») (lay .«left_order» + length lefts) (orderOf q)
   in-order =
       record {
         rise = omega arith;
         within = omega (arith, order-end, slots-above plan);
         is =
-            frame-slice (lay .order) (lay .order + length lefts) (lay .«right_signatures») d f
+            frame-slice (lay .«left_order») (lay .«left_order» + length lefts) (lay .«right_signatures») d f
             (omega (arith, order-end)) from-order
             ∙ ap₂ (λ (s n : ℕ). slice s (s + n) d) (plan .out .order) (left-long plan)
             ∙ built .orderBuilt .is

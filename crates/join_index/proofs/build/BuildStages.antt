@@ -18,7 +18,7 @@ use Rattle.join_index.specs.Grouping.{orderedBy}
 use Rattle.join_index.specs.stages.Stages.{StageRoom, LeastBuilt, OrderBuilt, heldKey}
 use Rattle.join_index.specs.declared.Layout.{Layout}
 use Rattle.join_index.proofs.Ordering.{ordered-below, ordered-short}
-use Rattle.join_index.proofs.stages.HeldSets.{runs-held}
+use Rattle.join_index.proofs.stages.HeldSets.{ranges-held}
 use Rattle.join_index.proofs.build.BuildPlan.{Planned}
 use Rattle.join_index.proofs.build.BuildPlan.{signed-above, slots-above, order-above, least-below, left-above, wide}
 use Rattle.join_index.proofs.build.BuildPlan.{right-end, right-ranks, left-end, left-starts, left-ranks, right-long}
@@ -100,18 +100,18 @@ module _ {leftEnds leftItems rightEnds rightItems ranks w : List ℕ} {nl nr : �
           side-set (left-built .held) (left-end p) v kept (lay .«left_starts») (lay .«left_ranks») high (left-starts p)
           (left-ranks p) more k below
 
-      pub least-runs : (s : ℕ) → s < length rightEnds
+      pub least-ranges : (s : ℕ) → s < length rightEnds
           → RegionHolds b (lay .«least_offsets») (startOf b (lay .«right_starts») (lay .«right_ranks») s)
           (startOf b (lay .«right_starts») (lay .«right_ranks») (suc s)) (ordered T ranks (getD rights s []))
-      least-runs s below = right-set b (left-built .frame) (lay .«least_offsets») (least-below p) s (omega (arith, right-long p))
+      least-ranges s below = right-set b (left-built .frame) (lay .«least_offsets») (least-below p) s (omega (arith, right-long p))
 
       pub least-room : StageRoom (lay .«least_offsets») (lay .«right_starts») (lay .«right_ranks») (length rightEnds) T
           (lay .slots) b
       least-room =
           record {
             held =
-                runs-held (lay .«right_starts») (lay .«right_ranks») (lay .«least_offsets») (length rightEnds) T b
-                (λ s. ordered T ranks (getD rights s [])) least-runs
+                ranges-held (lay .«right_starts») (lay .«right_ranks») (lay .«least_offsets») (length rightEnds) T b
+                (λ s. ordered T ranks (getD rights s [])) least-ranges
                 (omega (arith, p .out .rightStarts, p .out .rightRanks, least-below p))
                 (λ s. ordered-below T ranks (getD rights s []))
                 (λ s. ordered-short T ranks (getD rights s []))
@@ -124,10 +124,10 @@ module _ {leftEnds leftItems rightEnds rightItems ranks w : List ℕ} {nl nr : �
       module _ {rule : Rule} {c : List ℕ}
           (least-built : LeastBuilt rule (lay .«least_offsets») (lay .«right_starts») (lay .«right_ranks»)
           (length rightEnds) T b c) where
-        pub order-runs : (k : ℕ) → k < length leftEnds
+        pub order-ranges : (k : ℕ) → k < length leftEnds
             → RegionHolds c (lay .«by_least» + length rightEnds) (startOf c (lay .«left_starts») (lay .«left_ranks») k)
             (startOf c (lay .«left_starts») (lay .«left_ranks») (suc k)) (ordered T ranks (getD lefts k []))
-        order-runs k below =
+        order-ranges k below =
             left-set c (least-built .frame) (lay .«by_least» + length rightEnds) (order-above p) k (omega (arith, left-long p))
 
         pub order-room : StageRoom (lay .«by_least» + length rightEnds) (lay .«left_starts») (lay .«left_ranks»)
@@ -135,8 +135,8 @@ module _ {leftEnds leftItems rightEnds rightItems ranks w : List ℕ} {nl nr : �
         order-room =
             record {
               held =
-                  runs-held (lay .«left_starts») (lay .«left_ranks») (lay .«by_least» + length rightEnds) (length leftEnds) T c
-                  (λ k. ordered T ranks (getD lefts k [])) order-runs
+                  ranges-held (lay .«left_starts») (lay .«left_ranks») (lay .«by_least» + length rightEnds) (length leftEnds) T c
+                  (λ k. ordered T ranks (getD lefts k [])) order-ranges
                   (omega (arith, p .out .leftStarts, p .out .leftRanks, p .out .leastOffsets, order-above p))
                   (λ k. ordered-below T ranks (getD lefts k []))
                   (λ k. ordered-short T ranks (getD lefts k []))

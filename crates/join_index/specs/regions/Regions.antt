@@ -38,8 +38,8 @@ pub record LaidOut (T lefts rights leftEntries rightEntries words : ℕ) (lay : 
   pub leftRanks : lay .«left_ranks» ≡ ranksAt (leftBase lay T rights rightEntries) T leftEntries lefts
   pub leastOffsets : lay .«least_offsets» ≡ sideEnd (leftBase lay T rights rightEntries) T leftEntries lefts
   pub byLeast : lay .«by_least» ≡ sortedAt (lay .«least_offsets») (T + 1)
-  pub order : lay .order ≡ sortedAt (orderBase lay rights) (T + 1)
-  pub rightSignatures : lay .«right_signatures» ≡ lay .order + lefts
+  pub order : lay .«left_order» ≡ sortedAt (orderBase lay rights) (T + 1)
+  pub rightSignatures : lay .«right_signatures» ≡ lay .«left_order» + lefts
   pub leftSignatures : lay .«left_signatures» ≡ lay .«right_signatures» + 2 * rights
   pub slots : lay .slots ≡ lay .«left_signatures» + 2 * lefts
   pub rowStarts : lay .«row_starts» ≡ lay .slots + rightEntries

@@ -15,14 +15,14 @@ use Rattle.lists.proofs.Counting.{count-none, count-same-where}
 use Rattle.lists.proofs.Summing.{sum-same-where}
 use Rattle.lists.proofs.Ranges.{all-upto}
 use Rattle.join_spec.specs.Query.{Query}
-use Rattle.join_spec.specs.Walk.{Outcome, isCandidate}
+use Rattle.join_spec.specs.Walk.{Outcome, isCandidate, goes}
 use Rattle.join_index.specs.Grouping.{leftAt, rightAt, keyAt}
 use Rattle.join_index.specs.Ground.{Listing}
 use Rattle.join_index.specs.declared.Layout.{Layout}
 use Rattle.join_index.specs.Asking.{Index}
-use Rattle.join_index.specs.Runs.{run}
-use Rattle.join_check.specs.Checks.{rowCount, runCount, areCandidates, RunsThere}
-use Rattle.join_nodes.specs.Rows.{goes, row, pathPairs}
+use Rattle.join_index.specs.Ranges.{range}
+use Rattle.join_check.specs.Checks.{rowCount, rangeCount, areCandidates, RangesThere}
+use Rattle.join_nodes.specs.Rows.{row, pathPairs}
 use Rattle.join_nodes.proofs.Prefixes.{prefix-take, prefix-length}
 use Rattle.join_nodes.proofs.Narrowing.{candidate-path, listing-same}
 use Rattle.join_nodes.proofs.RowLaws.{MetOnly, row-stops, row-merges}
@@ -116,7 +116,7 @@ module _ {q : Query} {path : List ℕ} {d : ℕ} {lefts : List ℕ} (rooted : Ro
   module _ (list : List ℕ) (is : Outcome → Bool) (met : MetOnly is) where
     -- rows where the walk does not go on
     pub rows-stop : goes q path ≡ false → Listing (length (q .rights)) (λ s. isCandidate (d - 1) path (rightAt q s)) list
-        → sum (row is q d) lefts ≡ runCount q is list lefts
+        → sum (row is q d) lefts ≡ rangeCount q is list lefts
     rows-stop stop listing =
         sum-same-where (λ k. prefix path (leftAt q k)) (row is q d) (rowCount q is list) lefts (rooted .begin)
         (λ k begins.
@@ -139,11 +139,11 @@ module _ {q : Query} {path : List ℕ} {d : ℕ} {lefts : List ℕ} (rooted : Ro
         ∙ paths-many is (length list) lefts
 
 -- the left sets can be checked after e ranks of the path
-pub runs-there : {lay : Layout} {q : Query} {path w : List ℕ} {d e lo hi from to : ℕ} → Rooted q path d (run lay w lo hi)
+pub ranges-there : {lay : Layout} {q : Query} {path w : List ℕ} {d e lo hi from to : ℕ} → Rooted q path d (range lay w lo hi)
     → Index lay q w → to ≤ length w → hi ≤ length (q .lefts)
     → Listing (length (q .rights)) (λ s. isCandidate e path (rightAt q s)) (slice from to w) → e ≤ d
-    → RunsThere lay q w e lo hi from to
-runs-there {lay} {q} {path} {w} {d} {e} {lo} {hi} {from} {to} rooted index inside few listing short =
+    → RangesThere lay q w e lo hi from to
+ranges-there {lay} {q} {path} {w} {d} {e} {lo} {hi} {from} {to} rooted index inside few listing short =
     record {
       places = record {
         index = index;

@@ -17,8 +17,8 @@ use Rattle.join_spec.specs.Counting.{isCheck}
 use Rattle.join_spec.specs.Kinds.{isOf}
 use Rattle.join_spec.proofs.KindLaws.{kind-met}
 use Rattle.join_index.specs.declared.Layout.{Layout}
-use Rattle.join_index.specs.Runs.{run}
-use Rattle.join_check.specs.Checks.{checkAt, rowCount, runCount, RunsThere}
+use Rattle.join_index.specs.Ranges.{range}
+use Rattle.join_check.specs.Checks.{checkAt, rowCount, rangeCount, RangesThere}
 use Rattle.join_check.specs.declared.Tally.{Tally}
 use Rattle.join_check.proofs.Tallying.{tallied-same}
 use Rattle.join_nodes.specs.Rows.{row, pathPairs}
@@ -39,7 +39,7 @@ module _ (q : Query) (list lefts : List ℕ) where
   at-check : (k s : ℕ) → isCheck (checkAt q k s) ≡ true
   at-check k s = check-is (drops (signature _) (signature _)) (contained _ _)
 
-  pub checks-all : runCount q isCheck list lefts ≡ length lefts * length list
+  pub checks-all : rangeCount q isCheck list lefts ≡ length lefts * length list
   checks-all =
       sum-same (rowCount q isCheck list) (λ k. length list) lefts
       (λ k. count-same (λ s. isCheck (checkAt q k s)) (λ s. true) list (λ s. at-check k s) ∙ count-true list)
@@ -47,10 +47,10 @@ module _ (q : Query) (list lefts : List ℕ) where
 
 -- a block of checks answers for its left sets where their rows are its checks
 pub block-visited : {lay : Layout} {q : Query} {w : List ℕ} {budget d e lo hi from to : ℕ} {p : Progress} {r : Walked}
-    → RunsThere lay q w e lo hi from to → length (run lay w lo hi) ≡ hi - lo → length (slice from to w) ≡ to - from
+    → RangesThere lay q w e lo hi from to → length (range lay w lo hi) ≡ hi - lo → length (slice from to w) ≡ to - from
     → ((is : Outcome → Bool) → MetOnly is
-    → sum (row is q d) (run lay w lo hi) ≡ runCount q is (slice from to w) (run lay w lo hi))
-    → Blocked lay w budget e lo hi from to p r → Visited q budget d (run lay w lo hi) (p .tally) r
+    → sum (row is q d) (range lay w lo hi) ≡ rangeCount q is (slice from to w) (range lay w lo hi))
+    → Blocked lay w budget e lo hi from to p r → Visited q budget d (range lay w lo hi) (p .tally) r
 block-visited {lay} {q} {w} {budget} {d} {e} {lo} {hi} {from} {to} {p} {r} there lefts rights rows block =
     record {
       added = λ calm.
@@ -61,7 +61,7 @@ block-visited {lay} {q} {w} {budget} {d} {e} {lo} {hi} {from} {to} {p} {r} there
             arith,
             block .beyond spent,
             rows isCheck refl,
-            checks-all q (slice from to w) (run lay w lo hi),
+            checks-all q (slice from to w) (range lay w lo hi),
             ap₂ (λ (a b : ℕ). a * b) lefts rights,
           );
     }

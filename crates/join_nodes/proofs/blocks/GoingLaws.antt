@@ -17,18 +17,18 @@ use Rattle.join_spec.specs.Counting.{isByPath}
 use Rattle.join_index.specs.Grouping.{rightAt}
 use Rattle.join_index.specs.Ground.{Listing}
 use Rattle.join_index.specs.declared.Layout.{Layout}
-use Rattle.join_index.specs.Asking.{RunThere}
-use Rattle.join_index.specs.Runs.{run}
-use Rattle.join_check.specs.Checks.{RunsThere}
+use Rattle.join_index.specs.Asking.{RangeThere}
+use Rattle.join_index.specs.Ranges.{range}
+use Rattle.join_check.specs.Checks.{RangesThere}
 use Rattle.join_nodes.specs.Rows.{pathPairs}
 use Rattle.join_nodes.specs.Narrowing.{candidateList}
 use Rattle.join_nodes.specs.declared.Progress.{Progress}
-use Rattle.join_nodes.specs.declared.Settings.{Settings}
+use Rattle.join_nodes.specs.declared.WalkSettings.{WalkSettings}
 use Rattle.join_nodes.proofs.Narrowing.{listing-kept}
 use Rattle.join_nodes.proofs.FrameLaws.{rows-inside}
 use Rattle.join_nodes.proofs.PathLaws.{paths-all}
 use Rattle.join_nodes.specs.blocks.Blocks.{Going}
-use Rattle.join_nodes.proofs.blocks.BlockLaws.{Rooted, runs-there}
+use Rattle.join_nodes.proofs.blocks.BlockLaws.{Rooted, ranges-there}
 
 -- the candidates after a path are at most the right sets
 candidates-most : (q : Query) (path : List ℕ) (e : ℕ) → length (candidateList q path e) ≤ length (q .rights)
@@ -40,12 +40,12 @@ candidates-most q path e =
       length-range 0 (length (q .rights)),
     )
 
-module _ {lay : Layout} {st : Settings} {q : Query} {path w : List ℕ} {d lo hi from to : ℕ} {p : Progress}
+module _ {lay : Layout} {st : WalkSettings} {q : Query} {path w : List ℕ} {d lo hi from to : ℕ} {p : Progress}
     (going : Going lay st q path w d lo hi from to p) where
-  pub going-run : lo < hi → RunThere lay q w lo hi
-  going-run some = record { index = going .index; some = some; within = going .few }
+  pub going-range : lo < hi → RangeThere lay q w lo hi
+  going-range some = record { index = going .index; some = some; within = going .few }
 
-  pub going-rooted : Rooted q path d (run lay w lo hi)
+  pub going-rooted : Rooted q path d (range lay w lo hi)
   going-rooted = record { depth = going .depth; deep = going .deep; begin = going .begins }
 
   inside : to ≤ length w
@@ -63,8 +63,8 @@ module _ {lay : Layout} {st : Settings} {q : Query} {path w : List ℕ} {d lo hi
       (listing-kept (length (q .rights)) (λ s. isCandidate d path (rightAt q s)))
 
   -- they can be checked against the part
-  pub going-there : RunsThere lay q w d lo hi from to
-  going-there = runs-there going-rooted (going .index) inside (going .few) going-listing (omega arith)
+  pub going-there : RangesThere lay q w d lo hi from to
+  going-there = ranges-there going-rooted (going .index) inside (going .few) going-listing (omega arith)
 
   -- there is room to count the pairs by path of some of them with the part
   pub going-room : (m : ℕ) → m ≤ hi - lo → p .tally .«by_path» + pathPairs m (to - from) isByPath ≤ maxPairs

@@ -21,32 +21,32 @@ use Rattle.join_spec.proofs.KindLaws.{kind-met}
 use Rattle.join_index.specs.Grouping.{leftAt, keyAt}
 use Rattle.join_index.specs.declared.Layout.{Layout}
 use Rattle.join_index.specs.Asking.{LeftThere}
-use Rattle.join_index.specs.Runs.{run}
+use Rattle.join_index.specs.Ranges.{range}
 use Rattle.words.specs.Words.{Word}
-use Rattle.join_check.specs.Checks.{rowCount, runCount}
-use Rattle.join_index.proofs.Orders.{run-left}
+use Rattle.join_check.specs.Checks.{rowCount, rangeCount}
+use Rattle.join_index.proofs.Orders.{range-left}
 use Rattle.join_check.proofs.Tallying.{tallied-same}
 use Rattle.kept_rows.specs.Kept.{RowsKept}
 use Rattle.kept_rows.specs.Keeping.{ListThere}
 use Rattle.join_nodes.specs.Rows.{row, pathPairs}
-use Rattle.join_nodes.specs.Visiting.{RunVisited}
+use Rattle.join_nodes.specs.Visiting.{RangeVisited}
 use Rattle.join_nodes.specs.declared.Progress.{Progress}
-use Rattle.join_nodes.specs.declared.Settings.{Settings}
+use Rattle.join_nodes.specs.declared.WalkSettings.{WalkSettings}
 use Rattle.join_nodes.specs.declared.Walked.{Walked}
-use Rattle.join_nodes.proofs.RunLaws.{run-length, run-split, run-one}
+use Rattle.join_nodes.proofs.RangeLaws.{range-length, range-split, range-one}
 use Rattle.join_nodes.proofs.RowLaws.{MetOnly, row-limit}
 use Rattle.join_nodes.proofs.VisitLaws.{underway-next}
-use Rattle.join_nodes.proofs.FrameLaws.{framed-none, index-framed, run-framed}
+use Rattle.join_nodes.proofs.FrameLaws.{framed-none, index-framed, range-framed}
 use Rattle.join_nodes.proofs.PartLoop.{PartDone}
 use Rattle.join_nodes.proofs.PathLaws.{merged-checks}
 use Rattle.join_nodes.specs.block_checks.BlockChecks.{Small, Blocked}
 use Rattle.join_nodes.specs.blocks.Blocks.{Going, AtLimit, PairsKept, RowFinished}
 use Rattle.join_nodes.proofs.blocks.BlockLaws.{Begin, rows-merge, key-longer, left-goes, listing-left}
 use Rattle.join_nodes.proofs.blocks.BlockVisits.{block-visited, checks-all, merged-added}
-use Rattle.join_nodes.proofs.blocks.GoingLaws.{going-run, going-rooted, going-length, going-few, going-listing, going-there, going-room}
+use Rattle.join_nodes.proofs.blocks.GoingLaws.{going-range, going-rooted, going-length, going-few, going-listing, going-there, going-room}
 use Rattle.join_nodes.proofs.blocks.NodeRows.{row-begins, row-record, ended-list}
 
-module _ {lay : Layout} {st : Settings} {q : Query} {path w : List ℕ} {d lo hi from to : ℕ} {p : Progress}
+module _ {lay : Layout} {st : WalkSettings} {q : Query} {path w : List ℕ} {d lo hi from to : ℕ} {p : Progress}
     (at : AtLimit lay st q path w d lo hi from to p) where
   going : Going lay st q path w d lo hi from to p
   going = at .going
@@ -54,7 +54,7 @@ module _ {lay : Layout} {st : Settings} {q : Query} {path w : List ℕ} {d lo hi
   -- the first of them alone, and the others
   pub limit-first : lo < hi → AtLimit lay st q path w d lo (lo + 1) from to p
   limit-first some =
-      let parts = run-split lay q w lo (lo + 1) hi (going .index) (omega arith) (omega arith) (going .few) in
+      let parts = range-split lay q w lo (lo + 1) hi (going .index) (omega arith) (omega arith) (going .few) in
       record {
         going = record {
           index = going .index;
@@ -71,7 +71,7 @@ module _ {lay : Layout} {st : Settings} {q : Query} {path w : List ℕ} {d lo hi
           on = going .on;
           upto = omega arith;
           few = omega (arith, going .few);
-          begins = all-front (λ k. prefix path (leftAt q k)) (run lay w lo (lo + 1)) (run lay w (lo + 1) hi)
+          begins = all-front (λ k. prefix path (leftAt q k)) (range lay w lo (lo + 1)) (range lay w (lo + 1) hi)
               (subst (λ (l : List ℕ). Begin q path l) parts (going .begins));
           rise = going .rise;
           below = going .below;
@@ -84,16 +84,16 @@ module _ {lay : Layout} {st : Settings} {q : Query} {path w : List ℕ} {d lo hi
       one-row = mul-le-mul-right (length (q .rights)) (omega arith)
 
   limit-next : {w′ : List ℕ} {r : Walked} → lo < hi
-      → RunVisited lay q (st .budget) (lay .«row_starts») d w w′ lo (lo + 1) (p .tally) r → r .spent ≡ false
+      → RangeVisited lay q (st .budget) (lay .«row_starts») d w w′ lo (lo + 1) (p .tally) r → r .spent ≡ false
       → AtLimit lay st q path w′ d (lo + 1) hi from to (r .at)
   limit-next {w′} some visit calm =
-      let parts = run-split lay q w lo (lo + 1) hi (going .index) (omega arith) (omega arith) (going .few) in
+      let parts = range-split lay q w lo (lo + 1) hi (going .index) (omega arith) (omega arith) (going .few) in
       let slots = going .index .ground .slotsBelow in
       record {
         going = record {
           index = index-framed (going .index) (visit .framed) slots;
           underway = underway-next (going .underway) (visit .visited .added calm)
-              (omega (arith, run-length lay q w lo (lo + 1) (going .index) (omega (arith, going .few))))
+              (omega (arith, range-length lay q w lo (lo + 1) (going .index) (omega (arith, going .few))))
               (visit .visited .within calm);
           rows = visit .rows calm;
           depth = going .depth;
@@ -103,8 +103,8 @@ module _ {lay : Layout} {st : Settings} {q : Query} {path w : List ℕ} {d lo hi
           few = going .few;
           begins =
               subst (λ (l : List ℕ). Begin q path l)
-              (sym (run-framed (going .index) (visit .framed) slots (lo + 1) hi (going .few)))
-              (all-back (λ k. prefix path (leftAt q k)) (run lay w lo (lo + 1)) (run lay w (lo + 1) hi)
+              (sym (range-framed (going .index) (visit .framed) slots (lo + 1) hi (going .few)))
+              (all-back (λ k. prefix path (leftAt q k)) (range lay w lo (lo + 1)) (range lay w (lo + 1) hi)
               (subst (λ (l : List ℕ). Begin q path l) parts (going .begins)));
           rise = going .rise;
           below = going .below;
@@ -115,7 +115,7 @@ module _ {lay : Layout} {st : Settings} {q : Query} {path w : List ℕ} {d lo hi
 
   -- the first, visited, as a part of them
   pub limit-done : lo < hi → {w′ : List ℕ} {one : Walked}
-      → RunVisited lay q (st .budget) (lay .«row_starts») d w w′ lo (lo + 1) (p .tally) one
+      → RangeVisited lay q (st .budget) (lay .«row_starts») d w w′ lo (lo + 1) (p .tally) one
       → PartDone lay (st .budget) d hi (λ path w. lay .«row_starts») (λ q path w i r. AtLimit lay st q path w d i hi from to r) q
       path w lo p w′ (lo + 1) one
   limit-done some visit =
@@ -131,14 +131,14 @@ all-one : (p : ℕ → Bool) (x : ℕ) (l : List ℕ) → l ≡ x ∷ [] → p x
 unfolding all
 all-one p x l e h = subst (λ (m : List ℕ). all p m ≡ true) (sym e) (and-both h refl)
 
-module _ {lay : Layout} {st : Settings} {q : Query} {path w : List ℕ} {d i from to : ℕ} {p : Progress}
-    (at : AtLimit lay st q path w d i (i + 1) from to p) {k : ℕ} (word : Word w (lay .order + i) k) where
+module _ {lay : Layout} {st : WalkSettings} {q : Query} {path w : List ℕ} {d i from to : ℕ} {p : Progress}
+    (at : AtLimit lay st q path w d i (i + 1) from to p) {k : ℕ} (word : Word w (lay .«left_order» + i) k) where
   -- its key as it was read
   pub one-key : {r : ℕ} → ((q : Query) → LeftThere lay q w k → r ≡ keyAt q d k) → r ≡ keyAt q d k
-  one-key read = read q (run-left (going-run (at .going) (omega arith)) i (omega arith) word)
+  one-key read = read q (range-left (going-range (at .going) (omega arith)) i (omega arith) word)
 
-  one-left : run lay w i (i + 1) ≡ k ∷ []
-  one-left = run-one (going-run (at .going) (omega arith)) refl ∙ ap (λ (n : ℕ). n ∷ []) (sym (word .is))
+  one-left : range lay w i (i + 1) ≡ k ∷ []
+  one-left = range-one (going-range (at .going) (omega arith)) refl ∙ ap (λ (n : ℕ). n ∷ []) (sym (word .is))
 
   begins : prefix path (leftAt q k) ≡ true
   begins = row-begins (at .going) i (omega arith) (omega arith) (word .is)
@@ -151,13 +151,13 @@ module _ {lay : Layout} {st : Settings} {q : Query} {path w : List ℕ} {d i fro
   one-room = going-room (at .going) (i + 1 - i) (omega arith)
 
   pub one-kept : keyAt q d k ≡ 0 → {w′ : List ℕ} {r : Progress} → PairsKept lay w i (i + 1) from to p w′ r
-      → RunVisited lay q (st .budget) (lay .«row_starts») d w w′ i (i + 1) (p .tally) (record { at = r; spent = false })
+      → RangeVisited lay q (st .budget) (lay .«row_starts») d w w′ i (i + 1) (p .tally) (record { at = r; spent = false })
   one-kept ends {w′} {r} pairs =
       record {
         framed = record { size = pairs .kept .size; frame = pairs .kept .frame };
         visited = record {
           added = λ calm.
-              merged-added (run lay w i (i + 1))
+              merged-added (range lay w i (i + 1))
               (λ is met.
               rows-merge (going-rooted (at .going)) (slice from to w) is met (at .going .on) ended (going-listing (at .going))
               ∙ ap₂ (λ (m c : ℕ). pathPairs m c is) (ap length one-left ∙ omega arith) (going-length (at .going)))
@@ -168,12 +168,12 @@ module _ {lay : Layout} {st : Settings} {q : Query} {path w : List ℕ} {d i fro
         rows = λ calm. pairs .kept .rows q (one-list ends);
       }
     where
-      ended : all (λ k. eqb (keyAt q d k) 0) (run lay w i (i + 1)) ≡ true
-      ended = all-one (λ k. eqb (keyAt q d k) 0) k (run lay w i (i + 1)) one-left (eq-eqb (keyAt q d k) 0 ends)
+      ended : all (λ k. eqb (keyAt q d k) 0) (range lay w i (i + 1)) ≡ true
+      ended = all-one (λ k. eqb (keyAt q d k) 0) k (range lay w i (i + 1)) one-left (eq-eqb (keyAt q d k) 0 ends)
 
   -- it has more ranks: its checks against the part are its row
   module _ (longer : keyAt q d k ≡ 0 → ⊥) where
-    one-rows : (is : Outcome → Bool) → MetOnly is → sum (row is q d) (run lay w i (i + 1)) ≡ rowCount q is (slice from to w) k
+    one-rows : (is : Outcome → Bool) → MetOnly is → sum (row is q d) (range lay w i (i + 1)) ≡ rowCount q is (slice from to w) k
     unfolding sum
     one-rows is met =
         ap (sum (row is q d)) one-left
@@ -184,25 +184,25 @@ module _ {lay : Layout} {st : Settings} {q : Query} {path w : List ℕ} {d i fro
               (listing-left (going-rooted (at .going)) d k (slice from to w) begins (omega arith) (going-listing (at .going))),
         )
 
-    -- the same as the checks of a run of one
-    one-count : (is : Outcome → Bool) → runCount q is (slice from to w) (run lay w i (i + 1)) ≡ rowCount q is (slice from to w) k
+    -- the same as the checks of a range of one
+    one-count : (is : Outcome → Bool) → rangeCount q is (slice from to w) (range lay w i (i + 1)) ≡ rowCount q is (slice from to w) k
     unfolding sum
     one-count is = ap (sum (rowCount q is (slice from to w))) one-left ∙ omega arith
 
-    one-checks : sum (row isCheck q d) (run lay w i (i + 1)) ≡ to - from
+    one-checks : sum (row isCheck q d) (range lay w i (i + 1)) ≡ to - from
     one-checks =
         omega (
           arith,
           one-rows isCheck refl,
           one-count isCheck,
-          checks-all q (slice from to w) (run lay w i (i + 1)),
+          checks-all q (slice from to w) (range lay w i (i + 1)),
           ap₂ (λ (a b : ℕ). a * b) (ap length one-left) (going-length (at .going)),
           one-mul (to - from),
         )
 
     pub one-recorded : p .top + (to - from) ≤ lay .end → {w′ : List ℕ} {r : Walked}
         → RowFinished lay w (st .budget) k d from to p w′ r
-        → RunVisited lay q (st .budget) (lay .«row_starts») d w w′ i (i + 1) (p .tally) r
+        → RangeVisited lay q (st .budget) (lay .«row_starts») d w w′ i (i + 1) (p .tally) r
     one-recorded room {w′} {r} done =
         let there = row-record (at .going) i (omega arith) (omega arith) (word .is) room in
         record {
@@ -230,7 +230,7 @@ module _ {lay : Layout} {st : Settings} {q : Query} {path w : List ℕ} {d i fro
         }
 
     pub one-blocked : {r : Walked} → Blocked lay w (st .budget) d i (i + 1) from to p r
-        → RunVisited lay q (st .budget) (lay .«row_starts») d w w i (i + 1) (p .tally) r
+        → RangeVisited lay q (st .budget) (lay .«row_starts») d w w i (i + 1) (p .tally) r
     one-blocked {r} block =
         record {
           framed = framed-none (lay .«row_starts») w;

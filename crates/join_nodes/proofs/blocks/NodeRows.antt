@@ -1,4 +1,4 @@
--- The left sets of a run that begin with a path whose candidates stand in a part of the work list: each is contained in those of the
+-- The left sets of a range that begin with a path whose candidates stand in a part of the work list: each is contained in those of the
 -- part that contain it, in all of them where it ends with the path, and in none where there are none. So the part is the row of
 -- left sets that end, or the checks of a left set against it find its row.
 use Prim.Native.Nat.{ℕ, zero, suc, _+_, _-_, _≤_, _<_}
@@ -16,19 +16,19 @@ use Rattle.join_spec.specs.Query.{Query}
 use Rattle.join_index.specs.Grouping.{leftAt, keyAt}
 use Rattle.join_index.specs.declared.Layout.{Layout}
 use Rattle.words.specs.Words.{Word}
-use Rattle.join_index.specs.Asking.{LeftThere, RunThere}
-use Rattle.join_index.specs.Runs.{run, leftIn, lead}
+use Rattle.join_index.specs.Asking.{LeftThere, RangeThere}
+use Rattle.join_index.specs.Ranges.{range, leftIn, lead}
 use Rattle.join_check.specs.Checks.{areCandidates}
 use Rattle.join_index.proofs.Orders.{order-left, order-within, lead-pass, lead-fail, lead-nil}
 use Rattle.kept_rows.specs.Kept.{containedAt, containing}
 use Rattle.kept_rows.specs.Keeping.{ListThere}
-use Rattle.kept_rows.specs.checked.Recording.{RecordThere}
+use Rattle.kept_rows.specs.checked.Recording.{RowRecordable}
 use Rattle.join_nodes.specs.declared.Progress.{Progress}
-use Rattle.join_nodes.specs.declared.Settings.{Settings}
+use Rattle.join_nodes.specs.declared.WalkSettings.{WalkSettings}
 use Rattle.join_nodes.proofs.Prefixes.{prefix-length}
 use Rattle.join_nodes.specs.blocks.Blocks.{Going, MergedEnd, PairsKept, Settles}
 use Rattle.join_nodes.proofs.blocks.BlockLaws.{key-ended}
-use Rattle.join_nodes.proofs.blocks.GoingLaws.{going-run, going-there}
+use Rattle.join_nodes.proofs.blocks.GoingLaws.{going-range, going-there}
 use Rattle.join_nodes.proofs.blocks.RowsOf.{row-sifted, row-ended}
 
 -- the leading elements of a list pass the test
@@ -41,20 +41,20 @@ lead-at p (x ∷ xs) (suc i) h =
     (λ fail. absurd (omega (arith, lead-fail p x xs fail)))
 
 -- the left sets that stand before the end of those that end have no key
-merged-key : {lay : Layout} {q : Query} {w : List ℕ} {d lo hi mid : ℕ} → RunThere lay q w lo hi → MergedEnd lay w d lo hi mid
+merged-key : {lay : Layout} {q : Query} {w : List ℕ} {d lo hi mid : ℕ} → RangeThere lay q w lo hi → MergedEnd lay w d lo hi mid
     → (i : ℕ) → lo ≤ i → i < mid → keyAt q d (leftIn lay w i) ≡ 0
 merged-key {lay} {q} {w} {d} {lo} {hi} {mid} there end i low high =
     eqb-true (keyAt q d (leftIn lay w i)) 0
     (ap (λ (k : ℕ). eqb (keyAt q d k) 0) (sym at)
-    ∙ lead-at (λ k. eqb (keyAt q d k) 0) (run lay w lo hi) (i - lo) (omega (arith, end .maximal q there)))
+    ∙ lead-at (λ k. eqb (keyAt q d k) 0) (range lay w lo hi) (i - lo) (omega (arith, end .maximal q there)))
   where
-    at : getD (run lay w lo hi) (i - lo) 0 ≡ leftIn lay w i
+    at : getD (range lay w lo hi) (i - lo) 0 ≡ leftIn lay w i
     at =
-        let place : lay .order + lo + (i - lo) ≡ lay .order + i = omega arith in
-        getD-slice 0 (lay .order + lo) (lay .order + hi) (i - lo) w (omega (arith, end .high))
+        let place : lay .«left_order» + lo + (i - lo) ≡ lay .«left_order» + i = omega arith in
+        getD-slice 0 (lay .«left_order» + lo) (lay .«left_order» + hi) (i - lo) w (omega (arith, end .high))
         ∙ ap (λ (n : ℕ). getD w n 0) place
 
-module _ {lay : Layout} {st : Settings} {q : Query} {path w : List ℕ} {d lo hi from to : ℕ} {p : Progress}
+module _ {lay : Layout} {st : WalkSettings} {q : Query} {path w : List ℕ} {d lo hi from to : ℕ} {p : Progress}
     (going : Going lay st q path w d lo hi from to p) where
   some : 0 < length path
   some = omega (arith, going .depth, going .deep)
@@ -64,11 +64,11 @@ module _ {lay : Layout} {st : Settings} {q : Query} {path w : List ℕ} {d lo hi
 
   -- the left set at one of the places, as it was read
   module _ (i : ℕ) (low : lo ≤ i) (high : i < hi) {k : ℕ} (is : k ≡ leftIn lay w i) where
-    throughout : (t : ℕ → Bool) → all t (run lay w lo hi) ≡ true → t k ≡ true
+    throughout : (t : ℕ → Bool) → all t (range lay w lo hi) ≡ true → t k ≡ true
     throughout t each =
         ap t is
-        ∙ all-slice t (lay .order + lo) (lay .order + hi) w (omega (arith, order-within (going .index), going .few)) each
-        (lay .order + i) (omega arith) (omega arith)
+        ∙ all-slice t (lay .«left_order» + lo) (lay .«left_order» + hi) w (omega (arith, order-within (going .index), going .few)) each
+        (lay .«left_order» + i) (omega arith) (omega arith)
 
     pub row-left : LeftThere lay q w k
     row-left = subst (λ (n : ℕ). LeftThere lay q w n) (sym is) (order-left (going .index) i (omega (arith, going .few)))
@@ -82,7 +82,7 @@ module _ {lay : Layout} {st : Settings} {q : Query} {path w : List ℕ} {d lo hi
         row-sifted row-left path some whole row-begins ∙ ap (keep (containedAt q k)) (sym (going .holds))
 
     -- so checks find its row, where there is room for it
-    pub row-record : p .top + (to - from) ≤ lay .end → RecordThere lay q w k d from to (p .top)
+    pub row-record : p .top + (to - from) ≤ lay .end → RowRecordable lay q w k d from to (p .top)
     row-record room =
         record {
           row = record {
@@ -131,10 +131,10 @@ module _ {lay : Layout} {st : Settings} {q : Query} {path w : List ℕ} {d lo hi
   merged-list some end =
       part-list (end .high)
       (λ i low high.
-      row-is-part i low (omega (arith, high, end .high)) refl (merged-key (going-run going some) end i low high))
+      row-is-part i low (omega (arith, high, end .high)) refl (merged-key (going-range going some) end i low high))
 
   -- of one that ends with the path
-  pub ended-list : {k : ℕ} → hi ≡ lo + 1 → Word w (lay .order + lo) k → keyAt q d k ≡ 0
+  pub ended-list : {k : ℕ} → hi ≡ lo + 1 → Word w (lay .«left_order» + lo) k → keyAt q d k ≡ 0
       → ListThere lay q w lo hi from to (p .top)
   ended-list {k} one word ends =
       part-list (omega arith)
@@ -143,7 +143,7 @@ module _ {lay : Layout} {st : Settings} {q : Query} {path w : List ℕ} {d lo hi
       row-is-part i low high refl (ap (keyAt q d) here ∙ ends))
 
 -- the left sets that end were paired, and their row kept
-pub settled : {lay : Layout} {st : Settings} {w w′ : List ℕ} {d lo hi mid from to : ℕ} {p r : Progress} → lo < hi
+pub settled : {lay : Layout} {st : WalkSettings} {w w′ : List ℕ} {d lo hi mid from to : ℕ} {p r : Progress} → lo < hi
     → MergedEnd lay w d lo hi mid → PairsKept lay w lo mid from to p w′ r
     → Settles lay st w d lo hi from to p w′ (record { mid = mid; at = r })
 settled some end pairs =

@@ -13,27 +13,27 @@ use Rattle.lists.proofs.Slices.{length-slice}
 use Rattle.sets.specs.Limits.{maxSets}
 use Rattle.join_spec.specs.Query.{Query}
 use Rattle.join_spec.specs.Node.{lastOf}
+use Rattle.join_spec.specs.Walk.{goes}
 use Rattle.join_index.specs.Grouping.{leftAt, orderFrom}
 use Rattle.join_index.specs.declared.Layout.{Layout}
 use Rattle.join_index.proofs.GroundLaws.{slot-bound}
 use Rattle.join_index.specs.Asking.{Index}
-use Rattle.join_index.specs.Runs.{run}
-use Rattle.join_check.specs.Checks.{RunsThere}
+use Rattle.join_index.specs.Ranges.{range}
+use Rattle.join_check.specs.Checks.{RangesThere}
 use Rattle.kept_rows.specs.Kept.{RowsKept}
-use Rattle.join_nodes.specs.Rows.{goes}
 use Rattle.join_nodes.specs.Narrowing.{Candidates, slotOf}
 use Rattle.join_nodes.specs.Visiting.{Node, NodeAt, NodeVisited}
 use Rattle.join_nodes.specs.declared.Progress.{Progress}
-use Rattle.join_nodes.specs.declared.Settings.{Settings}
+use Rattle.join_nodes.specs.declared.WalkSettings.{WalkSettings}
 use Rattle.join_nodes.specs.declared.Walked.{Walked}
-use Rattle.join_nodes.proofs.RunLaws.{run-length}
+use Rattle.join_nodes.proofs.RangeLaws.{range-length}
 use Rattle.join_nodes.proofs.NodeFacts.{stop-asks}
 use Rattle.join_nodes.proofs.FrameLaws.{framed-none}
 use Rattle.join_nodes.specs.block_checks.BlockChecks.{Small, Blocked}
-use Rattle.join_nodes.proofs.blocks.BlockLaws.{Begin, Rooted, runs-there, rows-stop}
+use Rattle.join_nodes.proofs.blocks.BlockLaws.{Begin, Rooted, ranges-there, rows-stop}
 use Rattle.join_nodes.proofs.blocks.BlockVisits.{block-visited}
 
-module _ {lay : Layout} {st : Settings} {q : Query} {path w : List ℕ} {d lo hi from to : ℕ} {p : Progress}
+module _ {lay : Layout} {st : WalkSettings} {q : Query} {path w : List ℕ} {d lo hi from to : ℕ} {p : Progress}
     (node : Node lay st q path w d lo hi from to p) where
   cands : Candidates lay q path w d from to
   cands = node .at .candidates
@@ -41,7 +41,7 @@ module _ {lay : Layout} {st : Settings} {q : Query} {path w : List ℕ} {d lo hi
   index : Index lay q w
   index = cands .index
 
-  pub node-rooted : Rooted q path d (run lay w lo hi)
+  pub node-rooted : Rooted q path d (range lay w lo hi)
   node-rooted =
       record {
         depth = cands .depth;
@@ -76,9 +76,9 @@ module _ {lay : Layout} {st : Settings} {q : Query} {path w : List ℕ} {d lo hi
     goes-not test = sym (not-true b test) ∙ decision
 
   -- not going on
-  pub stop-there : false ≡ goes q path → RunsThere lay q w (d - 1) lo hi from to
+  pub stop-there : false ≡ goes q path → RangesThere lay q w (d - 1) lo hi from to
   stop-there stop =
-      runs-there node-rooted index part-within (node .at .few) (cands .listing (stop-asks q path stop)) (omega arith)
+      ranges-there node-rooted index part-within (node .at .few) (cands .listing (stop-asks q path stop)) (omega arith)
 
   pub stop-small : Small (st .budget) lo hi from to (p .tally)
   stop-small =
@@ -95,7 +95,7 @@ module _ {lay : Layout} {st : Settings} {q : Query} {path w : List ℕ} {d lo hi
   stop-visited {r} stop block =
       record {
         framed = framed-none (slotOf lay w (lastOf path)) w;
-        visited = block-visited (stop-there stop) (run-length lay q w lo hi index (node .at .few)) (length-slice from to w part-within)
+        visited = block-visited (stop-there stop) (range-length lay q w lo hi index (node .at .few)) (length-slice from to w part-within)
             (λ is met. rows-stop node-rooted (slice from to w) is met (sym stop) (cands .listing (stop-asks q path stop))) block;
         rows = λ calm. subst (RowsKept lay q w) (sym (block .top)) (node .rows);
       }

@@ -17,20 +17,20 @@ use Rattle.lists.proofs.Summing.{sum-same-where}
 use Rattle.lists.proofs.Slices.{slice-past}
 use Rattle.join_spec.specs.Query.{Query}
 use Rattle.join_spec.specs.Node.{seen}
-use Rattle.join_spec.specs.Walk.{Outcome, isCandidate}
+use Rattle.join_spec.specs.Walk.{Outcome, isCandidate, goes}
 use Rattle.join_spec.specs.Kinds.{isOf}
 use Rattle.join_spec.proofs.KindLaws.{kind-met, sum-zero}
 use Rattle.join_index.specs.Grouping.{leftAt, rightAt}
 use Rattle.join_index.specs.Ground.{Listing}
 use Rattle.join_index.specs.declared.Layout.{Layout}
-use Rattle.join_index.specs.Runs.{run}
+use Rattle.join_index.specs.Ranges.{range}
 use Rattle.kept_rows.specs.Keeping.{ListKept}
-use Rattle.join_nodes.specs.Rows.{goes, row}
+use Rattle.join_nodes.specs.Rows.{row}
 use Rattle.join_nodes.specs.Narrowing.{candidateList}
-use Rattle.join_nodes.specs.Visiting.{RunVisited}
+use Rattle.join_nodes.specs.Visiting.{RangeVisited}
 use Rattle.join_nodes.specs.declared.narrow.Part.{Part}
 use Rattle.join_nodes.specs.declared.Progress.{Progress}
-use Rattle.join_nodes.specs.declared.Settings.{Settings}
+use Rattle.join_nodes.specs.declared.WalkSettings.{WalkSettings}
 use Rattle.join_nodes.proofs.Narrowing.{listing-kept}
 use Rattle.join_nodes.proofs.Prefixes.{prefix-length}
 use Rattle.join_nodes.proofs.RowLaws.{MetOnly, row-stops, row-limit, row-merges, row-deeper}
@@ -110,10 +110,10 @@ rows-empty {q} {path} {d} {lefts} rooted within on none is met =
     ∙ sum-zero lefts
 
 -- so the visit of a node where the part is empty is over, and the rows of its left sets are kept
-pub empty-kept : {lay : Layout} {st : Settings} {q : Query} {path w w′ w″ : List ℕ} {d lo hi from to top : ℕ} {p : Progress}
+pub empty-kept : {lay : Layout} {st : WalkSettings} {q : Query} {path w w′ w″ : List ℕ} {d lo hi from to top : ℕ} {p : Progress}
     {part : Part} → Onward lay st q path w w′ d lo hi from to p part (p .top) → part .to ≤ part .«from»
     → ListKept lay w′ lo hi (part .«from») (part .to) (p .top) w″ top
-    → RunVisited lay q (st .budget) (lay .«row_starts») d w′ w″ lo hi (p .tally)
+    → RangeVisited lay q (st .budget) (lay .«row_starts») d w′ w″ lo hi (p .tally)
     (record { at = record { tally = p .tally; top = top }; spent = false })
 empty-kept {lay} {q = q} {path} {w′ = w′} {d = d} {lo} {hi} {part = part} so empty kept =
     record {
@@ -127,7 +127,7 @@ empty-kept {lay} {q = q} {path} {w′ = w′} {d = d} {lo} {hi} {part = part} so
       rows = λ calm. kept .rows q (empty-list (onward-going so) empty);
     }
   where
-    nothing : (is : Outcome → Bool) → MetOnly is → sum (row is q d) (run lay w′ lo hi) ≡ 0
+    nothing : (is : Outcome → Bool) → MetOnly is → sum (row is q d) (range lay w′ lo hi) ≡ 0
     nothing =
         rows-empty (going-rooted (onward-going so)) (so .node .at .within) (sym (so .on))
         (sym (so .holds) ∙ slice-past (part .«from») (part .to) w′ empty)

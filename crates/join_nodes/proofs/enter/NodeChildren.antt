@@ -15,38 +15,38 @@ use Rattle.lists.proofs.Filtering.{all-kept, all-keep}
 use Rattle.lists.proofs.Summing.{sum-same-where}
 use Rattle.join_spec.specs.Query.{Query}
 use Rattle.join_spec.specs.Node.{lastOf}
-use Rattle.join_spec.specs.Walk.{Outcome, isCandidate}
+use Rattle.join_spec.specs.Walk.{Outcome, isCandidate, goes}
 use Rattle.join_index.specs.Grouping.{leftAt, rightAt, keyAt, orderFrom}
 use Rattle.join_index.specs.Ground.{Listing}
 use Rattle.join_index.specs.declared.Layout.{Layout}
 use Rattle.join_index.proofs.GroundLaws.{offsets-rise}
 use Rattle.join_index.specs.Asking.{Index}
-use Rattle.join_index.specs.Runs.{run}
+use Rattle.join_index.specs.Ranges.{range}
 use Rattle.join_check.specs.Counters.{checksIn}
 use Rattle.join_check.specs.declared.Tally.{Tally}
-use Rattle.join_nodes.specs.Rows.{goes, row, pathPairs}
+use Rattle.join_nodes.specs.Rows.{row, pathPairs}
 use Rattle.join_nodes.specs.Narrowing.{Candidates, slotOf}
 use Rattle.join_nodes.specs.Visiting.{ChildrenAt, NodeVisited, ChildrenVisited, Visited, Added, Merged}
 use Rattle.join_nodes.specs.Visiting.{Framed, beginners}
 use Rattle.join_nodes.specs.declared.narrow.Part.{Part}
 use Rattle.join_nodes.specs.declared.Progress.{Progress}
-use Rattle.join_nodes.specs.declared.Settings.{Settings}
+use Rattle.join_nodes.specs.declared.WalkSettings.{WalkSettings}
 use Rattle.join_nodes.specs.declared.Walked.{Walked}
-use Rattle.join_nodes.proofs.RunLaws.{Cut, run-length, run-split}
+use Rattle.join_nodes.proofs.RangeLaws.{Cut, range-length, range-split}
 use Rattle.join_nodes.proofs.Narrowing.{listing-kept}
 use Rattle.join_nodes.proofs.Prefixes.{prefix-take}
 use Rattle.join_nodes.proofs.RowLaws.{row-deeper}
 use Rattle.join_nodes.proofs.PathLaws.{merged-checks}
 use Rattle.join_nodes.proofs.VisitLaws.{visited-then, visited-rows, underway-next}
-use Rattle.join_nodes.proofs.FrameLaws.{slot-framed, run-framed, framed-then}
+use Rattle.join_nodes.proofs.FrameLaws.{slot-framed, range-framed, framed-then}
 use Rattle.join_nodes.specs.blocks.Blocks.{MergedEnd}
 use Rattle.join_nodes.proofs.blocks.GroupSteps.{endedAt, goingOn, ended-keys, going-keys, beginners-grouped, ended-cut}
 use Rattle.join_nodes.proofs.blocks.BlockLaws.{Begin, Rooted, rows-merge, key-longer, all-and}
 use Rattle.join_nodes.proofs.blocks.BlockVisits.{merged-added}
 use Rattle.join_nodes.proofs.blocks.NodeStops.{node-rooted}
-use Rattle.join_nodes.proofs.enter.NodeSteps.{Onward, index-after, after-length, node-run}
+use Rattle.join_nodes.proofs.enter.NodeSteps.{Onward, index-after, after-length, node-range}
 
-module _ {lay : Layout} {st : Settings} {q : Query} {path w w′ : List ℕ} {d lo hi from to : ℕ} {p : Progress} {part : Part}
+module _ {lay : Layout} {st : WalkSettings} {q : Query} {path w w′ : List ℕ} {d lo hi from to : ℕ} {p : Progress} {part : Part}
     {top : ℕ} (so : Onward lay st q path w w′ d lo hi from to p part top) (deeper : d < st .limit) where
   cands : Candidates lay q path w d from to
   cands = so .node .at .candidates
@@ -63,24 +63,24 @@ module _ {lay : Layout} {st : Settings} {q : Query} {path w w′ : List ℕ} {d 
   rest : List ℕ
   rest = beginners q path (suc d)
 
-  grouped-lefts : run lay w lo hi ≡ endedAt q d rest ++ goingOn q d rest
+  grouped-lefts : range lay w lo hi ≡ endedAt q d rest ++ goingOn q d rest
   unfolding rest
   grouped-lefts = so .node .at .lefts ∙ beginners-grouped q path d (omega (arith, so .node .underway .limit))
 
   module _ {mid : ℕ} (end : MergedEnd lay w′ d lo hi mid) where
     parted : Cut lay w′ lo mid hi (endedAt q d rest) (goingOn q d rest)
-    parted = ended-cut rest (node-run so) (run-framed index framed low lo hi (so .node .at .few) ∙ grouped-lefts) end
+    parted = ended-cut rest (node-range so) (range-framed index framed low lo hi (so .node .at .few) ∙ grouped-lefts) end
 
-    ended-lefts : run lay w lo mid ≡ endedAt q d rest
-    ended-lefts = sym (run-framed index framed low lo mid (omega (arith, end .high, so .node .at .few))) ∙ parted .front
+    ended-lefts : range lay w lo mid ≡ endedAt q d rest
+    ended-lefts = sym (range-framed index framed low lo mid (omega (arith, end .high, so .node .at .few))) ∙ parted .front
 
-    child-lefts : run lay w mid hi ≡ goingOn q d rest
-    child-lefts = sym (run-framed index framed low mid hi (so .node .at .few)) ∙ parted .back
+    child-lefts : range lay w mid hi ≡ goingOn q d rest
+    child-lefts = sym (range-framed index framed low mid hi (so .node .at .few)) ∙ parted .back
 
-    front-length : length (run lay w lo mid) ≡ mid - lo
-    front-length = run-length lay q w lo mid index (omega (arith, end .high, so .node .at .few))
+    front-length : length (range lay w lo mid) ≡ mid - lo
+    front-length = range-length lay q w lo mid index (omega (arith, end .high, so .node .at .few))
 
-    ended-rooted : Rooted q path d (run lay w lo mid)
+    ended-rooted : Rooted q path d (range lay w lo mid)
     unfolding rest
     ended-rooted =
         record {
@@ -92,7 +92,7 @@ module _ {lay : Layout} {st : Settings} {q : Query} {path w w′ : List ℕ} {d 
               (all-kept (λ k. prefix path (leftAt q k)) (orderFrom q (q .limit - suc d) (suc d))));
         }
 
-    front-keys : all (λ k. eqb (keyAt q d k) 0) (run lay w lo mid) ≡ true
+    front-keys : all (λ k. eqb (keyAt q d k) 0) (range lay w lo mid) ≡ true
     front-keys = subst (λ (l : List ℕ). all (λ k. eqb (keyAt q d k) 0) l ≡ true) (sym ended-lefts) (ended-keys q d rest)
 
     after-listing : Listing (length (q .rights)) (λ s. isCandidate d path (rightAt q s)) (slice (part .«from») (part .to) w′)
@@ -102,9 +102,9 @@ module _ {lay : Layout} {st : Settings} {q : Query} {path w w′ : List ℕ} {d 
         (listing-kept (length (q .rights)) (λ s. isCandidate d path (rightAt q s)))
 
     module _ {m : Tally} (merged : Merged (mid - lo) (part .to - part .«from») (p .tally) m) where
-      pub merged-lefts : Added q d (run lay w lo mid) (p .tally) m
+      pub merged-lefts : Added q d (range lay w lo mid) (p .tally) m
       merged-lefts =
-          merged-added (run lay w lo mid)
+          merged-added (range lay w lo mid)
           (λ is met.
           rows-merge ended-rooted (slice (part .«from») (part .to) w′) is met (sym (so .on)) front-keys after-listing
           ∙ ap₂ (λ (m c : ℕ). pathPairs m c is) front-length (after-length so))
@@ -121,7 +121,7 @@ module _ {lay : Layout} {st : Settings} {q : Query} {path w w′ : List ℕ} {d 
           record {
             framed = framed;
             visited = record {
-              added = λ calm. subst (λ (n : ℕ). Added q d (run lay w lo n) (p .tally) m) same merged-lefts;
+              added = λ calm. subst (λ (n : ℕ). Added q d (range lay w lo n) (p .tally) m) same merged-lefts;
               within = λ calm. merged-budget;
               beyond = λ spent. true-false spent refl;
             };
@@ -146,7 +146,7 @@ module _ {lay : Layout} {st : Settings} {q : Query} {path w w′ : List ℕ} {d 
               span = q .T;
               keys = omega arith;
               further = omega arith;
-              lefts = run-framed index framed low mid hi (so .node .at .few) ∙ child-lefts;
+              lefts = range-framed index framed low mid hi (so .node .at .few) ∙ child-lefts;
             };
             after = record {
               deep = cands .deep;
@@ -157,22 +157,22 @@ module _ {lay : Layout} {st : Settings} {q : Query} {path w w′ : List ℕ} {d 
             };
           }
 
-      child-begin : Begin q path (run lay w mid hi)
+      child-begin : Begin q path (range lay w mid hi)
       unfolding rest
       child-begin =
-          all-back (λ k. prefix path (leftAt q k)) (run lay w lo mid) (run lay w mid hi)
-          (subst (λ (l : List ℕ). Begin q path l) (run-split lay q w lo mid hi index (end .low) (end .high) (so .node .at .few))
+          all-back (λ k. prefix path (leftAt q k)) (range lay w lo mid) (range lay w mid hi)
+          (subst (λ (l : List ℕ). Begin q path l) (range-split lay q w lo mid hi index (end .low) (end .high) (so .node .at .few))
           (node-rooted (so .node) .begin))
 
-      child-keys : all (λ k. not (eqb (keyAt q d k) 0)) (run lay w mid hi) ≡ true
+      child-keys : all (λ k. not (eqb (keyAt q d k) 0)) (range lay w mid hi) ≡ true
       child-keys =
           subst (λ (l : List ℕ). all (λ k. not (eqb (keyAt q d k) 0)) l ≡ true) (sym child-lefts) (going-keys q d rest)
 
-      rows-deeper : (is : Outcome → Bool) → sum (row is q (suc d)) (run lay w mid hi) ≡ sum (row is q d) (run lay w mid hi)
+      rows-deeper : (is : Outcome → Bool) → sum (row is q (suc d)) (range lay w mid hi) ≡ sum (row is q d) (range lay w mid hi)
       rows-deeper is =
           sum-same-where (λ k. prefix path (leftAt q k) && not (eqb (keyAt q d k) 0)) (row is q (suc d)) (row is q d)
-          (run lay w mid hi)
-          (all-and (λ k. prefix path (leftAt q k)) (λ k. not (eqb (keyAt q d k) 0)) (run lay w mid hi) child-begin child-keys)
+          (range lay w mid hi)
+          (all-and (λ k. prefix path (leftAt q k)) (λ k. not (eqb (keyAt q d k) 0)) (range lay w mid hi) child-begin child-keys)
           (λ k both.
           let begin = and-left (prefix path (leftAt q k)) (not (eqb (keyAt q d k) 0)) both in
           let more = not-true (eqb (keyAt q d k) 0) (and-right (prefix path (leftAt q k)) (not (eqb (keyAt q d k) 0)) both) in
@@ -193,11 +193,11 @@ module _ {lay : Layout} {st : Settings} {q : Query} {path w w′ : List ℕ} {d 
             )) framed (done .framed);
             visited =
                 subst (λ (l : List ℕ). Visited q (st .budget) d l (p .tally) r)
-                (sym (run-split lay q w lo mid hi index (end .low) (end .high) (so .node .at .few)))
+                (sym (range-split lay q w lo mid hi index (end .low) (end .high) (so .node .at .few)))
                 (visited-then merged-lefts
-                (visited-rows (run lay w mid hi) rows-deeper
+                (visited-rows (range lay w mid hi) rows-deeper
                 (subst (λ (l : List ℕ). Visited q (st .budget) (suc d) l m r)
-                (run-framed index framed low mid hi (so .node .at .few))
+                (range-framed index framed low mid hi (so .node .at .few))
                 (done .visited))));
             rows = done .rows;
           }

@@ -8,12 +8,12 @@ use lib.Dec.{eqb}
 use Rattle.join_spec.specs.Query.{Query}
 use Rattle.join_index.specs.Grouping.{keyAt}
 use Rattle.join_index.specs.declared.Layout.{Layout}
-use Rattle.join_index.specs.Runs.{lead}
+use Rattle.join_index.specs.Ranges.{lead}
 use Rattle.join_nodes.specs.Visiting.{Framed, NodeVisited}
 use Rattle.join_nodes.specs.declared.narrow.Part.{Part}
 use Rattle.join_nodes.specs.declared.Progress.{Progress}
-use Rattle.join_nodes.specs.declared.Settings.{Settings}
-use Rattle.join_nodes.proofs.FrameLaws.{index-framed, run-framed}
+use Rattle.join_nodes.specs.declared.WalkSettings.{WalkSettings}
+use Rattle.join_nodes.proofs.FrameLaws.{index-framed, range-framed}
 use Rattle.join_nodes.specs.blocks.Blocks.{MergedEnd, Settles}
 use Rattle.join_nodes.specs.declared.blocks.Settled.{Settled}
 use Rattle.join_nodes.specs.enter.Entering.{NodeEntered}
@@ -22,7 +22,7 @@ use Rattle.join_nodes.proofs.enter.NodeSteps.{Onward, onward-going, onw
 use Rattle.join_nodes.proofs.enter.NodeChildren.{all-merged, node-children, children-visited}
 
 -- the visit of the node is over
-pub entered-over : {lay : Layout} {st : Settings} {q : Query} {path w w′ : List ℕ} {d lo hi : ℕ} {p : Progress} {r : Entered}
+pub entered-over : {lay : Layout} {st : WalkSettings} {q : Query} {path w w′ : List ℕ} {d lo hi : ℕ} {p : Progress} {r : Entered}
     → r .mid ≡ hi → NodeVisited lay st q path w w′ d lo hi (p .tally) (record { at = r .at; spent = r .spent })
     → NodeEntered lay st q path w w′ d lo hi p r
 entered-over end visited =
@@ -42,14 +42,14 @@ end-framed {lay} {w} {w′} {d} {lo} {hi} framed end =
       maximal = λ q there.
           let low = there .index .ground .slotsBelow in
           end .maximal q (record { index = index-framed (there .index) back low; some = there .some; within = there .within })
-          ∙ ap (λ (l : List ℕ). lo + lead (λ k. eqb (keyAt q d k) 0) l) (run-framed (there .index) back low lo hi (there .within));
+          ∙ ap (λ (l : List ℕ). lo + lead (λ k. eqb (keyAt q d k) 0) l) (range-framed (there .index) back low lo hi (there .within));
     }
   where
     back : Framed (lay .«row_starts») w′ w
     back = record { size = sym (framed .size); frame = sym (framed .frame) }
 
 -- or its children are left
-pub entered-settled : {lay : Layout} {st : Settings} {q : Query} {path w w′ w″ : List ℕ} {d lo hi from to : ℕ} {p : Progress}
+pub entered-settled : {lay : Layout} {st : WalkSettings} {q : Query} {path w w′ w″ : List ℕ} {d lo hi from to : ℕ} {p : Progress}
     {part : Part} {s : Settled} → Onward lay st q path w w′ d lo hi from to p part (p .top) → d < st .limit
     → Settles lay st w′ d lo hi (part .«from») (part .to) p w″ s
     → NodeEntered lay st q path w w″ d lo hi p

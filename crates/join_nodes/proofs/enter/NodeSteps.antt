@@ -9,27 +9,27 @@ use Rattle.lists.specs.Lists.{slice}
 use Rattle.lists.proofs.Slices.{length-slice, frame-slice}
 use Rattle.join_spec.specs.Query.{Query}
 use Rattle.join_spec.specs.Node.{lastOf}
+use Rattle.join_spec.specs.Walk.{goes}
 use Rattle.join_index.specs.declared.Layout.{Layout}
-use Rattle.join_index.specs.Asking.{Index, RunThere}
-use Rattle.join_index.specs.Runs.{run}
+use Rattle.join_index.specs.Asking.{Index, RangeThere}
+use Rattle.join_index.specs.Ranges.{range}
 use Rattle.kept_rows.specs.Kept.{RowsKept}
 use Rattle.kept_rows.proofs.RowLaws.{rows-framed}
-use Rattle.join_nodes.specs.Rows.{goes}
 use Rattle.join_nodes.specs.Narrowing.{Candidates, Narrowed, candidateList, slotOf}
 use Rattle.join_nodes.specs.Visiting.{OnPath, Node, NodeVisited, Visited}
-use Rattle.join_nodes.specs.Visiting.{Framed, RunVisited}
+use Rattle.join_nodes.specs.Visiting.{Framed, RangeVisited}
 use Rattle.join_nodes.specs.declared.narrow.Part.{Part}
 use Rattle.join_nodes.specs.declared.Progress.{Progress}
-use Rattle.join_nodes.specs.declared.Settings.{Settings}
+use Rattle.join_nodes.specs.declared.WalkSettings.{WalkSettings}
 use Rattle.join_nodes.specs.declared.Walked.{Walked}
 use Rattle.join_nodes.proofs.NodeFacts.{last-read}
-use Rattle.join_nodes.proofs.FrameLaws.{index-framed, run-framed, framed-then, rows-inside, slot-low}
+use Rattle.join_nodes.proofs.FrameLaws.{index-framed, range-framed, framed-then, rows-inside, slot-low}
 use Rattle.join_nodes.specs.blocks.Blocks.{Going, AtLimit}
 use Rattle.join_nodes.proofs.blocks.BlockLaws.{Begin}
 use Rattle.join_nodes.proofs.blocks.NodeStops.{node-rooted}
 
 -- a node where the walk goes on, its candidates narrowed to a part of the work list, which became w′; its rows end at top
-pub record Onward (lay : Layout) (st : Settings) (q : Query) (path w w′ : List ℕ) (d lo hi from to : ℕ) (p : Progress)
+pub record Onward (lay : Layout) (st : WalkSettings) (q : Query) (path w w′ : List ℕ) (d lo hi from to : ℕ) (p : Progress)
     (part : Part) (top : ℕ) : Type 0 where
   pub node : Node lay st q path w d lo hi from to p
   pub framed : Framed (slotOf lay w (lastOf path)) w w′
@@ -40,7 +40,7 @@ pub record Onward (lay : Layout) (st : Settings) (q : Query) (path w w′ : List
   pub rows : RowsKept lay q w′ top
 
 -- as the path's last rank was read, and the candidates narrowed by it
-pub onward-read : {lay : Layout} {st : Settings} {q : Query} {path w w′ : List ℕ} {d lo hi from to : ℕ} {p : Progress}
+pub onward-read : {lay : Layout} {st : WalkSettings} {q : Query} {path w w′ : List ℕ} {d lo hi from to : ℕ} {p : Progress}
     {part : Part} {rank : ℕ} → Node lay st q path w d lo hi from to p → true ≡ goes q path
     → ((q : Query) (path : List ℕ) → OnPath lay q path w lo (d - 1) → rank ≡ getD path (d - 1) 0)
     → ((q : Query) (path : List ℕ) → Candidates lay q path w d from to → rank ≡ lastOf path → Narrowed lay q path d w w′ part)
@@ -57,7 +57,7 @@ onward-read {q = q} {path = path} node on read narrow =
       rows = rows-framed (node .at .candidates .index .ground) (narrowed .rest) (node .rows);
     }
 
-module _ {lay : Layout} {st : Settings} {q : Query} {path w w′ : List ℕ} {d lo hi from to : ℕ} {p : Progress} {part : Part}
+module _ {lay : Layout} {st : WalkSettings} {q : Query} {path w w′ : List ℕ} {d lo hi from to : ℕ} {p : Progress} {part : Part}
     {top : ℕ} (so : Onward lay st q path w w′ d lo hi from to p part top) where
   cands : Candidates lay q path w d from to
   cands = so .node .at .candidates
@@ -83,14 +83,14 @@ module _ {lay : Layout} {st : Settings} {q : Query} {path w w′ : List ℕ} {d 
   pub after-length : length (slice (part .«from») (part .to) w′) ≡ part .to - part .«from»
   after-length = length-slice (part .«from») (part .to) w′ part-inside
 
-  pub node-run : RunThere lay q w′ lo hi
-  node-run = record { index = index-after; some = so .node .at .some; within = so .node .at .few }
+  pub node-range : RangeThere lay q w′ lo hi
+  node-range = record { index = index-after; some = so .node .at .some; within = so .node .at .few }
 
-  same-run : run lay w′ lo hi ≡ run lay w lo hi
-  same-run = run-framed index (so .framed) low lo hi (so .node .at .few)
+  same-range : range lay w′ lo hi ≡ range lay w lo hi
+  same-range = range-framed index (so .framed) low lo hi (so .node .at .few)
 
-  onward-begin : Begin q path (run lay w′ lo hi)
-  onward-begin = subst (λ (l : List ℕ). Begin q path l) (sym same-run) (node-rooted (so .node) .begin)
+  onward-begin : Begin q path (range lay w′ lo hi)
+  onward-begin = subst (λ (l : List ℕ). Begin q path l) (sym same-range) (node-rooted (so .node) .begin)
 
   -- some rows more are kept
   pub onward-kept : {w″ : List ℕ} {more : ℕ} → Framed (lay .«row_starts») w′ w″ → RowsKept lay q w″ more
@@ -107,17 +107,17 @@ module _ {lay : Layout} {st : Settings} {q : Query} {path w w′ : List ℕ} {d 
       }
 
   -- its left sets were visited while only rows changed
-  pub limit-visited : {w″ : List ℕ} {r : Walked} → RunVisited lay q (st .budget) (lay .«row_starts») d w′ w″ lo hi (p .tally) r
+  pub limit-visited : {w″ : List ℕ} {r : Walked} → RangeVisited lay q (st .budget) (lay .«row_starts») d w′ w″ lo hi (p .tally) r
       → NodeVisited lay st q path w w″ d lo hi (p .tally) r
   limit-visited {w″} {r} done =
       record {
         framed = framed-then slot-below (so .framed) (done .framed);
-        visited = subst (λ (l : List ℕ). Visited q (st .budget) d l (p .tally) r) same-run (done .visited);
+        visited = subst (λ (l : List ℕ). Visited q (st .budget) d l (p .tally) r) same-range (done .visited);
         rows = done .rows;
       }
 
 -- the left sets of a node, its candidates narrowed
-pub onward-going : {lay : Layout} {st : Settings} {q : Query} {path w w′ : List ℕ} {d lo hi from to : ℕ} {p : Progress}
+pub onward-going : {lay : Layout} {st : WalkSettings} {q : Query} {path w w′ : List ℕ} {d lo hi from to : ℕ} {p : Progress}
     {part : Part} → Onward lay st q path w w′ d lo hi from to p part (p .top)
     → Going lay st q path w′ d lo hi (part .«from») (part .to) p
 onward-going so =
@@ -137,7 +137,7 @@ onward-going so =
     }
 
 -- at the limit
-pub node-limit : {lay : Layout} {st : Settings} {q : Query} {path w w′ : List ℕ} {d lo hi from to : ℕ} {p : Progress} {part : Part}
+pub node-limit : {lay : Layout} {st : WalkSettings} {q : Query} {path w w′ : List ℕ} {d lo hi from to : ℕ} {p : Progress} {part : Part}
     → Onward lay st q path w w′ d lo hi from to p part (p .top) → st .limit ≤ d
     → AtLimit lay st q path w′ d lo hi (part .«from») (part .to) p
 node-limit so deepest =

@@ -24,24 +24,24 @@ use Rattle.join_index.specs.Ground.{Listing}
 use Rattle.join_index.specs.declared.Layout.{Layout}
 use Rattle.words.specs.Words.{Word}
 use Rattle.join_index.specs.Asking.{LeftThere}
-use Rattle.join_index.specs.Runs.{run}
+use Rattle.join_index.specs.Ranges.{range}
 use Rattle.join_check.specs.declared.Tally.{Tally}
 use Rattle.kept_rows.specs.Kept.{containedAt, containing}
-use Rattle.kept_rows.specs.checked.Recording.{RecordThere, RowRecorded}
+use Rattle.kept_rows.specs.checked.Recording.{RowRecordable, RowRecorded}
 use Rattle.kept_rows.specs.declared.checked.Recorded.{Recorded}
 use Rattle.join_nodes.specs.Rows.{row as counted, pathPairs}
-use Rattle.join_nodes.specs.Visiting.{Merged, RunVisited}
+use Rattle.join_nodes.specs.Visiting.{Merged, RangeVisited}
 use Rattle.join_nodes.specs.declared.Progress.{Progress}
-use Rattle.join_nodes.specs.declared.Settings.{Settings}
+use Rattle.join_nodes.specs.declared.WalkSettings.{WalkSettings}
 use Rattle.join_nodes.proofs.Narrowing.{listing-kept}
-use Rattle.join_nodes.proofs.RunLaws.{run-one}
+use Rattle.join_nodes.proofs.RangeLaws.{range-one}
 use Rattle.join_nodes.proofs.Prefixes.{prefix-length}
 use Rattle.join_nodes.proofs.NodeFacts.{merge-goes}
 use Rattle.join_nodes.proofs.RowLaws.{MetOnly, row-merges, row-deeper}
 use Rattle.join_nodes.proofs.PathLaws.{paths-all, merged-checks}
 use Rattle.join_nodes.specs.blocks.Blocks.{Going}
 use Rattle.join_nodes.proofs.blocks.BlockVisits.{merged-added}
-use Rattle.join_nodes.proofs.blocks.GoingLaws.{going-run}
+use Rattle.join_nodes.proofs.blocks.GoingLaws.{going-range}
 use Rattle.join_nodes.proofs.blocks.RowsOf.{row-whole}
 use Rattle.join_nodes.proofs.blocks.NodeRows.{row-left, row-begins, row-record}
 use Rattle.join_nodes.specs.lone.Lone.{Lone}
@@ -82,14 +82,14 @@ module _ {lay : Layout} {q : Query} {w : List ℕ} {k : ℕ} (there : LeftThere 
       ∙ row-lone m (suc d) (omega arith)
 
 -- a lone left set, as it was read
-module _ {lay : Layout} {st : Settings} {q : Query} {path w : List ℕ} {d lo from to : ℕ} {p : Progress} {k : ℕ}
+module _ {lay : Layout} {st : WalkSettings} {q : Query} {path w : List ℕ} {d lo from to : ℕ} {p : Progress} {k : ℕ}
     (going : Going lay st q path w d lo (lo + 1) from to p) (lone : Lone lay st w lo (lo + 1) from to (p .top))
-    (word : Word w (lay .order + lo) k) where
+    (word : Word w (lay .«left_order» + lo) k) where
   there : LeftThere lay q w k
   there = row-left going lo (omega arith) (omega arith) (word .is)
 
   -- checks against the part find its row
-  pub lone-record : RecordThere lay q w k d from to (p .top)
+  pub lone-record : RowRecordable lay q w k d from to (p .top)
   lone-record = row-record going lo (omega arith) (omega arith) (word .is) (lone .room)
 
   module _ {none : Tally} {w′ : List ℕ} {row : Recorded} (recorded : RowRecorded lay w k d from to none (p .top) w′ row) where
@@ -113,14 +113,14 @@ module _ {lay : Layout} {st : Settings} {q : Query} {path w : List ℕ} {d lo fr
         )
 
     rows : (is : Outcome → Bool) → MetOnly is
-        → sum (counted is q d) (run lay w lo (lo + 1)) ≡ pathPairs 1 (row .top - p .top) is
+        → sum (counted is q d) (range lay w lo (lo + 1)) ≡ pathPairs 1 (row .top - p .top) is
     unfolding sum
     rows is met =
-        let run-there = going-run going (omega arith) in
+        let range-there = going-range going (omega arith) in
         let short : length (leftAt q k) ≤ st .limit =
-        subst (λ (n : ℕ). length (leftAt q n) ≤ st .limit) (sym (word .is)) (lone .short q run-there) in
+        subst (λ (n : ℕ). length (leftAt q n) ≤ st .limit) (sym (word .is)) (lone .short q range-there) in
         let long = prefix-length path (leftAt q k) (row-begins going lo (omega arith) (omega arith) (word .is)) in
-        ap (sum (counted is q d)) (run-one run-there refl ∙ ap (λ (n : ℕ). n ∷ []) (sym (word .is)))
+        ap (sum (counted is q d)) (range-one range-there refl ∙ ap (λ (n : ℕ). n ∷ []) (sym (word .is)))
         ∙ omega (
           arith,
           row-lone there (sym (going .underway .rule) ∙ lone .merge) (omega (arith, short, going .underway .limit)) is met
@@ -130,13 +130,13 @@ module _ {lay : Layout} {st : Settings} {q : Query} {path w : List ℕ} {d lo fr
 
     -- and they are its visit
     pub lone-kept : {m : Tally} → Merged 1 (row .top - p .top) (p .tally) m
-        → RunVisited lay q (st .budget) (lay .«row_starts») d w w′ lo (lo + 1) (p .tally)
+        → RangeVisited lay q (st .budget) (lay .«row_starts») d w w′ lo (lo + 1) (p .tally)
         (record { at = record { tally = m; top = row .top }; spent = false })
     lone-kept merged =
         record {
           framed = record { size = recorded .size; frame = recorded .frame };
           visited = record {
-            added = λ calm. merged-added (run lay w lo (lo + 1)) rows merged;
+            added = λ calm. merged-added (range lay w lo (lo + 1)) rows merged;
             within = λ calm. omega (arith, merged-checks merged, going .underway .budget);
             beyond = λ spent. true-false spent refl;
           };

@@ -7,9 +7,9 @@ use Rattle.lists.specs.Lists.{slice}
 use Rattle.sets.specs.Limits.{maxSets}
 use Rattle.join_spec.specs.Query.{Query}
 use Rattle.join_index.specs.declared.Layout.{Layout}
-use Rattle.join_index.specs.Runs.{run}
+use Rattle.join_index.specs.Ranges.{range}
 use Rattle.join_check.specs.Counters.{checksIn, Tallied}
-use Rattle.join_check.specs.Checks.{runCount, RunsThere}
+use Rattle.join_check.specs.Checks.{rangeCount, RangesThere}
 use Rattle.join_check.specs.declared.Tally.{Tally}
 use Rattle.join_nodes.specs.declared.Progress.{Progress}
 use Rattle.join_nodes.specs.declared.Walked.{Walked}
@@ -30,8 +30,8 @@ pub record Small (budget lo hi from to : ℕ) (tally : Tally) : Type 0 where
 -- every left set was checked against every candidate, or that would have passed the budget; no row is kept
 pub record Blocked (lay : Layout) (w : List ℕ) (budget e lo hi from to : ℕ) (p : Progress) (r : Walked) : Type 0 where
   pub tallied :
-      r .spent ≡ false → (q : Query) → RunsThere lay q w e lo hi from to
-      → Tallied (λ is. runCount q is (slice from to w) (run lay w lo hi)) (p .tally) (r .at .tally)
+      r .spent ≡ false → (q : Query) → RangesThere lay q w e lo hi from to
+      → Tallied (λ is. rangeCount q is (slice from to w) (range lay w lo hi)) (p .tally) (r .at .tally)
   pub within : r .spent ≡ false → checksIn (r .at .tally) ≤ budget
   pub beyond : r .spent ≡ true → budget < checksIn (p .tally) + (hi - lo) * (to - from)
   pub top : r .at .top ≡ p .top

@@ -8,20 +8,20 @@ use lib.Dec.{eqb}
 use lib.ListN.{length}
 use Rattle.lists.specs.Lists.{all, prefix, slice}
 use Rattle.join_spec.specs.Query.{Query}
+use Rattle.join_spec.specs.Walk.{goes}
 use Rattle.join_index.specs.Grouping.{leftAt, keyAt}
 use Rattle.join_index.specs.declared.Layout.{Layout}
-use Rattle.join_index.specs.Asking.{Index, RunThere}
-use Rattle.join_index.specs.Runs.{run, lead}
+use Rattle.join_index.specs.Asking.{Index, RangeThere}
+use Rattle.join_index.specs.Ranges.{range, lead}
 use Rattle.join_check.specs.Counters.{checksIn, Tallied}
 use Rattle.join_check.specs.Checks.{rowCount}
 use Rattle.kept_rows.specs.Kept.{RowsKept}
 use Rattle.kept_rows.specs.Keeping.{ListKept}
-use Rattle.kept_rows.specs.checked.Recording.{RecordThere}
-use Rattle.join_nodes.specs.Rows.{goes}
+use Rattle.kept_rows.specs.checked.Recording.{RowRecordable}
 use Rattle.join_nodes.specs.Narrowing.{candidateList}
 use Rattle.join_nodes.specs.Visiting.{Underway, Merged, Framed}
 use Rattle.join_nodes.specs.declared.Progress.{Progress}
-use Rattle.join_nodes.specs.declared.Settings.{Settings}
+use Rattle.join_nodes.specs.declared.WalkSettings.{WalkSettings}
 use Rattle.join_nodes.specs.declared.Walked.{Walked}
 use Rattle.join_nodes.specs.declared.blocks.Settled.{Settled}
 
@@ -29,7 +29,7 @@ use Rattle.join_nodes.specs.declared.blocks.Settled.{Settled}
 pub record MergedEnd (lay : Layout) (w : List ℕ) (d lo hi r : ℕ) : Type 0 where
   pub low : lo ≤ r
   pub high : r ≤ hi
-  pub maximal : (q : Query) → RunThere lay q w lo hi → r ≡ lo + lead (λ k. eqb (keyAt q d k) 0) (run lay w lo hi)
+  pub maximal : (q : Query) → RangeThere lay q w lo hi → r ≡ lo + lead (λ k. eqb (keyAt q d k) 0) (range lay w lo hi)
 
 -- the left sets at the places lo up to hi were paired by path with the words from..to, which are kept as their row
 pub record PairsKept (lay : Layout) (w : List ℕ) (lo hi from to : ℕ) (p : Progress) (w′ : List ℕ) (r : Progress) : Type 0 where
@@ -39,16 +39,16 @@ pub record PairsKept (lay : Layout) (w : List ℕ) (lo hi from to : ℕ) (p : Pr
 -- the left set k was checked against the words from..to and its row is kept, or that would have passed the budget
 pub record RowFinished (lay : Layout) (w : List ℕ) (budget k e from to : ℕ) (p : Progress) (w′ : List ℕ) (r : Walked) : Type 0 where
   pub framed : Framed (lay .«row_starts») w w′
-  pub rows : r .spent ≡ false → (q : Query) → RecordThere lay q w k e from to (p .top) → RowsKept lay q w′ (r .at .top)
+  pub rows : r .spent ≡ false → (q : Query) → RowRecordable lay q w k e from to (p .top) → RowsKept lay q w′ (r .at .top)
   pub tallied :
-      r .spent ≡ false → (q : Query) → RecordThere lay q w k e from to (p .top)
+      r .spent ≡ false → (q : Query) → RowRecordable lay q w k e from to (p .top)
       → Tallied (λ is. rowCount q is (slice from to w) k) (p .tally) (r .at .tally)
   pub within : r .spent ≡ false → checksIn (r .at .tally) ≤ budget
   pub beyond : r .spent ≡ true → budget < checksIn (p .tally) + (to - from)
 
 -- left sets at the places lo up to hi where the walk goes on: they begin with the path, and the words from..to are the candidates
 -- after it
-pub record Going (lay : Layout) (st : Settings) (q : Query) (path w : List ℕ) (d lo hi from to : ℕ) (p : Progress) : Type 0 where
+pub record Going (lay : Layout) (st : WalkSettings) (q : Query) (path w : List ℕ) (d lo hi from to : ℕ) (p : Progress) : Type 0 where
   pub index : Index lay q w
   pub underway : Underway st q (p .tally) (hi - lo)
   pub rows : RowsKept lay q w (p .top)
@@ -57,18 +57,18 @@ pub record Going (lay : Layout) (st : Settings) (q : Query) (path w : List ℕ) 
   pub on : goes q path ≡ true
   pub upto : lo ≤ hi
   pub few : hi ≤ length (q .lefts)
-  pub begins : all (λ k. prefix path (leftAt q k)) (run lay w lo hi) ≡ true
+  pub begins : all (λ k. prefix path (leftAt q k)) (range lay w lo hi) ≡ true
   pub rise : from ≤ to
   pub below : to ≤ lay .«row_starts»
   pub holds : slice from to w ≡ candidateList q path d
 
 -- and the path is as long as the limit
-pub record AtLimit (lay : Layout) (st : Settings) (q : Query) (path w : List ℕ) (d lo hi from to : ℕ) (p : Progress) : Type 0 where
+pub record AtLimit (lay : Layout) (st : WalkSettings) (q : Query) (path w : List ℕ) (d lo hi from to : ℕ) (p : Progress) : Type 0 where
   pub going : Going lay st q path w d lo hi from to p
   pub limit : q .limit ≡ d
 
 -- those of the left sets that end with the path pair by path and their row is kept: w became w′
-pub record Settles (lay : Layout) (st : Settings) (w : List ℕ) (d lo hi from to : ℕ) (p : Progress) (w′ : List ℕ)
+pub record Settles (lay : Layout) (st : WalkSettings) (w : List ℕ) (d lo hi from to : ℕ) (p : Progress) (w′ : List ℕ)
     (r : Settled) : Type 0 where
   pub end : MergedEnd lay w d lo hi (r .mid)
   pub merged : Merged (r .mid - lo) (to - from) (p .tally) (r .at .tally)

@@ -27,7 +27,7 @@ use Rattle.join_check.specs.Probes.{Probed}
 use Rattle.join_index.proofs.Reading.{index-frame}
 use Rattle.join_pairs.specs.declared.shortlists.Shortlist.{Shortlist}
 use Rattle.kept_rows.specs.Kept.{containedAt}
-use Rattle.join_pairs.specs.row_pairs.Containing.{pairsWith, rowOf}
+use Rattle.join_pairs.specs.row_pairs.Containing.{pairsWith, rowAmong}
 use Rattle.join_pairs.specs.row_pairs.Writing.{RowRoom}
 use Rattle.join_pairs.specs.shortlists.Shortlists.{RanksThere, FindThere, ShortlistOf, Shortlisted}
 use Rattle.join_pairs.specs.left_search.LeftRows.{rowAt, LeftRoom}
@@ -96,7 +96,7 @@ module _ {lay : Layout} {w : List ℕ} {k : ℕ} {p : Probe} (found : Probed lay
           ltb-true s (length (q .rights))
           (all-elim (λ (x : ℕ). ltb x (length (q .rights))) (slice (c .from) (c .to) v) (shortlist .places .below) s m)
 
-      shortlist-row : rowAt q k ≡ rowOf q k (slice (c .from) (c .to) v)
+      shortlist-row : rowAt q k ≡ rowAmong q k (slice (c .from) (c .to) v)
       shortlist-row =
           row-whole q k
           ∙ ap (pairsWith k)
@@ -126,6 +126,6 @@ module _ {lay : Layout} {w : List ℕ} {k : ℕ} {p : Probe} (found : Probed lay
             room = omega (arith, there .room, ap length shortlist-row);
           }
 
-      pub shortlist-put : {n : ℕ} {u : List ℕ} → Put was at (rowOf q k (slice (c .from) (c .to) v)) n u
+      pub shortlist-put : {n : ℕ} {u : List ℕ} → Put was at (rowAmong q k (slice (c .from) (c .to) v)) n u
           → Put was at (rowAt q k) n u
       shortlist-put put = rw shortlist-row put

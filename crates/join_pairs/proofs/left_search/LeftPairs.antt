@@ -19,7 +19,7 @@ use Rattle.join_index.specs.Grouping.{leftAt, rightAt}
 use Rattle.join_index.specs.declared.Layout.{Layout}
 use Rattle.join_index.specs.Asking.{LeftThere}
 use Rattle.kept_rows.specs.Kept.{containedAt}
-use Rattle.join_pairs.specs.row_pairs.Containing.{pairsWith, rowOf}
+use Rattle.join_pairs.specs.row_pairs.Containing.{pairsWith, rowAmong}
 use Rattle.join_pairs.specs.left_search.LeftRows.{rowAt}
 
 -- a row of the pair list, as the right places that are kept
@@ -39,7 +39,7 @@ row-from k left rights r (suc n) e =
     made true later = ap (λ (l : List ℕ). k ∷ r ∷ l) later
     made false later = later
 
-pub row-whole : (q : Query) (k : ℕ) → rowAt q k ≡ rowOf q k (upto (length (q .rights)))
+pub row-whole : (q : Query) (k : ℕ) → rowAt q k ≡ rowAmong q k (upto (length (q .rights)))
 row-whole q k = row-from k (getD (q .lefts) k []) (q .rights) 0 (length (q .rights)) (omega arith)
 
 module _ {lay : Layout} {q : Query} {w : List ℕ} {k : ℕ} (there : LeftThere lay q w k) where

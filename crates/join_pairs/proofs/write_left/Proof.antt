@@ -1,4 +1,4 @@
--- `join_pairs::rows::write_left` meets its contract: a row that is kept has all right sets that contain the left set.
+-- `join_pairs::write_left` meets its contract: a row that is kept has all right sets that contain the left set.
 use native.Mathlib.Omega.{arith}
 use Rattle.lists.proofs.Slices.{changed-none}
 use Rattle.join_pairs.proofs.Copying.{row-words, kept-room, kept-put}
@@ -15,15 +15,6 @@ word-at-requires c κs = row-words (c .before .before .before .before .pre .0 .h
 search-left-requires : tie.Need-search-left-requires
 search-left-requires c κs = c .before .before .before .before .before .before .before .before .before .pre
 
-same-length : tie.Need-same-length
-same-length c = search needs
-
-same-length-2 : tie.Need-same-length-2
-same-length-2 c = search needs
-
-same-length-3 : tie.Need-same-length-3
-same-length-3 c = search needs
-
 returns : tie.Need-returns
 returns c = c .before .before .before .before .before .before .search-left .ensures
 
@@ -39,12 +30,6 @@ write-kept-requires c κs =
     let test = second .before .before in
     let there = test .before .before .before .before .before .before .pre .0 .holds in
     kept-room there (test .before .word-at .ensures) (second .word-at2 .ensures) (omega (arith, test .if1 .left))
-
-same-length-4 : tie.Need-same-length-4
-same-length-4 c = search needs
-
-same-length-5 : tie.Need-same-length-5
-same-length-5 c = search needs
 
 returns-2 : tie.Need-returns-2
 returns-2 c =
@@ -65,17 +50,5 @@ returns-2 c =
 pub write-left-spec : {M : Type 1} → statement M
 write-left-spec =
     tie.close
-    (tie.spec
-    add-word-at
-    word-at-requires
-    search-left-requires
-    same-length
-    same-length-2
-    same-length-3
-    returns
-    add-word-at-2
-    word-at-requires-2
-    write-kept-requires
-    same-length-4
-    same-length-5
-    returns-2)
+    (tie.spec add-word-at word-at-requires search-left-requires (λ c. search needs) (λ c. search needs) (λ c. search needs)
+    returns add-word-at-2 word-at-requires-2 write-kept-requires (λ c. search needs) (λ c. search needs) returns-2)

@@ -124,15 +124,5 @@ returns c = pairs-end (c .before .loop .inv .0) (c .loop-test .left)
 pub write-pairs-spec : {M : Type 1} → statement M
 write-pairs-spec =
     tie.close
-    (tie.spec
-    Inv-loop
-    μ-loop
-    loop-holds
-    write-left-requires
-    add-k
-    loop-less
-    loop-again
-    same-length
-    same-length-2
-    same-length-3
-    returns)
+    (tie.spec Inv-loop μ-loop loop-holds write-left-requires add-k loop-less loop-again same-length same-length-2
+    same-length-3 returns)

@@ -19,8 +19,8 @@ pairsWith k [] = []
 pairsWith k (s ∷ places) = k ∷ s ∷ pairsWith k places
 
 -- the pairs of the left set k with those of the right sets that contain it
-abbrev pub rowOf : Query → ℕ → List ℕ → List ℕ
-rowOf q k places = pairsWith k (keep (containedAt q k) places)
+abbrev pub rowAmong : Query → ℕ → List ℕ → List ℕ
+rowAmong q k places = pairsWith k (keep (containedAt q k) places)
 
 -- p is the rest of the left set k, to be looked for in the right set s: containing its ranks is containing the left set
 pub record CheckThere (lay : Layout) (q : Query) (w : List ℕ) (p : Probe) (k s : ℕ) : Type 0 where

@@ -16,7 +16,7 @@ use Rattle.join_index.specs.Asking.{LeftThere, PlacesThere}
 use Rattle.words.specs.Merges.{Rising}
 use Rattle.words.specs.flags.Flags.{Below}
 use Rattle.kept_rows.specs.Kept.{containedAt}
-use Rattle.join_pairs.specs.row_pairs.Containing.{pairsWith, rowOf}
+use Rattle.join_pairs.specs.row_pairs.Containing.{pairsWith, rowAmong}
 
 -- room for a pair, if it is one, of places that fit 16 bits
 pub record PushRoom (at k s : ℕ) (paired : Bool) (pairs : List ℕ) : Type 0 where
@@ -39,4 +39,4 @@ pub record RowRoom (lay : Layout) (q : Query) (w : List ℕ) (p : Probe) (k from
   pub rising : Rising (p .from) (p .to) w
   pub decides :
       (s : ℕ) → memb s (slice from to w) ≡ true → subset (slice (p .from) (p .to) w) (rightAt q s) ≡ containedAt q k s
-  pub room : at + length (rowOf q k (slice from to w)) ≤ length pairs
+  pub room : at + length (rowAmong q k (slice from to w)) ≤ length pairs

@@ -21,27 +21,6 @@ input p =
     let a = start p .args in
     inputOf (a .t) (a .left-ends .now) (a .left-items .now) (a .right-ends .now) (a .right-items .now)
 
-order-requires : tie.Need-order-requires
-order-requires c κs = search needs
-
-enum-told : tie.Need-enum-told
-enum-told c = search needs
-
-list-ordered-requires : tie.Need-list-ordered-requires
-list-ordered-requires c κs = search needs
-
-enum-known-answer : tie.Need-enum-known-answer
-enum-known-answer c = search needs
-
-put-refusal-requires : tie.Need-put-refusal-requires
-put-refusal-requires c κs = search needs
-
-same-length : tie.Need-same-length
-same-length c = search needs
-
-same-length-2 : tie.Need-same-length-2
-same-length-2 c = search needs
-
 returns : tie.Need-returns
 returns c =
     let p = c .before .before .before .before .before .before .before .before .before in
@@ -50,12 +29,6 @@ returns c =
     (ap (λ (ranks : List ℕ). joinText (a .repeats) (a .left-numbers .now) (a .right-numbers .now) (input p) (settingsUnder ranks))
     (ordered-ranks (input p) (p .order .ensures) (c .before .before .before .before .before .enum-told .given .1)))
     (c .before .before .list-ordered .ensures)
-
-same-length-3 : tie.Need-same-length-3
-same-length-3 c = search needs
-
-same-length-4 : tie.Need-same-length-4
-same-length-4 c = search needs
 
 returns-2 : tie.Need-returns-2
 returns-2 c =
@@ -70,15 +43,5 @@ returns-2 c =
 pub list-loaded-spec : {M : Type 1} → statement M
 list-loaded-spec =
     tie.close
-    (tie.spec
-    order-requires
-    enum-told
-    list-ordered-requires
-    enum-known-answer
-    put-refusal-requires
-    same-length
-    same-length-2
-    returns
-    same-length-3
-    same-length-4
-    returns-2)
+    (tie.spec (λ c κs. search needs) (λ c. search needs) (λ c κs. search needs) (λ c. search needs) (λ c κs. search needs)
+    (λ c. search needs) (λ c. search needs) returns (λ c. search needs) (λ c. search needs) returns-2)

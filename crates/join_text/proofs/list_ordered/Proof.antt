@@ -26,24 +26,6 @@ ran : (p : tie.After-run)
     (p .run .last .1 .1 .1 .1 .1 .1 .1 .1 .1 .0) (p .run .last .1 .1 .1 .1 .1 .1 .1 .1 .1 .1 .0) (p .run .result)
 ran p = p .run .ensures
 
-new-work-requires : tie.Need-new-work-requires
-new-work-requires c κs = search needs
-
-new-pairs-requires : tie.Need-new-pairs-requires
-new-pairs-requires c κs = search needs
-
-slice-aggregate-run : tie.Need-slice-aggregate-run
-slice-aggregate-run c = search needs
-
-slice-aggregate-run-2 : tie.Need-slice-aggregate-run-2
-slice-aggregate-run-2 c = search needs
-
-run-requires : tie.Need-run-requires
-run-requires c κs = search needs
-
-slice-aggregate-put-answer : tie.Need-slice-aggregate-put-answer
-slice-aggregate-put-answer c = search needs
-
 put-answer-requires : tie.Need-put-answer-requires
 put-answer-requires c κs =
     let p = c .before .before .before .before in
@@ -51,9 +33,6 @@ put-answer-requires c κs =
     answer-fits (input p) (asked p) (a .repeats) (a .left-numbers .now) (a .right-numbers .now) (ran p)
     (p .before .before .before .new-pairs .ensures) _ (p .run .kept .1 .1 .1 .1 .1 .1 .1 .1 .1 .1 .0) (start p .pre .room)
     (start p .pre .lefts) (start p .pre .rights)
-
-same-length : tie.Need-same-length
-same-length c = search needs
 
 returns : tie.Need-returns
 returns c =
@@ -67,13 +46,5 @@ returns c =
 pub list-ordered-spec : {M : Type 1} → statement M
 list-ordered-spec =
     tie.close
-    (tie.spec
-    new-work-requires
-    new-pairs-requires
-    slice-aggregate-run
-    slice-aggregate-run-2
-    run-requires
-    slice-aggregate-put-answer
-    put-answer-requires
-    same-length
-    returns)
+    (tie.spec (λ c κs. search needs) (λ c κs. search needs) (λ c. search needs) (λ c. search needs) (λ c κs. search needs)
+    (λ c. search needs) put-answer-requires (λ c. search needs) returns)

@@ -16,20 +16,20 @@ use Rattle.join_spec.specs.Walk.{isCandidate}
 use Rattle.join_index.specs.Grouping.{leftAt, rightAt, keyAt}
 use Rattle.join_index.specs.Ground.{Listing, seenCount, invertedList, asksSeen}
 use Rattle.join_index.specs.declared.Layout.{Layout}
-use Rattle.join_index.specs.Asking.{RunThere, LeftThere}
+use Rattle.join_index.specs.Asking.{RangeThere, LeftThere}
 use Rattle.words.specs.Words.{Word}
-use Rattle.join_index.specs.Runs.{leftIn}
+use Rattle.join_index.specs.Ranges.{leftIn}
 use Rattle.join_check.specs.declared.Tally.{Tally}
-use Rattle.join_index.proofs.Orders.{run-key}
+use Rattle.join_index.proofs.Orders.{range-key}
 use Rattle.kept_rows.specs.Keeping.{ListThere, ListKept}
 use Rattle.join_nodes.specs.Narrowing.{slotOf}
 use Rattle.join_nodes.specs.Visiting.{Node, NodeVisited}
 use Rattle.join_nodes.specs.declared.Progress.{Progress}
-use Rattle.join_nodes.specs.declared.Settings.{Settings}
+use Rattle.join_nodes.specs.declared.WalkSettings.{WalkSettings}
 use Rattle.join_nodes.specs.declared.Walked.{Walked}
 use Rattle.join_nodes.proofs.Narrowing.{listing-same, listing-few, narrow-first}
 use Rattle.join_nodes.proofs.NodeFacts.{on-key, unasked-goes}
-use Rattle.join_nodes.proofs.RunLaws.{begins-first}
+use Rattle.join_nodes.proofs.RangeLaws.{begins-first}
 use Rattle.join_nodes.proofs.FrameLaws.{framed-none, framed-lower}
 use Rattle.join_nodes.proofs.blocks.NodeRows.{empty-list}
 use Rattle.join_nodes.proofs.enter.NodeSteps.{Onward, onward-going, limit-visited}
@@ -37,19 +37,19 @@ use Rattle.join_nodes.proofs.enter.EmptyNodes.{empty-kept}
 use Rattle.join_walk.specs.partition.Partition.{Partition, PartVisited}
 
 -- a partition as a node of depth 1
-module _ {lay : Layout} {st : Settings} {q : Query} {w : List ℕ} {lo hi : ℕ} {p : Progress} {r : ℕ}
+module _ {lay : Layout} {st : WalkSettings} {q : Query} {w : List ℕ} {lo hi : ℕ} {p : Progress} {r : ℕ}
     (part : Partition lay st q w lo hi p r) where
-  pub partition-run : RunThere lay q w lo hi
-  partition-run = record { index = part .index; some = part .some; within = part .few }
+  pub partition-range : RangeThere lay q w lo hi
+  partition-range = record { index = part .index; some = part .some; within = part .few }
 
   first-begins : prefix (r ∷ []) (leftAt q (leftIn lay w lo)) ≡ true
-  first-begins = begins-first (r ∷ []) 1 partition-run (part .lefts)
+  first-begins = begins-first (r ∷ []) 1 partition-range (part .lefts)
 
   -- the key of its first left set is one more than the rank
-  pub partition-key : {k key : ℕ} → Word w (lay .order + lo) k → ((q : Query) → LeftThere lay q w k → key ≡ keyAt q 0 k)
+  pub partition-key : {k key : ℕ} → Word w (lay .«left_order» + lo) k → ((q : Query) → LeftThere lay q w k → key ≡ keyAt q 0 k)
       → key ≡ suc r
   partition-key word read =
-      run-key partition-run 0 lo (part .some) word read
+      range-key partition-range 0 lo (part .some) word read
       ∙ on-key {path = r ∷ []} (record {
         index = part .index;
         few = omega (arith, part .some, part .few);
@@ -151,7 +151,7 @@ module _ {lay : Layout} {st : Settings} {q : Query} {w : List ℕ} {lo hi : ℕ}
       unheld-visited kept = limit-visited unheld (empty-kept unheld (omega arith) kept)
 
 -- its visit as that of a partition
-pub partition-visited : {lay : Layout} (st : Settings) {q : Query} (r : ℕ) {w w′ : List ℕ} {lo hi : ℕ} {tally : Tally}
+pub partition-visited : {lay : Layout} (st : WalkSettings) {q : Query} (r : ℕ) {w w′ : List ℕ} {lo hi : ℕ} {tally : Tally}
     {one : Walked}
     → NodeVisited lay st q (r ∷ []) w w′ 1 lo hi tally one → PartVisited lay st q w w′ lo hi tally one
 partition-visited st r done = record { framed = framed-lower (omega arith) (done .framed); visited = done .visited; rows = done .rows }

@@ -22,16 +22,16 @@ use Rattle.join_index.specs.Ground.{Listing}
 use Rattle.join_index.specs.declared.Layout.{Layout}
 use Rattle.join_index.proofs.GroundLaws.{offsets-rise, slot-bound}
 use Rattle.join_index.proofs.Ordering.{left-rising}
-use Rattle.join_index.specs.Runs.{run, leftIn, RunEnd}
+use Rattle.join_index.specs.Ranges.{range, leftIn, RangeEnd}
 use Rattle.join_nodes.specs.Narrowing.{candidateList, slotOf}
 use Rattle.join_nodes.specs.Visiting.{Node, Children, After, ChildrenAt}
 use Rattle.join_nodes.specs.Visiting.{Visited, Framed, NodeVisited}
 use Rattle.join_nodes.specs.declared.Progress.{Progress}
-use Rattle.join_nodes.specs.declared.Settings.{Settings}
+use Rattle.join_nodes.specs.declared.WalkSettings.{WalkSettings}
 use Rattle.join_nodes.specs.declared.Walked.{Walked}
 use Rattle.join_nodes.proofs.Prefixes.{prefix-take, prefix-length}
 use Rattle.join_nodes.proofs.Narrowing.{candidate-path, listing-kept, listing-few}
-use Rattle.join_nodes.proofs.RunLaws.{begins-first}
+use Rattle.join_nodes.proofs.RangeLaws.{begins-first}
 use Rattle.join_nodes.proofs.PartLoop.{PartDone}
 use Rattle.join_nodes.proofs.FrameLaws.{slot-framed, framed-lower}
 use Rattle.join_walk.specs.visit.Child.{Child}
@@ -44,8 +44,8 @@ prefix-longer [] r = refl
 prefix-longer (p ∷ ps) r = and-both (eq-eqb p p refl) (prefix-longer ps r)
 
 -- the first child of a node, with the candidates after the node
-module _ {lay : Layout} {st : Settings} {q : Query} {path w : List ℕ} {d i hi from to : ℕ} {p : Progress}
-    (at : ChildrenAt lay st q path w d i hi from to p) (more : i < hi) {j : ℕ} (end : RunEnd lay w d i hi j) where
+module _ {lay : Layout} {st : WalkSettings} {q : Query} {path w : List ℕ} {d i hi from to : ℕ} {p : Progress}
+    (at : ChildrenAt lay st q path w d i hi from to p) (more : i < hi) {j : ℕ} (end : RangeEnd lay w d i hi j) where
   kids : Children lay st q path w d i hi p
   kids = at .kids
 
@@ -149,8 +149,8 @@ module _ {lay : Layout} {st : Settings} {q : Query} {path w : List ℕ} {d i hi 
   child-done {w′} {one} done =
       let low : lay .slots ≤ slotOf lay w (suc (lastOf path)) = omega arith in
       let framed : Framed (slotOf lay w (suc (lastOf path))) w w′ = framed-lower slot-beyond (done .framed) in
-      let visited : Visited q (st .budget) (suc d) (run lay w i j) (p .tally) one =
-      subst (λ (e : ℕ). Visited q (st .budget) e (run lay w i j) (p .tally) one) (add-one d) (done .visited) in
+      let visited : Visited q (st .budget) (suc d) (range lay w i j) (p .tally) one =
+      subst (λ (e : ℕ). Visited q (st .budget) e (range lay w i j) (p .tally) one) (add-one d) (done .visited) in
       let same = slot-framed (kids .index) framed low (suc (lastOf path)) (after .last) in
       record {
         facts = record { index = kids .index; few = kids .few; slots = low };
@@ -171,8 +171,8 @@ module _ {lay : Layout} {st : Settings} {q : Query} {path w : List ℕ} {d i hi 
       }
 
 -- every child's visit so, from what the visit of a node promises
-pub children-done : {lay : Layout} {st : Settings} {w w′ : List ℕ} {d i j hi from to : ℕ} {p : Progress} {one : Walked} → i < hi
-    → RunEnd lay w d i hi j
+pub children-done : {lay : Layout} {st : WalkSettings} {w w′ : List ℕ} {d i j hi from to : ℕ} {p : Progress} {one : Walked} → i < hi
+    → RangeEnd lay w d i hi j
     → ((q : Query) (path : List ℕ) → Node lay st q path w (d + 1) i j from to p
     → NodeVisited lay st q path w w′ (d + 1) i j (p .tally) one)
     → (q : Query) (path : List ℕ) → ChildrenAt lay st q path w d i hi from to p

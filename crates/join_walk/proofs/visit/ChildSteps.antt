@@ -15,19 +15,19 @@ use Rattle.join_spec.specs.Node.{lastOf}
 use Rattle.counting_sort.specs.Groups.{groupsFrom}
 use Rattle.join_index.specs.Grouping.{keyAt, orderFrom}
 use Rattle.join_index.specs.declared.Layout.{Layout}
-use Rattle.join_index.specs.Asking.{RunThere}
-use Rattle.join_index.specs.Runs.{leftIn, RunEnd}
+use Rattle.join_index.specs.Asking.{RangeThere}
+use Rattle.join_index.specs.Ranges.{leftIn, RangeEnd}
 use Rattle.join_check.specs.declared.Tally.{Tally}
 use Rattle.join_nodes.specs.Visiting.{Underway, Children, beginners}
-use Rattle.join_nodes.specs.Visiting.{RunVisited}
+use Rattle.join_nodes.specs.Visiting.{RangeVisited}
 use Rattle.join_nodes.specs.declared.Progress.{Progress}
-use Rattle.join_nodes.specs.declared.Settings.{Settings}
+use Rattle.join_nodes.specs.declared.WalkSettings.{WalkSettings}
 use Rattle.join_nodes.specs.declared.Walked.{Walked}
 use Rattle.join_nodes.proofs.Groups.{FirstGroup}
 use Rattle.join_nodes.proofs.Prefixes.{keep-further}
-use Rattle.join_nodes.proofs.RunLaws.{Cut}
+use Rattle.join_nodes.proofs.RangeLaws.{Cut}
 use Rattle.join_nodes.proofs.VisitLaws.{underway-next}
-use Rattle.join_nodes.proofs.FrameLaws.{index-framed, run-framed}
+use Rattle.join_nodes.proofs.FrameLaws.{index-framed, range-framed}
 use Rattle.join_nodes.proofs.blocks.GroupSteps.{group-first, group-cut}
 use Rattle.join_walk.specs.visit.Child.{Child}
 
@@ -38,7 +38,7 @@ last-longer path r =
     ap (λ (n : ℕ). getD (path ++ (r ∷ [])) n 0) end ∙ getD-at path r [] 0 (length path) refl
 
 -- fewer left sets need less room
-pub underway-less : {st : Settings} {q : Query} {tally : Tally} {n : ℕ} (m : ℕ) → m ≤ n → Underway st q tally n
+pub underway-less : {st : WalkSettings} {q : Query} {tally : Tally} {n : ℕ} (m : ℕ) → m ≤ n → Underway st q tally n
     → Underway st q tally m
 underway-less {st} {q} {tally} {n} m less before =
     record {
@@ -49,7 +49,7 @@ underway-less {st} {q} {tally} {n} m less before =
       bounded = omega (arith, before .bounded, mul-le-mul-right (length (q .rights)) less);
     }
 
-module _ {lay : Layout} {st : Settings} {q : Query} {path w : List ℕ} {d i hi : ℕ} {p : Progress}
+module _ {lay : Layout} {st : WalkSettings} {q : Query} {path w : List ℕ} {d i hi : ℕ} {p : Progress}
     (kids : Children lay st q path w d i hi p) (more : i < hi) where
   abbrev rest : List ℕ
   rest = beginners q path (suc d)
@@ -57,11 +57,11 @@ module _ {lay : Layout} {st : Settings} {q : Query} {path w : List ℕ} {d i hi 
   abbrev key : ℕ
   key = keyAt q d (leftIn lay w i)
 
-  pub kids-run : RunThere lay q w i hi
-  kids-run = record { index = kids .index; some = more; within = kids .few }
+  pub kids-range : RangeThere lay q w i hi
+  kids-range = record { index = kids .index; some = more; within = kids .few }
 
   first : FirstGroup (keyAt q d) (kids .least) (kids .span) rest (leftIn lay w i)
-  first = group-first d (kids .least) (kids .span) rest kids-run (kids .lefts)
+  first = group-first d (kids .least) (kids .span) rest kids-range (kids .lefts)
 
   -- the child's own rank, and its path
   abbrev pub childRank : ℕ
@@ -76,10 +76,10 @@ module _ {lay : Layout} {st : Settings} {q : Query} {path w : List ℕ} {d i hi 
   rank-low : childRank < q .T
   rank-low = omega (arith, first .high, kids .keys, key-is)
 
-  module _ {j : ℕ} (end : RunEnd lay w d i hi j) where
+  module _ {j : ℕ} (end : RangeEnd lay w d i hi j) where
     parted : Cut lay w i j hi (keep (λ k. eqb (keyAt q d k) key) rest)
         (groupsFrom (keyAt q d) (suc key) (kids .least + kids .span - suc key) rest)
-    parted = group-cut d (kids .least) (kids .span) rest kids-run (kids .lefts) end
+    parted = group-cut d (kids .least) (kids .span) rest kids-range (kids .lefts) end
 
     -- the first child
     pub first-child : Child lay st q childPath w (suc d) i j p
@@ -102,7 +102,7 @@ module _ {lay : Layout} {st : Settings} {q : Query} {path w : List ℕ} {d i hi 
 
     -- the children after it
     pub kids-next : {w′ : List ℕ} {slot : ℕ} {one : Walked} → lay .slots ≤ slot
-        → RunVisited lay q (st .budget) slot (suc d) w w′ i j (p .tally) one → one .spent ≡ false
+        → RangeVisited lay q (st .budget) slot (suc d) w w′ i j (p .tally) one → one .spent ≡ false
         → Children lay st q path w′ d j hi (one .at)
     kids-next low visit calm =
         record {
@@ -118,5 +118,5 @@ module _ {lay : Layout} {st : Settings} {q : Query} {path w : List ℕ} {d i hi 
           span = kids .least + kids .span - suc key;
           keys = omega (arith, kids .keys, first .high);
           further = omega arith;
-          lefts = run-framed (kids .index) (visit .framed) low j hi (kids .few) ∙ parted .back;
+          lefts = range-framed (kids .index) (visit .framed) low j hi (kids .few) ∙ parted .back;
         }

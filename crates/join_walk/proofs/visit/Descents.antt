@@ -12,17 +12,17 @@ use Rattle.join_index.specs.declared.Layout.{Layout}
 use Rattle.join_nodes.specs.Narrowing.{slotOf, SomePath}
 use Rattle.join_nodes.specs.Visiting.{Node, ChildrenAt, NodeVisited, ChildrenVisited}
 use Rattle.join_nodes.specs.declared.Progress.{Progress}
-use Rattle.join_nodes.specs.declared.Settings.{Settings}
+use Rattle.join_nodes.specs.declared.WalkSettings.{WalkSettings}
 use Rattle.join_nodes.specs.declared.Walked.{Walked}
 use Rattle.join_nodes.proofs.PartLoop.{continuing-start, continuing-end}
 use Rattle.join_nodes.specs.enter.Entering.{NodeEntered}
 use Rattle.join_nodes.specs.declared.enter.Entered.{Entered}
-use Rattle.join_walk.specs.heaviest.Heaviest.{RunChosen}
+use Rattle.join_walk.specs.heaviest.Heaviest.{RangeChosen}
 use Rattle.join_walk.specs.declared.heaviest.Span.{Span}
 use Rattle.join_walk.proofs.visit.HeavyChild.{kids-below, below-spent, kids-above, above-spent, none-chosen}
 use Rattle.join_walk.proofs.visit.HeavyChild.{chosenPath, chosen-node, chosen-visited}
 
-module _ (lay : Layout) (st : Settings) where
+module _ (lay : Layout) (st : WalkSettings) where
   -- the node that is left, and what its visit is of
   pub record Further (q : Query) (path₀ w₀ : List ℕ) (d₀ lo₀ hi₀ : ℕ) (p₀ : Progress) (w : List ℕ) (d lo hi from to : ℕ)
       (p : Progress) : Type 0 where
@@ -53,7 +53,7 @@ module _ (lay : Layout) (st : Settings) where
         done = λ past q path node. absurd (omega (arith, node .at .some));
       }
 
-module _ {lay : Layout} {st : Settings} {w₀ : List ℕ} {d₀ lo₀ hi₀ from₀ to₀ : ℕ} {p₀ : Progress} {w : List ℕ}
+module _ {lay : Layout} {st : WalkSettings} {w₀ : List ℕ} {d₀ lo₀ hi₀ from₀ to₀ : ℕ} {p₀ : Progress} {w : List ℕ}
     {d lo hi from to : ℕ} {p : Progress} (so : Descending lay st w₀ d₀ lo₀ hi₀ from₀ to₀ p₀ w d lo hi from to p)
     (more : lo < hi) where
   -- there is a query and a path of the node that is left
@@ -73,7 +73,7 @@ module _ {lay : Layout} {st : Settings} {w₀ : List ℕ} {d₀ lo₀ hi₀ from
       let left = so .further more q path node in left .whole w′ one (each q (left .path) (left .node))
 
 -- no children: they were visited, and nothing has changed
-none-visited : {lay : Layout} {st : Settings} {w : List ℕ} {d lo hi from to : ℕ} {p : Progress} → hi ≤ lo → (q : Query)
+none-visited : {lay : Layout} {st : WalkSettings} {w : List ℕ} {d lo hi from to : ℕ} {p : Progress} → hi ≤ lo → (q : Query)
     (path : List ℕ) → ChildrenAt lay st q path w d lo hi from to p
     → ChildrenVisited lay st q path w w d lo hi (p .tally) (record { at = p; spent = false })
 none-visited {lay} {st} {w} {d} {lo} {hi} {from} {to} {p} none q path at =
@@ -84,9 +84,9 @@ none-visited {lay} {st} {w} {d} {lo} {hi} {from} {to} {p} none q path at =
     none (at .kids .underway .budget) (λ q path at. at .kids .rows) q path at
 
 -- it was entered, and has children: those other than the chosen one were visited
-module _ {lay : Layout} {st : Settings} {w : List ℕ} {d lo hi from to : ℕ} {p : Progress} {v : List ℕ} {on : Entered}
+module _ {lay : Layout} {st : WalkSettings} {w : List ℕ} {d lo hi from to : ℕ} {p : Progress} {v : List ℕ} {on : Entered}
     (entered : (q : Query) (path : List ℕ) → Node lay st q path w d lo hi from to p
-    → NodeEntered lay st q path w v d lo hi p on) (left : on .mid < hi) {r : Span} (chosen : RunChosen lay v d (on .mid) hi r)
+    → NodeEntered lay st q path w v d lo hi p on) (left : on .mid < hi) {r : Span} (chosen : RangeChosen lay v d (on .mid) hi r)
   where
     abbrev Here : Query → List ℕ → Type 0
     Here q path = Node lay st q path w d lo hi from to p

@@ -16,32 +16,32 @@ use Rattle.join_spec.specs.Walk.{isCandidate}
 use Rattle.join_index.specs.Grouping.{rightAt, keyAt}
 use Rattle.join_index.specs.Ground.{Listing}
 use Rattle.join_index.specs.declared.Layout.{Layout}
-use Rattle.join_index.specs.Asking.{RunThere}
-use Rattle.join_index.specs.Runs.{run, leftIn}
-use Rattle.join_index.proofs.Orders.{run-none}
+use Rattle.join_index.specs.Asking.{RangeThere}
+use Rattle.join_index.specs.Ranges.{range, leftIn}
+use Rattle.join_index.proofs.Orders.{range-none}
 use Rattle.kept_rows.specs.Kept.{RowsKept}
 use Rattle.join_nodes.specs.Narrowing.{slotOf}
 use Rattle.join_nodes.specs.Visiting.{Underway, Node, Children, ChildrenAt, beginners}
 use Rattle.join_nodes.specs.Visiting.{Visited, Framed, NodeVisited, ChildrenVisited}
 use Rattle.join_nodes.specs.declared.Progress.{Progress}
-use Rattle.join_nodes.specs.declared.Settings.{Settings}
+use Rattle.join_nodes.specs.declared.WalkSettings.{WalkSettings}
 use Rattle.join_nodes.specs.declared.Walked.{Walked}
-use Rattle.join_nodes.proofs.RunLaws.{run-length, run-split}
+use Rattle.join_nodes.proofs.RangeLaws.{range-length, range-split}
 use Rattle.join_nodes.proofs.VisitLaws.{added-none, underway-next, visited-then, visited-before, visited-early, visited-late}
-use Rattle.join_nodes.proofs.FrameLaws.{index-framed, slot-framed, run-framed, framed-then}
-use Rattle.join_walk.specs.heaviest.Heaviest.{PartedAt, RunBegins, RunChosen}
+use Rattle.join_nodes.proofs.FrameLaws.{index-framed, slot-framed, range-framed, framed-then}
+use Rattle.join_walk.specs.heaviest.Heaviest.{PartedAt, RangeBegins, RangeChosen}
 use Rattle.join_walk.specs.declared.heaviest.Span.{Span}
-use Rattle.join_walk.proofs.heaviest.RunParts.{chosen-begins}
+use Rattle.join_walk.proofs.heaviest.RangeParts.{chosen-begins}
 use Rattle.join_walk.proofs.visit.ChildSteps.{underway-less}
 use Rattle.join_walk.proofs.visit.ChildNodes.{next-node, slot-beyond}
 
--- the children before a place where a run begins, and those from there on
-module _ {lay : Layout} {st : Settings} {q : Query} {path w : List ℕ} {d lo hi from to : ℕ} {p : Progress}
-    (at : ChildrenAt lay st q path w d lo hi from to p) (some : lo < hi) {i : ℕ} (begins : RunBegins lay w d lo hi i) where
+-- the children before a place where a range begins, and those from there on
+module _ {lay : Layout} {st : WalkSettings} {q : Query} {path w : List ℕ} {d lo hi from to : ℕ} {p : Progress}
+    (at : ChildrenAt lay st q path w d lo hi from to p) (some : lo < hi) {i : ℕ} (begins : RangeBegins lay w d lo hi i) where
   kids : Children lay st q path w d lo hi p
   kids = at .kids
 
-  there : RunThere lay q w lo hi
+  there : RangeThere lay q w lo hi
   there = record { index = kids .index; some = some; within = kids .few }
 
   parted : PartedAt lay q w d (kids .least) (kids .span) (beginners q path (suc d)) lo i hi
@@ -88,7 +88,7 @@ module _ {lay : Layout} {st : Settings} {q : Query} {path w : List ℕ} {d lo hi
       }
 
 -- children and a child as they were, when only words from a slot on changed that lies beyond their candidates
-module _ {lay : Layout} {st : Settings} {q : Query} {path w w′ : List ℕ} {slot d lo hi from to : ℕ} {p u : Progress}
+module _ {lay : Layout} {st : WalkSettings} {q : Query} {path w w′ : List ℕ} {slot d lo hi from to : ℕ} {p u : Progress}
     (low : lay .slots ≤ slot) (below : to ≤ slot) (framed : Framed slot w w′) (left : Underway st q (u .tally) (hi - lo))
     (kept : RowsKept lay q w′ (u .top)) where
   kids-framed : ChildrenAt lay st q path w d lo hi from to p → ChildrenAt lay st q path w′ d lo hi from to u
@@ -108,7 +108,7 @@ module _ {lay : Layout} {st : Settings} {q : Query} {path w w′ : List ℕ} {sl
           span = kids .span;
           keys = kids .keys;
           further = kids .further;
-          lefts = run-framed (kids .index) framed low lo hi (kids .few) ∙ kids .lefts;
+          lefts = range-framed (kids .index) framed low lo hi (kids .few) ∙ kids .lefts;
         };
         after = record {
           deep = after .deep;
@@ -142,33 +142,33 @@ module _ {lay : Layout} {st : Settings} {q : Query} {path w w′ : List ℕ} {sl
           within = node .at .within;
           some = node .at .some;
           few = node .at .few;
-          lefts = run-framed (c .index) framed low lo hi (node .at .few) ∙ node .at .lefts;
+          lefts = range-framed (c .index) framed low lo hi (node .at .few) ∙ node .at .lefts;
         };
         underway = left;
         rows = kept;
       }
 
--- a run of the children chosen: first those before it
-module _ {lay : Layout} {st : Settings} {q : Query} {path w : List ℕ} {d lo hi from to : ℕ} {p : Progress}
-    (at : ChildrenAt lay st q path w d lo hi from to p) (some : lo < hi) {r : Span} (chosen : RunChosen lay w d lo hi r) where
+-- a range of the children chosen: first those before it
+module _ {lay : Layout} {st : WalkSettings} {q : Query} {path w : List ℕ} {d lo hi from to : ℕ} {p : Progress}
+    (at : ChildrenAt lay st q path w d lo hi from to p) (some : lo < hi) {r : Span} (chosen : RangeChosen lay w d lo hi r) where
   abbrev slot : ℕ
   slot = slotOf lay w (suc (lastOf path))
 
   abbrev Before : List ℕ
-  Before = run lay w lo (r .lo)
+  Before = range lay w lo (r .lo)
 
   abbrev Own : List ℕ
-  Own = run lay w (r .lo) (r .hi)
+  Own = range lay w (r .lo) (r .hi)
 
   abbrev Behind : List ℕ
-  Behind = run lay w (r .hi) hi
+  Behind = range lay w (r .hi) hi
 
-  whole : run lay w lo hi ≡ Before ++ (Own ++ Behind)
+  whole : range lay w lo hi ≡ Before ++ (Own ++ Behind)
   whole =
       let few = at .kids .few in
-      run-split lay q w lo (r .lo) hi (at .kids .index) (chosen .begins .low) (chosen .begins .high) few
+      range-split lay q w lo (r .lo) hi (at .kids .index) (chosen .begins .low) (chosen .begins .high) few
       ∙ ap (λ (l : List ℕ). Before ++ l)
-      (run-split lay q w (r .lo) (r .hi) hi (at .kids .index) (chosen .rise) (chosen .within) few)
+      (range-split lay q w (r .lo) (r .hi) hi (at .kids .index) (chosen .rise) (chosen .within) few)
 
   pub kids-below : ChildrenAt lay st q path w d lo (r .lo) from to p
   kids-below = kids-before at some (chosen .begins)
@@ -194,7 +194,7 @@ module _ {lay : Layout} {st : Settings} {q : Query} {path w : List ℕ} {d lo hi
           underway-next (at .kids .underway) (first .visited .added calm)
           (omega (
             arith,
-            run-length lay q w lo (r .lo) (at .kids .index) (omega (arith, chosen .begins .high, at .kids .few)),
+            range-length lay q w lo (r .lo) (at .kids .index) (omega (arith, chosen .begins .high, at .kids .few)),
             chosen .begins .low,
             chosen .begins .high,
           ))
@@ -215,9 +215,9 @@ module _ {lay : Layout} {st : Settings} {q : Query} {path w : List ℕ} {d lo hi
         behind : Visited q (st .budget) (suc d) Behind (one .at .tally) two
         behind =
             subst (λ (l : List ℕ). Visited q (st .budget) (suc d) l (one .at .tally) two)
-            (run-framed (at .kids .index) (first .framed) under (r .hi) hi (at .kids .few)) (second .visited)
+            (range-framed (at .kids .index) (first .framed) under (r .hi) hi (at .kids .few)) (second .visited)
 
-        -- whatever the own run and those behind it are, those before it were added
+        -- whatever the own range and those behind it are, those before it were added
         all-visited : {x : List ℕ} {three : Walked} → Framed slot w x
             → Visited q (st .budget) (suc d) (Own ++ Behind) (one .at .tally) three
             → (three .spent ≡ false → RowsKept lay q x (three .at .top))
@@ -241,7 +241,7 @@ module _ {lay : Layout} {st : Settings} {q : Query} {path w : List ℕ} {d lo hi
               underway-next left-behind (behind .added quiet)
               (omega (
                 arith,
-                run-length lay q w (r .hi) hi (at .kids .index) (at .kids .few),
+                range-length lay q w (r .hi) hi (at .kids .index) (at .kids .few),
                 chosen .rise,
                 chosen .within,
               ))
@@ -253,7 +253,7 @@ module _ {lay : Layout} {st : Settings} {q : Query} {path w : List ℕ} {d lo hi
               all-visited framed
               (visited-before (behind .added quiet)
               (record {
-                added = λ calm. added-none q (suc d) (run-none lay w (r .lo) (r .hi) none);
+                added = λ calm. added-none q (suc d) (range-none lay w (r .lo) (r .hi) none);
                 within = λ calm. behind .within quiet;
                 beyond = λ spent. true-false spent refl;
               }))
@@ -286,7 +286,7 @@ module _ {lay : Layout} {st : Settings} {q : Query} {path w : List ℕ} {d lo hi
                 )) framed (done .framed))
                 (visited-before (behind .added quiet)
                 (subst (λ (l : List ℕ). Visited q (st .budget) (suc d) l (two .at .tally) three)
-                (run-framed (at .kids .index) framed under (r .lo) (r .hi) (omega (arith, chosen .within, at .kids .few)))
-                (subst (λ (e : ℕ). Visited q (st .budget) e (run lay u (r .lo) (r .hi)) (two .at .tally) three) (add-one d)
+                (range-framed (at .kids .index) framed under (r .lo) (r .hi) (omega (arith, chosen .within, at .kids .few)))
+                (subst (λ (e : ℕ). Visited q (st .budget) e (range lay u (r .lo) (r .hi)) (two .at .tally) three) (add-one d)
                 (done .visited))))
                 (done .rows)

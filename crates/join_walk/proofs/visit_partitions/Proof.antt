@@ -5,9 +5,9 @@ use mathlib.Core.Path.{sym, _∙_}
 use Prim.Native.Nat.{_-_}
 use Rattle.words.specs.flags.Flags.{Clear}
 use Rattle.join_nodes.proofs.PartLoop.{Continuing, continuing-start, continuing-step, continuing-spent, continuing-end}
-use Rattle.join_walk.proofs.visit.ChildSteps.{kids-run, childRank, first-child}
+use Rattle.join_walk.proofs.visit.ChildSteps.{kids-range, childRank, first-child}
 use Rattle.join_walk.specs.Partitions.{Partitions}
-use Rattle.join_walk.proofs.PartitionRuns.{partitions-done}
+use Rattle.join_walk.proofs.PartitionRanges.{partitions-done}
 use Rattle.join_walk.proofs.visit_partitions.Statement.{statement}
 use Rattle.join_walk.proofs.visit_partitions.Tie as tie
 
@@ -25,11 +25,11 @@ loop-holds c =
     let some = asked .0 in
     (continuing-start _ _ _ _ _ _ (record { query = some .query; path = []; holds = some .holds }), asked .1)
 
-run-end-requires : tie.Need-run-end-requires Inv-loop μ-loop
-run-end-requires c κs =
+range-end-requires : tie.Need-range-end-requires Inv-loop μ-loop
+range-end-requires c κs =
     let test = c .before in
     let some = test .before .loop .inv .0 .some in
-    record { query = some .query; holds = kids-run (some .holds) (test .loop-test .taken) }
+    record { query = some .query; holds = kids-range (some .holds) (test .loop-test .taken) }
 
 visit-partition-requires : tie.Need-visit-partition-requires Inv-loop μ-loop
 visit-partition-requires c κs =
@@ -40,7 +40,7 @@ visit-partition-requires c κs =
       record {
         query = some .query;
         rank = childRank (some .holds) (test .loop-test .taken);
-        holds = first-child (some .holds) (test .loop-test .taken) (end .run-end .ensures);
+        holds = first-child (some .holds) (test .loop-test .taken) (end .range-end .ensures);
       },
       inv .1,
     )
@@ -62,8 +62,8 @@ returns c =
     let end = visit .before .before .before in
     let test = end .before .before in (
       λ q first.
-          continuing-spent (test .before .loop .inv .0) (omega (arith, end .run-end .ensures .more)) (end .run-end .ensures .within)
-          (partitions-done (test .loop-test .taken) (end .run-end .ensures) (visit .visit-partition .ensures .0))
+          continuing-spent (test .before .loop .inv .0) (omega (arith, end .range-end .ensures .more)) (end .range-end .ensures .within)
+          (partitions-done (test .loop-test .taken) (end .range-end .ensures) (visit .visit-partition .ensures .0))
           (c .if1 .taken) q [] first,
       visit .visit-partition .ensures .1,
     )
@@ -72,7 +72,7 @@ loop-less : tie.Need-loop-less Inv-loop μ-loop
 loop-less c =
     let end = c .before .before .before .before .before .before .before .before .before in
     let test = end .before .before in
-    omega (arith, test .loop-test .taken, end .run-end .ensures .more, end .run-end .ensures .within)
+    omega (arith, test .loop-test .taken, end .range-end .ensures .more, end .range-end .ensures .within)
 
 loop-again : tie.Need-loop-again Inv-loop μ-loop
 loop-again c =
@@ -80,8 +80,8 @@ loop-again c =
     let visit = calm .before .before .before .before .before in
     let end = visit .before .before .before in
     let test = end .before .before in (
-      continuing-step (test .before .loop .inv .0) (omega (arith, end .run-end .ensures .more)) (end .run-end .ensures .within)
-          (partitions-done (test .loop-test .taken) (end .run-end .ensures) (visit .visit-partition .ensures .0))
+      continuing-step (test .before .loop .inv .0) (omega (arith, end .range-end .ensures .more)) (end .range-end .ensures .within)
+          (partitions-done (test .loop-test .taken) (end .range-end .ensures) (visit .visit-partition .ensures .0))
           (visit .visit-partition .kept .0) (calm .if1 .left),
       visit .visit-partition .ensures .1,
     )
@@ -103,17 +103,5 @@ returns-2 c =
 pub visit-partitions-spec : {M : Type 1} → statement M
 visit-partitions-spec =
     tie.close
-    (tie.spec
-    Inv-loop
-    μ-loop
-    loop-holds
-    run-end-requires
-    visit-partition-requires
-    same-length
-    same-length-2
-    returns
-    loop-less
-    loop-again
-    same-length-3
-    same-length-4
-    returns-2)
+    (tie.spec Inv-loop μ-loop loop-holds range-end-requires visit-partition-requires same-length same-length-2 returns loop-less
+    loop-again same-length-3 same-length-4 returns-2)

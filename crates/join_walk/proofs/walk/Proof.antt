@@ -5,7 +5,7 @@ use native.Mathlib.Omega.{arith}
 use borrow.Author.Needs.{needs}
 use Rattle.join_spec.specs.Kinds.{Kind, pathPair, confirmedCheck, droppedCheck, falseCheck}
 use Rattle.join_check.specs.Counters.{counter}
-use Rattle.join_walk.proofs.WalkSteps.{walk-none, walk-run, walk-partitions, walk-done}
+use Rattle.join_walk.proofs.WalkSteps.{walk-none, walk-range, walk-partitions, walk-done}
 use Rattle.join_walk.proofs.WalkSteps.{ready-cleared, rows-cleared, done-cleared}
 use Rattle.join_walk.proofs.walk.Statement.{statement}
 use Rattle.join_walk.proofs.walk.Tie as tie
@@ -45,7 +45,7 @@ merged-end-requires c κs =
     let asked = begun cleared .pre .0 in
     record {
       query = asked .query;
-      holds = walk-run (ready-cleared (asked .holds) (cleared .clear-rows .ensures)) (omega (arith, some .if1 .left));
+      holds = walk-range (ready-cleared (asked .holds) (cleared .clear-rows .ensures)) (omega (arith, some .if1 .left));
     }
 
 visit-partitions-requires : tie.Need-visit-partitions-requires
@@ -69,9 +69,6 @@ same-length-2 c =
     let visited = c .before .before .before .before in
     visited .visit-partitions .kept .0 ∙ visited .before .before .before .before .before .before .before .before .clear-rows .kept .0
 
-same-length-3 : tie.Need-same-length-3
-same-length-3 c = search needs
-
 returns-2 : tie.Need-returns-2
 returns-2 c =
     let visited = c .before .before .before .before in
@@ -91,12 +88,5 @@ returns-2 c =
 pub walk-spec : {M : Type 1} → statement M
 walk-spec =
     tie.close
-    (tie.spec
-    clear-rows-requires
-    same-length
-    returns
-    merged-end-requires
-    visit-partitions-requires
-    same-length-2
-    same-length-3
-    returns-2)
+    (tie.spec clear-rows-requires same-length returns merged-end-requires visit-partitions-requires same-length-2
+    (λ c. search needs) returns-2)

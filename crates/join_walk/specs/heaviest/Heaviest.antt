@@ -1,4 +1,4 @@
--- Inner: left sets that stand by their keys at a depth, parted where a run with the same key begins; and one of these runs.
+-- Inner: left sets that stand by their keys at a depth, parted where a range with the same key begins; and one of these ranges.
 use Prim.Native.Nat.{ℕ, _+_, _-_, _≤_, _<_}
 use mathlib.Core.Path.{_≡_}
 use mathlib.Core.List.{List}
@@ -6,8 +6,8 @@ use Rattle.join_spec.specs.Query.{Query}
 use Rattle.counting_sort.specs.Groups.{groupsFrom}
 use Rattle.join_index.specs.Grouping.{keyAt}
 use Rattle.join_index.specs.declared.Layout.{Layout}
-use Rattle.join_index.specs.Asking.{RunThere}
-use Rattle.join_index.specs.Runs.{run, RunEnd}
+use Rattle.join_index.specs.Asking.{RangeThere}
+use Rattle.join_index.specs.Ranges.{range, RangeEnd}
 use Rattle.join_walk.specs.declared.heaviest.Span.{Span}
 
 -- the groups of n keys from x on, at the places lo up to hi, are parted at place i: those of lesser keys stand before it
@@ -15,20 +15,20 @@ pub record PartedAt (lay : Layout) (q : Query) (w : List ℕ) (d x n : ℕ) (res
   pub key : ℕ
   pub low : x ≤ key
   pub high : key ≤ x + n
-  pub front : run lay w lo i ≡ groupsFrom (keyAt q d) x (key - x) rest
-  pub back : run lay w i hi ≡ groupsFrom (keyAt q d) key (x + n - key) rest
+  pub front : range lay w lo i ≡ groupsFrom (keyAt q d) x (key - x) rest
+  pub back : range lay w i hi ≡ groupsFrom (keyAt q d) key (x + n - key) rest
 
--- a run begins at place i, or all have ended: the left sets are parted there, whichever groups they are
-pub record RunBegins (lay : Layout) (w : List ℕ) (d lo hi i : ℕ) : Type 0 where
+-- a range begins at place i, or all have ended: the left sets are parted there, whichever groups they are
+pub record RangeBegins (lay : Layout) (w : List ℕ) (d lo hi i : ℕ) : Type 0 where
   pub low : lo ≤ i
   pub high : i ≤ hi
   pub parted :
-      (q : Query) → RunThere lay q w lo hi → (x n : ℕ) (rest : List ℕ) → run lay w lo hi ≡ groupsFrom (keyAt q d) x n rest
+      (q : Query) → RangeThere lay q w lo hi → (x n : ℕ) (rest : List ℕ) → range lay w lo hi ≡ groupsFrom (keyAt q d) x n rest
       → PartedAt lay q w d x n rest lo i hi
 
--- one of the runs, or none
-pub record RunChosen (lay : Layout) (w : List ℕ) (d lo hi : ℕ) (r : Span) : Type 0 where
-  pub begins : RunBegins lay w d lo hi (r .lo)
+-- one of the ranges, or none
+pub record RangeChosen (lay : Layout) (w : List ℕ) (d lo hi : ℕ) (r : Span) : Type 0 where
+  pub begins : RangeBegins lay w d lo hi (r .lo)
   pub rise : r .lo ≤ r .hi
   pub within : r .hi ≤ hi
-  pub end : r .lo < r .hi → RunEnd lay w d (r .lo) hi (r .hi)
+  pub end : r .lo < r .hi → RangeEnd lay w d (r .lo) hi (r .hi)

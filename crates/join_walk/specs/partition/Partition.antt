@@ -5,14 +5,14 @@ use mathlib.Core.List.{List, [], _∷_}
 use Rattle.join_spec.specs.Query.{Query}
 use Rattle.join_index.specs.declared.Layout.{Layout}
 use Rattle.join_check.specs.declared.Tally.{Tally}
-use Rattle.join_nodes.specs.Visiting.{RunVisited}
+use Rattle.join_nodes.specs.Visiting.{RangeVisited}
 use Rattle.join_nodes.specs.declared.Progress.{Progress}
-use Rattle.join_nodes.specs.declared.Settings.{Settings}
+use Rattle.join_nodes.specs.declared.WalkSettings.{WalkSettings}
 use Rattle.join_nodes.specs.declared.Walked.{Walked}
 use Rattle.join_walk.specs.visit.Child.{Child}
 
 -- one partition: the left sets at the places lo up to hi of the order are those with a first rank r
-abbrev pub Partition : Layout → Settings → Query → List ℕ → ℕ → ℕ → Progress → ℕ → Type 0
+abbrev pub Partition : Layout → WalkSettings → Query → List ℕ → ℕ → ℕ → Progress → ℕ → Type 0
 Partition lay st q w lo hi p r = Child lay st q (r ∷ []) w 1 lo hi p
 
 -- there are a query and a rank of which it holds
@@ -22,5 +22,5 @@ pub record SomeRank (P : Query → ℕ → Type 0) : Type 0 where
   pub holds : P query rank
 
 -- partitions were visited: only slots changed
-abbrev pub PartVisited : Layout → Settings → Query → List ℕ → List ℕ → ℕ → ℕ → Tally → Walked → Type 0
-PartVisited lay st q w w′ lo hi tally r = RunVisited lay q (st .budget) (lay .slots) 1 w w′ lo hi tally r
+abbrev pub PartVisited : Layout → WalkSettings → Query → List ℕ → List ℕ → ℕ → ℕ → Tally → Walked → Type 0
+PartVisited lay st q w w′ lo hi tally r = RangeVisited lay q (st .budget) (lay .slots) 1 w w′ lo hi tally r

@@ -7,14 +7,14 @@ use Rattle.join_spec.specs.Query.{Query}
 use Rattle.join_spec.specs.Node.{lastOf}
 use Rattle.join_index.specs.declared.Layout.{Layout}
 use Rattle.join_index.specs.Asking.{Index}
-use Rattle.join_index.specs.Runs.{run}
+use Rattle.join_index.specs.Ranges.{range}
 use Rattle.kept_rows.specs.Kept.{RowsKept}
 use Rattle.join_nodes.specs.Visiting.{Underway, beginners}
 use Rattle.join_nodes.specs.declared.Progress.{Progress}
-use Rattle.join_nodes.specs.declared.Settings.{Settings}
+use Rattle.join_nodes.specs.declared.WalkSettings.{WalkSettings}
 
 -- the left sets at the places lo up to hi begin with a path of d ranks: those of a child, or of a partition
-pub record Child (lay : Layout) (st : Settings) (q : Query) (path w : List ℕ) (d lo hi : ℕ) (p : Progress) : Type 0 where
+pub record Child (lay : Layout) (st : WalkSettings) (q : Query) (path w : List ℕ) (d lo hi : ℕ) (p : Progress) : Type 0 where
   pub index : Index lay q w
   pub underway : Underway st q (p .tally) (hi - lo)
   pub rows : RowsKept lay q w (p .top)
@@ -23,4 +23,4 @@ pub record Child (lay : Layout) (st : Settings) (q : Query) (path w : List ℕ) 
   pub last : lastOf path < q .T
   pub some : lo < hi
   pub few : hi ≤ length (q .lefts)
-  pub lefts : run lay w lo hi ≡ beginners q path d
+  pub lefts : range lay w lo hi ≡ beginners q path d

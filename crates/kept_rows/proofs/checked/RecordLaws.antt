@@ -22,7 +22,7 @@ use Rattle.words.specs.flags.Flags.{Behind}
 use Rattle.words.proofs.flags.Keeping.{Keeping, keeping-start, keeping-step, keeping-end}
 use Rattle.join_check.specs.declared.Tally.{Tally}
 use Rattle.join_check.specs.declared.Probe.{Probe}
-use Rattle.join_index.specs.Asking.{Some, Index, RightThere}
+use Rattle.join_index.specs.Asking.{SomeQuery, Index, RightThere}
 use Rattle.join_check.specs.Probes.{Probed, OneChecked, probeOutcome}
 use Rattle.join_index.proofs.Places.{place-right}
 use Rattle.join_check.proofs.Tallying.{tallied-same, probe-rising, probe-check}
@@ -30,7 +30,7 @@ use Rattle.join_check.proofs.RowChecks.{RowChecking, row-start, row-step, row-e
 use Rattle.kept_rows.specs.Kept.{containedAt, containing, RowIs, RowsKept}
 use Rattle.kept_rows.specs.Keeping.{WordsRoom, rowStored}
 use Rattle.kept_rows.proofs.RowLaws.{index-kept, rows-grown, rows-stored, words-room, stored-frame, stored-size}
-use Rattle.kept_rows.specs.checked.Recording.{RecordThere, RowRecorded}
+use Rattle.kept_rows.specs.checked.Recording.{RowRecordable, RowRecorded}
 
 -- the confirmed ones of the places up to i stand from top up to n
 pub record Recording (lay : Layout) (w₀ : List ℕ) (k e from to top : ℕ) (tally : Tally) (w : List ℕ) (r : Tally) (n i : ℕ)
@@ -39,10 +39,10 @@ pub record Recording (lay : Layout) (w₀ : List ℕ) (k e from to top : ℕ) (t
   pub changed : Changed top (top + (to - from)) w₀ w
   pub low : top ≤ n
   pub high : n ≤ top + (to - from)
-  pub keeping : (q : Query) → RecordThere lay q w₀ k e from to top → Keeping (containedAt q k) w₀ from to top w i n
+  pub keeping : (q : Query) → RowRecordable lay q w₀ k e from to top → Keeping (containedAt q k) w₀ from to top w i n
 
 -- the places that are read lie below the rows
-behind : {lay : Layout} {q : Query} {w : List ℕ} {k e from to top : ℕ} → RecordThere lay q w k e from to top → Behind from to top w
+behind : {lay : Layout} {q : Query} {w : List ℕ} {k e from to top : ℕ} → RowRecordable lay q w k e from to top → Behind from to top w
 behind there =
     let g = there .row .left .index .ground in
     record {
@@ -62,7 +62,7 @@ module _ {lay : Layout} {w₀ : List ℕ} {k e from to top : ℕ} {tally : Tally
       }
 
   module _ {w : List ℕ} {r : Tally} {n i : ℕ} (so : Recording lay w₀ k e from to top tally w r n i) where
-    module _ {q : Query} (there : RecordThere lay q w₀ k e from to top) where
+    module _ {q : Query} (there : RowRecordable lay q w₀ k e from to top) where
       recording-frame : take (lay .«row_starts») w ≡ take (lay .«row_starts») w₀
       recording-frame =
           let g = there .row .left .index .ground in
@@ -143,7 +143,7 @@ module _ {lay : Layout} {w₀ : List ℕ} {k e from to top : ℕ} {tally : Tally
           pub recording-right : RightThere lay q w s
           recording-right = record { index = recording-index; below = first-right .below }
 
-    module _ {s : ℕ} {p : Probe} {u : Tally} (some : Some (λ q. RecordThere lay q w₀ k e from to top)) (more : i < to)
+    module _ {s : ℕ} {p : Probe} {u : Tally} (some : SomeQuery (λ q. RowRecordable lay q w₀ k e from to top)) (more : i < to)
         (word : Word w i s) (probed : Probed lay w₀ k e p) (checked : OneChecked lay w p s r u) where
       -- a check finds what it would have found at first
       outcome-stays : (q : Query) → probeOutcome q w p s ≡ probeOutcome q w₀ p s
@@ -167,7 +167,7 @@ module _ {lay : Layout} {w₀ : List ℕ} {k e from to top : ℕ} {tally : Tally
           }
 
       -- one more is confirmed where the right set contains the left set
-      confirmed-more : (q : Query) → RecordThere lay q w₀ k e from to top → u .confirmed - r .confirmed ≡ one (containedAt q k s)
+      confirmed-more : (q : Query) → RowRecordable lay q w₀ k e from to top → u .confirmed - r .confirmed ≡ one (containedAt q k s)
       confirmed-more q there =
           let grows = first-checked .tallied q (first-right there more word) .grows confirmedCheck in
           let found : isConfirmed (probeOutcome q w₀ p s) ≡ containedAt q k s =
@@ -183,7 +183,7 @@ module _ {lay : Layout} {w₀ : List ℕ} {k e from to top : ℕ} {tally : Tally
             first-checked .tallied (some .query) (first-right (some .holds) more word) .grows confirmedCheck,
           )
 
-      kept-step : (q : Query) → RecordThere lay q w₀ k e from to top
+      kept-step : (q : Query) → RowRecordable lay q w₀ k e from to top
           → Keeping (containedAt q k) w₀ from to top (set w n s) (i + 1) (n + (u .confirmed - r .confirmed))
       kept-step q there =
           subst
@@ -204,7 +204,7 @@ module _ {lay : Layout} {w₀ : List ℕ} {k e from to top : ℕ} {tally : Tally
             keeping = kept-step;
           }
 
-    pub recording-end : {v : List ℕ} → Some (λ q. RecordThere lay q w₀ k e from to top) → to ≤ i → v ≡ rowStored lay k top n w
+    pub recording-end : {v : List ℕ} → SomeQuery (λ q. RowRecordable lay q w₀ k e from to top) → to ≤ i → v ≡ rowStored lay k top n w
         → RowRecorded lay w₀ k e from to tally top v (record { tally = r; top = n })
     recording-end {v} some past kept =
         rw kept

@@ -1,4 +1,4 @@
--- `kept_rows::rows::clear_rows` meets its contract. The invariant is `Clearing`: the first words of rows are 0. The measure is how
+-- `kept_rows::clear_rows` meets its contract. The invariant is `Clearing`: the first words of rows are 0. The measure is how
 -- many are to come.
 use Prim.Native.Nat.{_+_, _-_, _<_}
 use native.Mathlib.Omega.{arith}
@@ -48,15 +48,4 @@ returns c = clearing-end (c .before .loop .inv) (c .loop-test .left)
 pub clear-rows-spec : {M : Type 1} → statement M
 clear-rows-spec =
     tie.close
-    (tie.spec
-    Inv-loop
-    μ-loop
-    loop-holds
-    add-work
-    mul-work
-    slice-write-work
-    add-k
-    loop-less
-    loop-again
-    same-length
-    returns)
+    (tie.spec Inv-loop μ-loop loop-holds add-work mul-work slice-write-work add-k loop-less loop-again same-length returns)

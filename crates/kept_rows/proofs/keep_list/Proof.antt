@@ -1,4 +1,4 @@
--- `kept_rows::rows::keep_list` meets its contract: where the copy fits it is the row of each of the left sets.
+-- `kept_rows::keep_list` meets its contract: where the copy fits it is the row of each of the left sets.
 use native.Mathlib.Omega.{arith}
 use Rattle.kept_rows.proofs.Sharing.{list-same, copy-room, copy-shared, list-kept}
 use borrow.Author.Needs.{needs}
@@ -7,12 +7,6 @@ use Rattle.kept_rows.proofs.keep_list.Tie as tie
 
 returns : tie.Need-returns
 returns c = list-same
-
-sub-if2 : tie.Need-sub-if2
-sub-if2 c = search needs
-
-sub-if2-2 : tie.Need-sub-if2-2
-sub-if2-2 c = search needs
 
 returns-2 : tie.Need-returns-2
 returns-2 c = list-same
@@ -32,9 +26,6 @@ share-row-requires c κs =
       holds = copy-shared (copied .copy-words .ensures) (some .holds) (omega (arith, test .if2 .left));
     }
 
-same-length : tie.Need-same-length
-same-length c = search needs
-
 returns-3 : tie.Need-returns-3
 returns-3 c =
     let shared = c .before .before in
@@ -46,12 +37,5 @@ returns-3 c =
 pub keep-list-spec : {M : Type 1} → statement M
 keep-list-spec =
     tie.close
-    (tie.spec
-    returns
-    sub-if2
-    sub-if2-2
-    returns-2
-    copy-words-requires
-    share-row-requires
-    same-length
-    returns-3)
+    (tie.spec returns (λ c. search needs) (λ c. search needs) returns-2 copy-words-requires share-row-requires
+    (λ c. search needs) returns-3)

@@ -1,4 +1,4 @@
--- `kept_rows::rows::share_row` meets its contract. The invariant is `Sharing`: some left sets have the row. The measure is how many
+-- `kept_rows::share_row` meets its contract. The invariant is `Sharing`: some left sets have the row. The measure is how many
 -- are to come.
 use Prim.Native.Nat.{_-_}
 use native.Mathlib.Omega.{arith}
@@ -55,15 +55,5 @@ returns c = sharing-end (c .before .loop .inv)
 pub share-row-spec : {M : Type 1} → statement M
 share-row-spec =
     tie.close
-    (tie.spec
-    Inv-loop
-    μ-loop
-    loop-holds
-    add-word-at
-    word-at-requires
-    keep-row-requires
-    add-j
-    loop-less
-    loop-again
-    same-length
+    (tie.spec Inv-loop μ-loop loop-holds add-word-at word-at-requires keep-row-requires add-j loop-less loop-again same-length
     returns)

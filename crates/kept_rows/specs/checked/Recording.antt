@@ -13,7 +13,7 @@ use Rattle.kept_rows.specs.declared.checked.Recorded.{Recorded}
 
 -- the left set k can be checked so, no right set that contains it is missing from the places, in their order, and from top on
 -- there is room for all of them
-pub record RecordThere (lay : Layout) (q : Query) (w : List ℕ) (k e from to top : ℕ) : Type 0 where
+pub record RowRecordable (lay : Layout) (q : Query) (w : List ℕ) (k e from to top : ℕ) : Type 0 where
   pub row : RowThere lay q w k e from to
   pub rows : RowsKept lay q w top
   pub below : to ≤ lay .«row_starts»
@@ -26,5 +26,5 @@ pub record RowRecorded (lay : Layout) (w : List ℕ) (k e from to : ℕ) (tally 
   pub size : length w′ ≡ length w
   pub frame : take (lay .«row_starts») w′ ≡ take (lay .«row_starts») w
   pub checked : RowChecked lay w k e from to tally (r .tally)
-  pub rows : (q : Query) → RecordThere lay q w k e from to top → RowsKept lay q w′ (r .top)
-  pub past : (q : Query) → RecordThere lay q w k e from to top → r .top ≡ top + length (containing q k)
+  pub rows : (q : Query) → RowRecordable lay q w k e from to top → RowsKept lay q w′ (r .top)
+  pub past : (q : Query) → RowRecordable lay q w k e from to top → r .top ≡ top + length (containing q k)

@@ -5,14 +5,8 @@ use borrow.Author.Needs.{needs}
 use Rattle.kitfinder.proofs.kitfinder_first.Statement.{statement}
 use Rattle.kitfinder.proofs.kitfinder_first.Tie as tie
 
-find-first-requires : tie.Need-find-first-requires
-find-first-requires c κs = search needs
-
-first-words-requires : tie.Need-first-words-requires
-first-words-requires c κs = search needs
-
 returns : tie.Need-returns
 returns c = c .first-words .ensures ∙ ap firstWords (c .before .find-first .ensures)
 
 pub kitfinder-first-spec : {M : Type 1} → statement M
-kitfinder-first-spec = tie.close (tie.spec find-first-requires first-words-requires returns)
+kitfinder-first-spec = tie.close (tie.spec (λ c κs. search needs) (λ c κs. search needs) returns)

@@ -6,18 +6,6 @@ use borrow.Author.Needs.{needs}
 use Rattle.kitfinder.proofs.kitfinder_join.Statement.{statement}
 use Rattle.kitfinder.proofs.kitfinder_join.Tie as tie
 
-run-numbered-requires : tie.Need-run-numbered-requires
-run-numbered-requires c κs = search needs
-
-join-words-requires : tie.Need-join-words-requires
-join-words-requires c κs = search needs
-
-same-length : tie.Need-same-length
-same-length c = search needs
-
-same-length-2 : tie.Need-same-length-2
-same-length-2 c = search needs
-
 returns : tie.Need-returns
 returns c =
     let given = c .before .before .before .before .before .run-numbered .ensures in
@@ -26,4 +14,4 @@ returns c =
 pub kitfinder-join-spec : {M : Type 1} → statement M
 kitfinder-join-spec =
     tie.close
-    (tie.spec run-numbered-requires join-words-requires same-length same-length-2 returns)
+    (tie.spec (λ c κs. search needs) (λ c κs. search needs) (λ c. search needs) (λ c. search needs) returns)

@@ -5,14 +5,8 @@ use borrow.Author.Needs.{needs}
 use Rattle.kitfinder.proofs.kitfinder_read_record.Statement.{statement}
 use Rattle.kitfinder.proofs.kitfinder_read_record.Tie as tie
 
-read-requires : tie.Need-read-requires
-read-requires c κs = search needs
-
-read-words-requires : tie.Need-read-words-requires
-read-words-requires c κs = search needs
-
 returns : tie.Need-returns
 returns c = c .read-words .ensures ∙ ap readWords (c .before .read .ensures)
 
 pub kitfinder-read-record-spec : {M : Type 1} → statement M
-kitfinder-read-record-spec = tie.close (tie.spec read-requires read-words-requires returns)
+kitfinder-read-record-spec = tie.close (tie.spec (λ c κs. search needs) (λ c κs. search needs) returns)

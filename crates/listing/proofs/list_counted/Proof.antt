@@ -5,9 +5,6 @@ use borrow.Author.Needs.{needs}
 use Rattle.listing.proofs.list_counted.Statement.{statement}
 use Rattle.listing.proofs.list_counted.Tie as tie
 
-cast-list-loaded : tie.Need-cast-list-loaded
-cast-list-loaded c = search needs
-
 slice-aggregate-list-loaded : tie.Need-slice-aggregate-list-loaded
 slice-aggregate-list-loaded c =
     sym (length-take-le _ _ (c .before .before .before .before .before .before .before .before .before .pre .left-numbered))
@@ -32,9 +29,6 @@ slice-aggregate-list-loaded-6 : tie.Need-slice-aggregate-list-loaded-6
 slice-aggregate-list-loaded-6 c =
     sym (length-take-le _ _ (c .before .before .before .before .before .before .before .before .before .before .before .before .before .before .pre .right-filled))
 
-slice-relend-prefix-list-loaded : tie.Need-slice-relend-prefix-list-loaded
-slice-relend-prefix-list-loaded c = search needs
-
 slice-aggregate-list-loaded-7 : tie.Need-slice-aggregate-list-loaded-7
 slice-aggregate-list-loaded-7 c =
     sym (length-take-le _ _ (c .before .before .before .before .before .before .before .before .before .before .before .before .before .before .before .pre .ranked))
@@ -50,29 +44,9 @@ list-loaded-requires c κs =
       length-take-le _ _ (within .ranked),
     )
 
-same-length : tie.Need-same-length
-same-length c = search needs
-
-same-length-2 : tie.Need-same-length-2
-same-length-2 c = search needs
-
-returns : tie.Need-returns
-returns c = search needs
-
 pub list-counted-spec : {M : Type 1} → statement M
 list-counted-spec =
     tie.close
-    (tie.spec
-    cast-list-loaded
-    slice-aggregate-list-loaded
-    slice-aggregate-list-loaded-2
-    slice-aggregate-list-loaded-3
-    slice-aggregate-list-loaded-4
-    slice-aggregate-list-loaded-5
-    slice-aggregate-list-loaded-6
-    slice-relend-prefix-list-loaded
-    slice-aggregate-list-loaded-7
-    list-loaded-requires
-    same-length
-    same-length-2
-    returns)
+    (tie.spec (λ c. search needs) slice-aggregate-list-loaded slice-aggregate-list-loaded-2 slice-aggregate-list-loaded-3
+    slice-aggregate-list-loaded-4 slice-aggregate-list-loaded-5 slice-aggregate-list-loaded-6 (λ c. search needs)
+    slice-aggregate-list-loaded-7 list-loaded-requires (λ c. search needs) (λ c. search needs) (λ c. search needs))

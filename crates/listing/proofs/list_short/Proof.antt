@@ -40,78 +40,6 @@ program-lists p =
       rightItems = made .before .new-items2 .ensures;
     }
 
-new-tags-requires : tie.Need-new-tags-requires
-new-tags-requires c κs = search needs
-
-new-places-requires : tie.Need-new-places-requires
-new-places-requires c κs = search needs
-
-new-ends-requires : tie.Need-new-ends-requires
-new-ends-requires c κs = search needs
-
-new-items-requires : tie.Need-new-items-requires
-new-items-requires c κs = search needs
-
-new-places-requires-2 : tie.Need-new-places-requires-2
-new-places-requires-2 c κs = search needs
-
-new-ends-requires-2 : tie.Need-new-ends-requires-2
-new-ends-requires-2 c κs = search needs
-
-new-items-requires-2 : tie.Need-new-items-requires-2
-new-items-requires-2 c κs = search needs
-
-new-places-requires-3 : tie.Need-new-places-requires-3
-new-places-requires-3 c κs = search needs
-
-slice-aggregate-load : tie.Need-slice-aggregate-load
-slice-aggregate-load c = search needs
-
-slice-aggregate-load-2 : tie.Need-slice-aggregate-load-2
-slice-aggregate-load-2 c = search needs
-
-slice-aggregate-load-3 : tie.Need-slice-aggregate-load-3
-slice-aggregate-load-3 c = search needs
-
-slice-aggregate-load-4 : tie.Need-slice-aggregate-load-4
-slice-aggregate-load-4 c = search needs
-
-slice-aggregate-load-5 : tie.Need-slice-aggregate-load-5
-slice-aggregate-load-5 c = search needs
-
-slice-aggregate-load-6 : tie.Need-slice-aggregate-load-6
-slice-aggregate-load-6 c = search needs
-
-slice-aggregate-load-7 : tie.Need-slice-aggregate-load-7
-slice-aggregate-load-7 c = search needs
-
-load-requires : tie.Need-load-requires
-load-requires c κs = search needs
-
-enum-known-answer : tie.Need-enum-known-answer
-enum-known-answer c = search needs
-
-slice-aggregate-list-counted : tie.Need-slice-aggregate-list-counted
-slice-aggregate-list-counted c = search needs
-
-slice-aggregate-list-counted-2 : tie.Need-slice-aggregate-list-counted-2
-slice-aggregate-list-counted-2 c = search needs
-
-slice-aggregate-list-counted-3 : tie.Need-slice-aggregate-list-counted-3
-slice-aggregate-list-counted-3 c = search needs
-
-slice-aggregate-list-counted-4 : tie.Need-slice-aggregate-list-counted-4
-slice-aggregate-list-counted-4 c = search needs
-
-slice-aggregate-list-counted-5 : tie.Need-slice-aggregate-list-counted-5
-slice-aggregate-list-counted-5 c = search needs
-
-slice-aggregate-list-counted-6 : tie.Need-slice-aggregate-list-counted-6
-slice-aggregate-list-counted-6 c = search needs
-
-slice-aggregate-list-counted-7 : tie.Need-slice-aggregate-list-counted-7
-slice-aggregate-list-counted-7 c = search needs
-
 list-counted-requires : tie.Need-list-counted-requires
 list-counted-requires c κs =
     let told = c .before .before .before .before .before .before .before .before .before in
@@ -121,24 +49,12 @@ list-counted-requires c κs =
     (p .load .kept .1 .1 .0) (p .load .kept .1 .1 .1 .0) (p .load .kept .1 .1 .1 .1 .0)
     (p .load .kept .1 .1 .1 .1 .1 .0) (p .load .kept .1 .1 .1 .1 .1 .1 .0) (p .load .kept .1 .1 .1 .1 .1 .1 .1 .0)
 
-enum-known-answer-2 : tie.Need-enum-known-answer-2
-enum-known-answer-2 c = search needs
-
-put-refusal-requires : tie.Need-put-refusal-requires
-put-refusal-requires c κs = search needs
-
-same-length : tie.Need-same-length
-same-length c = search needs
-
 returns : tie.Need-returns
 returns c =
     let told = c .before .before .before .before .before .before .before .before .before .before .before .before .before in
     let p = told .before .before .before .before .before .before .before .before .before in
     fills-same (loaded-text (start p .args .file .now) {lent = lent p} {got = got p} (p .load .ensures) (told .answer .given .1))
     (c .before .before .before .list-counted .ensures)
-
-same-length-2 : tie.Need-same-length-2
-same-length-2 c = search needs
 
 returns-2 : tie.Need-returns-2
 returns-2 c =
@@ -152,35 +68,9 @@ returns-2 c =
 pub list-short-spec : {M : Type 1} → statement M
 list-short-spec =
     tie.close
-    (tie.spec
-    new-tags-requires
-    new-places-requires
-    new-ends-requires
-    new-items-requires
-    new-places-requires-2
-    new-ends-requires-2
-    new-items-requires-2
-    new-places-requires-3
-    slice-aggregate-load
-    slice-aggregate-load-2
-    slice-aggregate-load-3
-    slice-aggregate-load-4
-    slice-aggregate-load-5
-    slice-aggregate-load-6
-    slice-aggregate-load-7
-    load-requires
-    enum-known-answer
-    slice-aggregate-list-counted
-    slice-aggregate-list-counted-2
-    slice-aggregate-list-counted-3
-    slice-aggregate-list-counted-4
-    slice-aggregate-list-counted-5
-    slice-aggregate-list-counted-6
-    slice-aggregate-list-counted-7
-    list-counted-requires
-    enum-known-answer-2
-    put-refusal-requires
-    same-length
-    returns
-    same-length-2
-    returns-2)
+    (tie.spec (λ c κs. search needs) (λ c κs. search needs) (λ c κs. search needs) (λ c κs. search needs)
+    (λ c κs. search needs) (λ c κs. search needs) (λ c κs. search needs) (λ c κs. search needs) (λ c. search needs)
+    (λ c. search needs) (λ c. search needs) (λ c. search needs) (λ c. search needs) (λ c. search needs) (λ c. search needs)
+    (λ c κs. search needs) (λ c. search needs) (λ c. search needs) (λ c. search needs) (λ c. search needs) (λ c. search needs)
+    (λ c. search needs) (λ c. search needs) (λ c. search needs) list-counted-requires (λ c. search needs)
+    (λ c κs. search needs) (λ c. search needs) returns (λ c. search needs) returns-2)

@@ -209,9 +209,6 @@ loop2-again c =
     second-walk-skip (second-start-of at-loop .pre) (at-loop .loop2 .inv n₀ e₀ i₀ w) (read-second told)
     (sym (side .ensures) ∙ not-true (side .result) (c .if2 .taken))
 
-cast-contains : tie.Need-cast-contains Inv-loop μ-loop Inv-loop2 μ-loop2
-cast-contains c = search needs
-
 contains-requires : tie.Need-contains-requires Inv-loop μ-loop Inv-loop2 μ-loop2
 contains-requires c κs =
     let own = c in
@@ -294,39 +291,8 @@ loop2-again-3 c =
 pub fill-right-spec : {M : Type 1} → statement M
 fill-right-spec =
     tie.close
-    (tie.spec
-    Inv-loop
-    μ-loop
-    Inv-loop2
-    μ-loop2
-    loop-holds
-    read-record-requires
-    enum-known-answer
-    is-side-requires
-    loop-less
-    loop-again
-    slice-aggregate-fill-own
-    fill-own-requires
-    loop-less-2
-    loop-again-2
-    loop2-holds
-    read-record-requires-2
-    enum-known-answer-2
-    same-length
-    same-length-2
-    same-length-3
-    same-length-4
-    returns
-    is-side-requires-2
-    loop2-less
-    loop2-again
-    cast-contains
-    contains-requires
-    slice-aggregate-pool-one
-    pool-one-requires
-    loop2-less-2
-    loop2-again-2
-    slice-aggregate-fill-new
-    fill-new-requires
-    loop2-less-3
-    loop2-again-3)
+    (tie.spec Inv-loop μ-loop Inv-loop2 μ-loop2 loop-holds read-record-requires enum-known-answer is-side-requires loop-less
+    loop-again slice-aggregate-fill-own fill-own-requires loop-less-2 loop-again-2 loop2-holds read-record-requires-2
+    enum-known-answer-2 same-length same-length-2 same-length-3 same-length-4 returns is-side-requires-2 loop2-less
+    loop2-again (λ c. search needs) contains-requires slice-aggregate-pool-one pool-one-requires loop2-less-2 loop2-again-2
+    slice-aggregate-fill-new fill-new-requires loop2-less-3 loop2-again-3)

@@ -48,14 +48,5 @@ returns c = pooled c .pool-second .ensures
 pub load-pooled-spec : {M : Type 1} → statement M
 load-pooled-spec =
     tie.close
-    (tie.spec
-    scan-first-requires
-    pool-second-requires
-    same-length
-    same-length-2
-    same-length-3
-    same-length-4
-    same-length-5
-    same-length-6
-    same-length-7
-    returns)
+    (tie.spec scan-first-requires pool-second-requires same-length same-length-2 same-length-3 same-length-4 same-length-5
+    same-length-6 same-length-7 returns)

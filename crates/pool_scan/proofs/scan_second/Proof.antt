@@ -213,33 +213,7 @@ loop-again-2 c = passing-left (c .before .before .before .before .before .before
 pub scan-second-spec : {M : Type 1} → statement M
 scan-second-spec =
     tie.close
-    (tie.spec
-    Inv-loop
-    μ-loop
-    count-from-requires
-    loop-holds
-    read-record-requires
-    wrapping-add-usize-requires
-    enum-known-answer
-    accepted-requires
-    same-length
-    returns
-    refused-requires
-    same-length-2
-    returns-2
-    is-side-requires
-    slice-aggregate-claim
-    claim-requires
-    refused-requires-2
-    same-length-3
-    returns-3
-    unite-requires
-    count-set-requires
-    is-past-requires
-    refused-requires-3
-    same-length-4
-    returns-4
-    loop-less
-    loop-again
-    loop-less-2
-    loop-again-2)
+    (tie.spec Inv-loop μ-loop count-from-requires loop-holds read-record-requires wrapping-add-usize-requires
+    enum-known-answer accepted-requires same-length returns refused-requires same-length-2 returns-2 is-side-requires
+    slice-aggregate-claim claim-requires refused-requires-2 same-length-3 returns-3 unite-requires count-set-requires
+    is-past-requires refused-requires-3 same-length-4 returns-4 loop-less loop-again loop-less-2 loop-again-2)

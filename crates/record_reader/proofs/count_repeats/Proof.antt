@@ -35,15 +35,6 @@ link-requires c κs = (there (c .before .before), c .before .before .before .loo
 is-repeat-requires : tie.Need-is-repeat-requires Inv-loop μ-loop
 is-repeat-requires c κs = (there (c .before .before .before .before), c .before .link .ensures .linked)
 
-add-repeats : tie.Need-add-repeats Inv-loop μ-loop
-add-repeats c = omega arith
-
-add-k : tie.Need-add-k Inv-loop μ-loop
-add-k c = search needs
-
-loop-less : tie.Need-loop-less Inv-loop μ-loop
-loop-less c = search needs
-
 loop-again : tie.Need-loop-again Inv-loop μ-loop
 loop-again c =
     let at-link = c .before .before .before in
@@ -58,14 +49,5 @@ returns c = counted-end (c .before .loop .inv) (c .loop-test .left)
 pub count-repeats-spec : {M : Type 1} → statement M
 count-repeats-spec =
     tie.close
-    (tie.spec
-    Inv-loop
-    μ-loop
-    loop-holds
-    link-requires
-    is-repeat-requires
-    add-repeats
-    add-k
-    loop-less
-    loop-again
-    returns)
+    (tie.spec Inv-loop μ-loop loop-holds link-requires is-repeat-requires (λ c. omega arith) (λ c. search needs)
+    (λ c. search needs) loop-again returns)

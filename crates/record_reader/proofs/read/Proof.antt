@@ -7,12 +7,6 @@ use borrow.Author.Needs.{needs}
 use Rattle.record_reader.proofs.read.Statement.{statement}
 use Rattle.record_reader.proofs.read.Tie as tie
 
-read-record-requires : tie.Need-read-record-requires
-read-record-requires c κs = search needs
-
-enum-known-answer : tie.Need-enum-known-answer
-enum-known-answer c = search needs
-
 returns : tie.Need-returns
 returns c =
     let start = c .before .before .before in
@@ -37,6 +31,4 @@ returns-2 c =
     (c .count-repeats .ensures)
 
 pub read-spec : {M : Type 1} → statement M
-read-spec =
-    tie.close
-    (tie.spec read-record-requires enum-known-answer returns count-repeats-requires returns-2)
+read-spec = tie.close (tie.spec (λ c κs. search needs) (λ c. search needs) returns count-repeats-requires returns-2)

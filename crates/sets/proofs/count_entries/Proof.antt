@@ -11,15 +11,6 @@ use Rattle.sets.proofs.count_entries.Tie as tie
 returns : tie.Need-returns
 returns c = sym (entries-none (c .before .args .ends .now) (omega arith))
 
-sub-result : tie.Need-sub-result
-sub-result c = search needs
-
-mul-result : tie.Need-mul-result
-mul-result c = search needs
-
-shared-slice-read-result : tie.Need-shared-slice-read-result
-shared-slice-read-result c = search needs
-
 cast-result : tie.Need-cast-result
 cast-result c = omega (arith, c .shared-slice-known .given (length (c .before .before .args .ends .now) - 1))
 
@@ -29,4 +20,4 @@ returns-2 c = sym (entries-at (c .before .before .args .ends .now) (omega arith)
 pub count-entries-spec : {M : Type 1} → statement M
 count-entries-spec =
     tie.close
-    (tie.spec returns sub-result mul-result shared-slice-read-result cast-result returns-2)
+    (tie.spec returns (λ c. search needs) (λ c. search needs) (λ c. search needs) cast-result returns-2)

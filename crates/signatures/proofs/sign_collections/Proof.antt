@@ -9,12 +9,6 @@ use Rattle.signatures.proofs.sign_collections.Tie as tie
 abbrev start : tie.After-sign-sets → tie.Start
 start c = c .before .before .before .before .before .before .before .before .before
 
-position-table-requires : tie.Need-position-table-requires
-position-table-requires c κs = search needs
-
-sign-sets-requires : tie.Need-sign-sets-requires
-sign-sets-requires c κs = search needs
-
 sign-sets-requires-2 : tie.Need-sign-sets-requires-2
 sign-sets-requires-2 c κs =
     let right = c .before .before .before .before in (
@@ -25,9 +19,6 @@ sign-sets-requires-2 c κs =
       right .before .before .before .position-table .ensures,
     )
 
-same-length : tie.Need-same-length
-same-length c = search needs
-
 returns : tie.Need-returns
 returns c =
     let left = c .before .before in
@@ -35,4 +26,6 @@ returns c =
     both-signed (start right .pre) (right .sign-sets .ensures) (left .sign-sets2 .ensures)
 
 pub sign-collections-spec : {M : Type 1} → statement M
-sign-collections-spec = tie.close (tie.spec position-table-requires sign-sets-requires sign-sets-requires-2 same-length returns)
+sign-collections-spec =
+    tie.close
+    (tie.spec (λ c κs. search needs) (λ c κs. search needs) sign-sets-requires-2 (λ c. search needs) returns)

@@ -28,26 +28,11 @@ bit-low c =
 loop-holds : tie.Need-loop-holds Inv-loop μ-loop
 loop-holds c = refl
 
-mul-position-of : tie.Need-mul-position-of Inv-loop μ-loop
-mul-position-of c = omega arith
-
-shared-slice-read-position-of : tie.Need-shared-slice-read-position-of Inv-loop μ-loop
-shared-slice-read-position-of c = omega arith
-
-position-of-requires : tie.Need-position-of-requires Inv-loop μ-loop
-position-of-requires c κs = search needs
-
 cast-mark : tie.Need-cast-mark Inv-loop μ-loop
 cast-mark c = omega (arith, bit-low c)
 
 shl-mark : tie.Need-shl-mark Inv-loop μ-loop
 shl-mark c = bit-low c
-
-add-i : tie.Need-add-i Inv-loop μ-loop
-add-i c = omega arith
-
-loop-less : tie.Need-loop-less Inv-loop μ-loop
-loop-less c = omega arith
 
 loop-again : tie.Need-loop-again Inv-loop μ-loop
 loop-again c =
@@ -65,16 +50,5 @@ returns c =
 pub sign-set-spec : {M : Type 1} → statement M
 sign-set-spec =
     tie.close
-    (tie.spec
-    Inv-loop
-    μ-loop
-    loop-holds
-    mul-position-of
-    shared-slice-read-position-of
-    position-of-requires
-    cast-mark
-    shl-mark
-    add-i
-    loop-less
-    loop-again
-    returns)
+    (tie.spec Inv-loop μ-loop loop-holds (λ c. omega arith) (λ c. omega arith) (λ c κs. search needs) cast-mark shl-mark
+    (λ c. omega arith) (λ c. omega arith) loop-again returns)

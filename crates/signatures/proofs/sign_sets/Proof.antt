@@ -21,12 +21,6 @@ start c = c .before .before .before .before
 loop-holds : tie.Need-loop-holds Inv-loop μ-loop
 loop-holds c = (refl, signing-start)
 
-mul-end : tie.Need-mul-end Inv-loop μ-loop
-mul-end c = omega arith
-
-shared-slice-read-end : tie.Need-shared-slice-read-end Inv-loop μ-loop
-shared-slice-read-end c = omega arith
-
 cast-end : tie.Need-cast-end Inv-loop μ-loop
 cast-end c = omega (arith, c .shared-slice-known3 .given (c .before .before .loop .k))
 
@@ -35,23 +29,11 @@ sign-set-requires c κs =
     let at-loop = c .before .before in
     (start at-loop .pre .0 .within (at-loop .loop .k) (omega arith), start at-loop .pre .1)
 
-mul-store-double : tie.Need-mul-store-double Inv-loop μ-loop
-mul-store-double c = omega arith
-
-add-store-double : tie.Need-add-store-double Inv-loop μ-loop
-add-store-double c = omega arith
-
 store-double-requires : tie.Need-store-double-requires Inv-loop μ-loop
 store-double-requires c κs =
     let at-loop = c .before .before .before .before in
     let size = at-loop .loop .inv .1 .signed .size in
     omega arith
-
-add-k : tie.Need-add-k Inv-loop μ-loop
-add-k c = omega arith
-
-loop-less : tie.Need-loop-less Inv-loop μ-loop
-loop-less c = omega arith
 
 loop-again : tie.Need-loop-again Inv-loop μ-loop
 loop-again c =
@@ -70,19 +52,5 @@ returns c = signing-end (c .before .loop .inv .1) (omega arith)
 pub sign-sets-spec : {M : Type 1} → statement M
 sign-sets-spec =
     tie.close
-    (tie.spec
-    Inv-loop
-    μ-loop
-    loop-holds
-    mul-end
-    shared-slice-read-end
-    cast-end
-    sign-set-requires
-    mul-store-double
-    add-store-double
-    store-double-requires
-    add-k
-    loop-less
-    loop-again
-    same-length
-    returns)
+    (tie.spec Inv-loop μ-loop loop-holds (λ c. omega arith) (λ c. omega arith) cast-end sign-set-requires (λ c. omega arith)
+    (λ c. omega arith) store-double-requires (λ c. omega arith) (λ c. omega arith) loop-again same-length returns)

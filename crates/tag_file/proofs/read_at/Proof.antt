@@ -33,24 +33,6 @@ returns-3 c =
     let a = c .before .before .before .before .args in
     sym (read-short (a .file .now) (a .at) (λ e. omega arith) (omega arith))
 
-byte-at-requires : tie.Need-byte-at-requires
-byte-at-requires c κs = search needs
-
-add-byte-at : tie.Need-add-byte-at
-add-byte-at c = search needs
-
-byte-at-requires-2 : tie.Need-byte-at-requires-2
-byte-at-requires-2 c κs = search needs
-
-mul-mark : tie.Need-mul-mark
-mul-mark c = search needs
-
-add-mark : tie.Need-add-mark
-add-mark c = search needs
-
-record-at-requires : tie.Need-record-at-requires
-record-at-requires c κs = search needs
-
 returns-4 : tie.Need-returns-4
 returns-4 c =
     let q = c .before .before in
@@ -58,9 +40,6 @@ returns-4 c =
     c .record-at .ensures
     ∙ sym (read-left (a .file .now) (a .at) (omega arith) (first-low q) (second-low q)
     (omega (arith, q .before .byte-at .ensures .is, q .byte-at2 .ensures .is, c .before .if4 .taken)))
-
-record-at-requires-2 : tie.Need-record-at-requires-2
-record-at-requires-2 c κs = search needs
 
 returns-5 : tie.Need-returns-5
 returns-5 c =
@@ -83,17 +62,5 @@ returns-6 c =
 pub read-at-spec : {M : Type 1} → statement M
 read-at-spec =
     tie.close
-    (tie.spec
-    returns
-    returns-2
-    returns-3
-    byte-at-requires
-    add-byte-at
-    byte-at-requires-2
-    mul-mark
-    add-mark
-    record-at-requires
-    returns-4
-    record-at-requires-2
-    returns-5
-    returns-6)
+    (tie.spec returns returns-2 returns-3 (λ c κs. search needs) (λ c. search needs) (λ c κs. search needs)
+    (λ c. search needs) (λ c. search needs) (λ c κs. search needs) returns-4 (λ c κs. search needs) returns-5 returns-6)

@@ -83,16 +83,5 @@ returns c =
 pub fill-lists-spec : {M : Type 1} → statement M
 fill-lists-spec =
     tie.close
-    (tie.spec
-    rank-ids-requires
-    fill-tags-requires
-    fill-side-requires
-    fill-side-requires-2
-    same-length
-    same-length-2
-    same-length-3
-    same-length-4
-    same-length-5
-    same-length-6
-    same-length-7
-    returns)
+    (tie.spec rank-ids-requires fill-tags-requires fill-side-requires fill-side-requires-2 same-length same-length-2
+    same-length-3 same-length-4 same-length-5 same-length-6 same-length-7 returns)

@@ -12,18 +12,6 @@ lent at-scan =
     listsOf (a .tags .now) (a .left-numbers .now) (a .left-ends .now) (a .left-items .now)
     (a .right-numbers .now) (a .right-ends .now) (a .right-items .now)
 
-scan-requires : tie.Need-scan-requires
-scan-requires c κs = search needs
-
-enum-known-answer : tie.Need-enum-known-answer
-enum-known-answer c = search needs
-
-enum-told : tie.Need-enum-told
-enum-told c = search needs
-
-clear-lists-requires : tie.Need-clear-lists-requires
-clear-lists-requires c κs = search needs
-
 -- where `clear_lists` has come back, after a fault
 abbrev cleared : tie.After-slice-known14 → tie.After-clear-lists
 cleared c = c .before .before .before .before .before .before .before .before .before .before .before .before .before .before
@@ -62,9 +50,6 @@ has-room-requires : tie.Need-has-room-requires
 has-room-requires c κs =
     let at-scan = c .before .before .before in
     sound-limited (at-scan .scan .ensures) (c .before .answer .given .1)
-
-clear-lists-requires-2 : tie.Need-clear-lists-requires-2
-clear-lists-requires-2 c κs = search needs
 
 -- where `clear_lists` has come back, for want of room
 abbrev cleared-short : tie.After-slice-known21 → tie.After-clear-lists2
@@ -150,35 +135,8 @@ returns-3 c =
 pub load-spec : {M : Type 1} → statement M
 load-spec =
     tie.close
-    (tie.spec
-    scan-requires
-    enum-known-answer
-    enum-told
-    clear-lists-requires
-    same-length
-    same-length-2
-    same-length-3
-    same-length-4
-    same-length-5
-    same-length-6
-    same-length-7
-    returns
-    has-room-requires
-    clear-lists-requires-2
-    same-length-8
-    same-length-9
-    same-length-10
-    same-length-11
-    same-length-12
-    same-length-13
-    same-length-14
-    returns-2
-    fill-lists-requires
-    same-length-15
-    same-length-16
-    same-length-17
-    same-length-18
-    same-length-19
-    same-length-20
-    same-length-21
-    returns-3)
+    (tie.spec (λ c κs. search needs) (λ c. search needs) (λ c. search needs) (λ c κs. search needs) same-length same-length-2
+    same-length-3 same-length-4 same-length-5 same-length-6 same-length-7 returns has-room-requires (λ c κs. search needs)
+    same-length-8 same-length-9 same-length-10 same-length-11 same-length-12 same-length-13 same-length-14 returns-2
+    fill-lists-requires same-length-15 same-length-16 same-length-17 same-length-18 same-length-19 same-length-20
+    same-length-21 returns-3)

@@ -167,25 +167,6 @@ loop-again c =
 pub scan-records-spec : {M : Type 1} → statement M
 scan-records-spec =
     tie.close
-    (tie.spec
-    Inv-loop
-    μ-loop
-    loop-holds
-    read-record-requires
-    enum-known-answer
-    stopped-requires
-    same-length
-    returns
-    claim-requires
-    same-length-2
-    returns-2
-    slice-aggregate-add-tags
-    add-tags-requires
-    grown-requires
-    is-over-requires
-    same-length-3
-    returns-3
-    sub-repeated
-    repeated-requires
-    loop-less
-    loop-again)
+    (tie.spec Inv-loop μ-loop loop-holds read-record-requires enum-known-answer stopped-requires same-length returns
+    claim-requires same-length-2 returns-2 slice-aggregate-add-tags add-tags-requires grown-requires is-over-requires
+    same-length-3 returns-3 sub-repeated repeated-requires loop-less loop-again)

@@ -31,25 +31,10 @@ left : (p : tie.After-test-numbered)
     (lists (start (earlier p)) .leftEnds) (lists (start (earlier p)) .leftItems) ≡ p .test-numbered .result
 left p = sym (p .test-numbered .ensures)
 
-test-table-requires : tie.Need-test-table-requires
-test-table-requires c κs = search needs
-
-enum-known-table : tie.Need-enum-known-table
-enum-known-table c = search needs
-
 returns : tie.Need-returns
 returns c =
     let p = c .before .before .before in
     lists-table (start p .args .t) (lists (start p)) _ (table p ∙ c .before .table .given .1)
-
-enum-told : tie.Need-enum-told
-enum-told c = search needs
-
-test-numbered-requires : tie.Need-test-numbered-requires
-test-numbered-requires c κs = search needs
-
-enum-known-left : tie.Need-enum-known-left
-enum-known-left c = search needs
 
 returns-2 : tie.Need-returns-2
 returns-2 c =
@@ -57,12 +42,6 @@ returns-2 c =
     let s = start (earlier p) in
     lists-left (s .args .t) (lists s) (table (earlier p) ∙ p .before .enum-told .given .1) _
     (left p ∙ c .before .left .given .1)
-
-enum-told-2 : tie.Need-enum-told-2
-enum-told-2 c = search needs
-
-test-numbered-requires-2 : tie.Need-test-numbered-requires-2
-test-numbered-requires-2 c κs = search needs
 
 returns-3 : tie.Need-returns-3
 returns-3 c =
@@ -74,14 +53,5 @@ returns-3 c =
 pub test-lists-spec : {M : Type 1} → statement M
 test-lists-spec =
     tie.close
-    (tie.spec
-    test-table-requires
-    enum-known-table
-    returns
-    enum-told
-    test-numbered-requires
-    enum-known-left
-    returns-2
-    enum-told-2
-    test-numbered-requires-2
-    returns-3)
+    (tie.spec (λ c κs. search needs) (λ c. search needs) returns (λ c. search needs) (λ c κs. search needs)
+    (λ c. search needs) returns-2 (λ c. search needs) (λ c κs. search needs) returns-3)

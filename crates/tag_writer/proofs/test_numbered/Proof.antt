@@ -14,20 +14,11 @@ found : (p : tie.After-test-side)
     (start p .args .items .now) ≡ p .test-side .result
 found p = sym (p .test-side .ensures)
 
-test-side-requires : tie.Need-test-side-requires
-test-side-requires c κs = search needs
-
-enum-known-sets : tie.Need-enum-known-sets
-enum-known-sets c = search needs
-
 returns : tie.Need-returns
 returns c =
     let p = c .before .before .before in
     let a = start p .args in
     side-bad (a .t) (a .side) (a .numbers .now) (a .ends .now) (a .items .now) (found p ∙ c .before .sets .given .1)
-
-enum-told : tie.Need-enum-told
-enum-told c = search needs
 
 returns-2 : tie.Need-returns-2
 returns-2 c =
@@ -56,11 +47,4 @@ returns-4 c =
 pub test-numbered-spec : {M : Type 1} → statement M
 test-numbered-spec =
     tie.close
-    (tie.spec
-    test-side-requires
-    enum-known-sets
-    returns
-    enum-told
-    returns-2
-    returns-3
-    returns-4)
+    (tie.spec (λ c κs. search needs) (λ c. search needs) returns (λ c. search needs) returns-2 returns-3 returns-4)

@@ -13,22 +13,10 @@ start p = p .before .before
 found : (p : tie.After-test-items) → itemsTest (start p .args .t) ≡ p .test-items .result
 found p = sym (p .test-items .ensures)
 
-test-items-requires : tie.Need-test-items-requires
-test-items-requires c κs = search needs
-
-enum-known-items : tie.Need-enum-known-items
-enum-known-items c = search needs
-
 returns : tie.Need-returns
 returns c =
     let p = c .before .before .before in
     table-items (start p .args .t) (start p .args .tags .now) (found p ∙ c .before .items .given .1)
-
-enum-told : tie.Need-enum-told
-enum-told c = search needs
-
-mul-if1 : tie.Need-mul-if1
-mul-if1 c = search needs
 
 returns-2 : tie.Need-returns-2
 returns-2 c =
@@ -44,4 +32,5 @@ returns-3 c =
 
 pub test-table-spec : {M : Type 1} → statement M
 test-table-spec =
-    tie.close (tie.spec test-items-requires enum-known-items returns enum-told mul-if1 returns-2 returns-3)
+    tie.close
+    (tie.spec (λ c κs. search needs) (λ c. search needs) returns (λ c. search needs) (λ c. search needs) returns-2 returns-3)

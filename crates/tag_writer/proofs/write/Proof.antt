@@ -22,15 +22,6 @@ start p = p .before .before .before .before .before .before .before .before .bef
 tested : (p : tie.After-test-lists) → listsTest (start p .args .t) (lists (start p)) ≡ p .test-lists .result
 tested p = sym (p .test-lists .ensures)
 
-test-lists-requires : tie.Need-test-lists-requires
-test-lists-requires c κs = search needs
-
-enum-known-tested : tie.Need-enum-known-tested
-enum-known-tested c = search needs
-
-enum-told : tie.Need-enum-told
-enum-told c = search needs
-
 write-good-requires : tie.Need-write-good-requires
 write-good-requires c κs =
     let told = c .before in
@@ -42,9 +33,6 @@ returns c =
     let p = c .before .before .before in
     let s = start p in
     call-refused (s .args .t) (lists s) (s .args .file .now) _ (tested p ∙ c .before .tested .given .1)
-
-same-length : tie.Need-same-length
-same-length c = search needs
 
 returns-2 : tie.Need-returns-2
 returns-2 c =
@@ -58,11 +46,5 @@ returns-2 c =
 pub write-spec : {M : Type 1} → statement M
 write-spec =
     tie.close
-    (tie.spec
-    test-lists-requires
-    enum-known-tested
-    enum-told
-    write-good-requires
-    returns
-    same-length
+    (tie.spec (λ c κs. search needs) (λ c. search needs) (λ c. search needs) write-good-requires returns (λ c. search needs)
     returns-2)

@@ -45,12 +45,6 @@ add-if1 c =
     let more = side-limits _ _ _ _ (start c .pre .right) in
     omega (arith, c .before .side-length .ensures, c .side-length2 .ensures)
 
-zero-u8-requires : tie.Need-zero-u8-requires
-zero-u8-requires c κs = search needs
-
-same-length : tie.Need-same-length
-same-length c = search needs
-
 returns : tie.Need-returns
 returns c =
     let sizes = c .before .before .before .before .before in
@@ -71,12 +65,6 @@ put-side-requires-2 c κs =
     let sizes = first .before .before .before in
     (start sizes .pre .right, omega (arith, right-long sizes, first .put-side .kept, first .before .before .if1 .left))
 
-add-t11 : tie.Need-add-t11
-add-t11 c = search needs
-
-same-length-2 : tie.Need-same-length-2
-same-length-2 c = search needs
-
 returns-2 : tie.Need-returns-2
 returns-2 c =
     let first = c .before .before .before .before .before .before in
@@ -92,15 +80,5 @@ returns-2 c =
 pub write-good-spec : {M : Type 1} → statement M
 write-good-spec =
     tie.close
-    (tie.spec
-    side-length-requires
-    side-length-requires-2
-    add-if1
-    zero-u8-requires
-    same-length
-    returns
-    put-side-requires
-    put-side-requires-2
-    add-t11
-    same-length-2
-    returns-2)
+    (tie.spec side-length-requires side-length-requires-2 add-if1 (λ c κs. search needs) (λ c. search needs) returns
+    put-side-requires put-side-requires-2 (λ c. search needs) (λ c. search needs) returns-2)

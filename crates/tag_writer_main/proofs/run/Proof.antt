@@ -6,27 +6,10 @@ use borrow.Author.Needs.{needs}
 use Rattle.tag_writer_main.proofs.run.Statement.{statement}
 use Rattle.tag_writer_main.proofs.run.Tie as tie
 
-returns : tie.Need-returns
-returns c = search needs
-
-array-borrow-prefix-file : tie.Need-array-borrow-prefix-file
-array-borrow-prefix-file c = search needs
-
 slice-aggregate-run-into : tie.Need-slice-aggregate-run-into
 slice-aggregate-run-into c = sym (length-take-le _ _ (omega arith))
-
-run-into-requires : tie.Need-run-into-requires
-run-into-requires c κs = search needs
-
-returns-2 : tie.Need-returns-2
-returns-2 c = search needs
 
 pub run-spec : {M : Type 1} → statement M
 run-spec =
     tie.close
-    (tie.spec
-    returns
-    array-borrow-prefix-file
-    slice-aggregate-run-into
-    run-into-requires
-    returns-2)
+    (tie.spec (λ c. search needs) (λ c. search needs) slice-aggregate-run-into (λ c κs. search needs) (λ c. search needs))

@@ -6,15 +6,6 @@ use borrow.Author.Needs.{needs}
 use Rattle.tag_writer_spec.proofs.write_words.Statement.{statement}
 use Rattle.tag_writer_spec.proofs.write_words.Tie as tie
 
-enum-known-answer : tie.Need-enum-known-answer
-enum-known-answer c = search needs
-
-enum-known-answer-2 : tie.Need-enum-known-answer-2
-enum-known-answer-2 c = search needs
-
-head-of-requires : tie.Need-head-of-requires
-head-of-requires c κs = search needs
-
 returns : tie.Need-returns
 returns c = sym (ap writeWords (c .before .answer .given .1))
 
@@ -25,5 +16,4 @@ returns-2 c =
     refused-words (a .0 .0) 1 (e .0) (e .1) (e .2) ∙ sym (ap writeWords (a .1))
 
 pub write-words-spec : {M : Type 1} → statement M
-write-words-spec =
-    tie.close (tie.spec enum-known-answer enum-known-answer-2 head-of-requires returns returns-2)
+write-words-spec = tie.close (tie.spec (λ c. search needs) (λ c. search needs) (λ c κs. search needs) returns returns-2)

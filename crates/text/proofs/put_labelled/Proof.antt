@@ -1,4 +1,4 @@
--- `text_lines::put_labelled` meets its contract: the word, then the number.
+-- `text::put_labelled` meets its contract: the word, then the number.
 use native.Mathlib.Omega.{arith}
 use lib.ListN.{length-append}
 use borrow.Author.Needs.{needs}
@@ -18,12 +18,9 @@ put-number-requires c κs =
     let word = c .before .before .before .put-word in
     omega (arith, start .pre, word .ensures .past, word .kept .0, length-append (start .args .word .now) (decimal (start .args .number)))
 
-same-length : tie.Need-same-length
-same-length c = search needs
-
 returns : tie.Need-returns
 returns c =
     put-append (c .before .before .before .before .before .before .put-word .ensures) (c .before .before .put-number .ensures)
 
 pub put-labelled-spec : {M : Type 1} → statement M
-put-labelled-spec = tie.close (tie.spec put-word-requires put-number-requires same-length returns)
+put-labelled-spec = tie.close (tie.spec put-word-requires put-number-requires (λ c. search needs) returns)

@@ -1,10 +1,10 @@
--- `text_lines::put_number` meets its contract: the library's digits are the definition's.
+-- `text::put_number` meets its contract: the library's digits are the definition's.
 use mathlib.Core.Path.{_≡_, sym, subst, _∙_}
 use Prim.Native.Nat.{ℕ}
 use mathlib.Core.List.{List}
 use lib.ListN.{take}
 use borrow.Author.Needs.{needs}
-use Rattle.lists.specs.Writing.{Room, Put}
+use Rattle.lists.specs.Writing.{RoomFor, Put}
 use Rattle.text.specs.Lines.{decimal}
 use Rattle.text.proofs.Decimals.{digits-decimal}
 use Rattle.text.proofs.put_number.Statement.{statement}
@@ -14,22 +14,10 @@ use Rattle.text.proofs.put_number.Tie as tie
 spelled : (c : tie.After-decimal) → take (c .decimal .result) (c .decimal .last .1 .0) ≡ decimal (c .before .before .before .args .number)
 spelled c = c .decimal .ensures .1 .1 ∙ digits-decimal _ _ (c .decimal .ensures .1 .0)
 
-decimal-requires : tie.Need-decimal-requires
-decimal-requires c κs = search needs
-
-array-share-prefix-digits : tie.Need-array-share-prefix-digits
-array-share-prefix-digits c = search needs
-
-slice-aggregate-put-word : tie.Need-slice-aggregate-put-word
-slice-aggregate-put-word c = search needs
-
 put-word-requires : tie.Need-put-word-requires
 put-word-requires c κs =
     let start = c .before .before .before .before .before in
-    subst (λ (l : List ℕ). Room (start .args .text .now) (start .args .at) l) (sym (spelled (c .before .before))) (start .pre)
-
-same-length : tie.Need-same-length
-same-length c = search needs
+    subst (λ (l : List ℕ). RoomFor (start .args .text .now) (start .args .at) l) (sym (spelled (c .before .before))) (start .pre)
 
 returns : tie.Need-returns
 returns c =
@@ -41,10 +29,4 @@ returns c =
 pub put-number-spec : {M : Type 1} → statement M
 put-number-spec =
     tie.close
-    (tie.spec
-    decimal-requires
-    array-share-prefix-digits
-    slice-aggregate-put-word
-    put-word-requires
-    same-length
-    returns)
+    (tie.spec (λ c κs. search needs) (λ c. search needs) (λ c. search needs) put-word-requires (λ c. search needs) returns)

@@ -1,4 +1,4 @@
--- `text_lines::put_numbers` meets its contract: two numbers of at most twenty digits.
+-- `text::put_numbers` meets its contract: two numbers of at most twenty digits.
 use native.Mathlib.Omega.{arith}
 use borrow.Author.Needs.{needs}
 use Rattle.lists.proofs.Writing.{put-append}
@@ -12,9 +12,6 @@ put-labelled-requires c κs =
     let start = c .before .before .before in
     omega (arith, start .pre, long-labelled (start .args .word .now) (start .args .first) (start .fits .first .fits))
 
-slice-aggregate-put-labelled : tie.Need-slice-aggregate-put-labelled
-slice-aggregate-put-labelled c = search needs
-
 put-labelled-requires-2 : tie.Need-put-labelled-requires-2
 put-labelled-requires-2 c κs =
     let start = c .before .before .before .before .before .before .before .before in
@@ -27,9 +24,6 @@ put-labelled-requires-2 c κs =
       long-labelled (start .args .word .now) (start .args .first) (start .fits .first .fits),
       long-labelled (ascii " ") (start .args .second) (start .fits .second .fits),
     )
-
-slice-aggregate-put-word : tie.Need-slice-aggregate-put-word
-slice-aggregate-put-word c = search needs
 
 put-word-requires : tie.Need-put-word-requires
 put-word-requires c κs =
@@ -47,9 +41,6 @@ put-word-requires c κs =
       long-labelled (start .args .word .now) (start .args .first) (start .fits .first .fits),
       long-labelled (ascii " ") (start .args .second) (start .fits .second .fits),
     )
-
-same-length : tie.Need-same-length
-same-length c = search needs
 
 returns : tie.Need-returns
 returns c =
@@ -72,11 +63,5 @@ returns c =
 pub put-numbers-spec : {M : Type 1} → statement M
 put-numbers-spec =
     tie.close
-    (tie.spec
-    put-labelled-requires
-    slice-aggregate-put-labelled
-    put-labelled-requires-2
-    slice-aggregate-put-word
-    put-word-requires
-    same-length
-    returns)
+    (tie.spec put-labelled-requires (λ c. search needs) put-labelled-requires-2 (λ c. search needs) put-word-requires
+    (λ c. search needs) returns)

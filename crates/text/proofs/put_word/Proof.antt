@@ -1,4 +1,4 @@
--- `text_lines::put_word` meets its contract. The invariant: the bytes of the word from i on remain to be written, from place n
+-- `text::put_word` meets its contract. The invariant: the bytes of the word from i on remain to be written, from place n
 -- on. The measure is how many remain.
 use Prim.Native.Nat.{ℕ, _+_, _-_, _≤_, _<_}
 use mathlib.Core.Path.{_≡_, refl}
@@ -43,14 +43,6 @@ add-n : tie.Need-add-n Inv-loop μ-loop
 add-n c =
     omega (arith, byte-room c)
 
-add-i : tie.Need-add-i Inv-loop μ-loop
-add-i c =
-    omega arith
-
-loop-less : tie.Need-loop-less Inv-loop μ-loop
-loop-less c =
-    omega arith
-
 loop-again : tie.Need-loop-again Inv-loop μ-loop
 loop-again c =
     writing-step (c .before .before .loop .inv) (byte-next _ _ (c .before .loop-test .taken)) (put-byte _ _ _)
@@ -66,15 +58,5 @@ returns c =
 pub put-word-spec : {M : Type 1} → statement M
 put-word-spec =
     tie.close
-    (tie.spec
-    Inv-loop
-    μ-loop
-    loop-holds
-    shared-slice-read-text
-    slice-write-text
-    add-n
-    add-i
-    loop-less
-    loop-again
-    same-length
-    returns)
+    (tie.spec Inv-loop μ-loop loop-holds shared-slice-read-text slice-write-text add-n (λ c. omega arith) (λ c. omega arith)
+    loop-again same-length returns)

@@ -1,15 +1,9 @@
--- `word_lists::words::word_at` meets its contract: a word fits 32 bits.
+-- `words::word_at` meets its contract: a word fits 32 bits.
 use mathlib.Core.Path.{refl}
 use native.Mathlib.Omega.{arith}
 use borrow.Author.Needs.{needs}
 use Rattle.words.proofs.word_at.Statement.{statement}
 use Rattle.words.proofs.word_at.Tie as tie
-
-mul-result : tie.Need-mul-result
-mul-result c = search needs
-
-shared-slice-read-result : tie.Need-shared-slice-read-result
-shared-slice-read-result c = search needs
 
 cast-result : tie.Need-cast-result
 cast-result c = omega (arith, c .shared-slice-known .given (c .before .args .i))
@@ -18,4 +12,4 @@ returns : tie.Need-returns
 returns c = record { is = refl; small = omega (arith, c .shared-slice-known .given (c .before .args .i)) }
 
 pub word-at-spec : {M : Type 1} → statement M
-word-at-spec = tie.close (tie.spec mul-result shared-slice-read-result cast-result returns)
+word-at-spec = tie.close (tie.spec (λ c. search needs) (λ c. search needs) cast-result returns)

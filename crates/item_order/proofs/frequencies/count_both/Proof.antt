@@ -1,4 +1,4 @@
--- `item_frequencies::count_both` meets its contract: the left side from zeros, then the right side, by the laws of
+-- `item_order::frequencies::count_both` meets its contract: the left side from zeros, then the right side, by the laws of
 -- proofs/Frequencies.antt.
 use borrow.Author.Needs.{needs}
 use Rattle.item_order.proofs.frequencies.Frequencies.{can-count-left, can-count-right, both-counted}
@@ -15,9 +15,6 @@ count-side-requires-2 c κs =
     let left = after-left .count-side in
     can-count-right (start .pre) (left .last .1 .1 .0) (left .kept .1 .1 .0) (left .ensures)
 
-same-length : tie.Need-same-length
-same-length c = search needs
-
 returns : tie.Need-returns
 returns c =
     let after-right = c .before .before in
@@ -29,5 +26,4 @@ returns c =
     (right .kept .1 .1 .0) (right .ensures)
 
 pub count-both-spec : {M : Type 1} → statement M
-count-both-spec =
-    tie.close (tie.spec count-side-requires count-side-requires-2 same-length returns)
+count-both-spec = tie.close (tie.spec count-side-requires count-side-requires-2 (λ c. search needs) returns)

@@ -1,11 +1,8 @@
--- `item_frequencies::count_side` meets its contract: a tally of the side's entries, by the laws of proofs/Frequencies.antt.
+-- `item_order::frequencies::count_side` meets its contract: a tally of the side's entries, by the laws of proofs/Frequencies.antt.
 use borrow.Author.Needs.{needs}
 use Rattle.item_order.proofs.frequencies.Frequencies.{entries-long, can-tally-side, side-counted}
 use Rattle.item_order.proofs.frequencies.count_side.Statement.{statement}
 use Rattle.item_order.proofs.frequencies.count_side.Tie as tie
-
-count-entries-requires : tie.Need-count-entries-requires
-count-entries-requires c κs = search needs
 
 slice-aggregate-tally : tie.Need-slice-aggregate-tally
 slice-aggregate-tally c = entries-long (c .before .before .before .before .before .pre) (c .before .count-entries .ensures)
@@ -15,9 +12,6 @@ tally-requires c κs =
     let counted = c .before .before in
     can-tally-side (counted .before .before .before .before .pre) (counted .count-entries .ensures)
 
-same-length : tie.Need-same-length
-same-length c = search needs
-
 returns : tie.Need-returns
 returns c =
     let tallied = c .before .before in
@@ -26,6 +20,4 @@ returns c =
     (tallied .tally .ensures)
 
 pub count-side-spec : {M : Type 1} → statement M
-count-side-spec =
-    tie.close
-    (tie.spec count-entries-requires slice-aggregate-tally tally-requires same-length returns)
+count-side-spec = tie.close (tie.spec (λ c κs. search needs) slice-aggregate-tally tally-requires (λ c. search needs) returns)

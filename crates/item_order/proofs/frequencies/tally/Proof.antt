@@ -1,4 +1,4 @@
--- `item_frequencies::tally` meets its contract, by the laws of proofs/Tallying.antt. The measure is how many numbers are left.
+-- `item_order::frequencies::tally` meets its contract, by the laws of proofs/Tallying.antt. The measure is how many numbers are left.
 use Prim.Native.Nat.{_-_}
 use native.Mathlib.Omega.{arith}
 use Rattle.item_order.proofs.frequencies.Tallying.{CountingOccurrences, tally-start, tally-index, tally-room, tally-step, tally-end}
@@ -13,12 +13,6 @@ abbrev μ-loop : tie.MeasureT-loop
 
 loop-holds : tie.Need-loop-holds Inv-loop μ-loop
 loop-holds c = tally-start (c .args .xs .now) (c .args .counts .now)
-
-mul-x : tie.Need-mul-x Inv-loop μ-loop
-mul-x c = omega arith
-
-shared-slice-read-x : tie.Need-shared-slice-read-x Inv-loop μ-loop
-shared-slice-read-x c = omega arith
 
 cast-x : tie.Need-cast-x Inv-loop μ-loop
 cast-x c = omega (arith, c .shared-slice-known .given (c .before .before .loop .i))
@@ -48,12 +42,6 @@ slice-write-counts c =
     let at-loop = c .before .before .before in
     tally-index (at-loop .before .pre) (at-loop .loop .inv) (omega arith)
 
-add-i : tie.Need-add-i Inv-loop μ-loop
-add-i c = omega arith
-
-loop-less : tie.Need-loop-less Inv-loop μ-loop
-loop-less c = omega arith
-
 loop-again : tie.Need-loop-again Inv-loop μ-loop
 loop-again c =
     let at-loop = c .before .before .before in
@@ -68,20 +56,5 @@ returns c = tally-end (c .before .loop .inv) (c .loop-test .left)
 pub tally-spec : {M : Type 1} → statement M
 tally-spec =
     tie.close
-    (tie.spec
-    Inv-loop
-    μ-loop
-    loop-holds
-    mul-x
-    shared-slice-read-x
-    cast-x
-    mul-c
-    slice-read-c
-    add-counts
-    mul-counts
-    slice-write-counts
-    add-i
-    loop-less
-    loop-again
-    same-length
-    returns)
+    (tie.spec Inv-loop μ-loop loop-holds (λ c. omega arith) (λ c. omega arith) cast-x mul-c slice-read-c add-counts mul-counts
+    slice-write-counts (λ c. omega arith) (λ c. omega arith) loop-again same-length returns)

@@ -4,9 +4,6 @@ use Rattle.join.proofs.output.OutputLaws.{after-joined, after-refused}
 use Rattle.join.proofs.output.write_answer.Statement.{statement}
 use Rattle.join.proofs.output.write_answer.Tie as tie
 
-enum-told : tie.Need-enum-told
-enum-told c = search needs
-
 write-pairs-requires : tie.Need-write-pairs-requires
 write-pairs-requires c κs =
     let told = c .before .before .before in
@@ -14,29 +11,11 @@ write-pairs-requires c κs =
     let asked = start .pre .0 in
     (record { query = asked .query; holds = asked .holds .joined _ (told .enum-told .given .1) }, start .pre .1)
 
-enum-told-2 : tie.Need-enum-told-2
-enum-told-2 c = search needs
-
-zero-u16-requires : tie.Need-zero-u16-requires
-zero-u16-requires c κs = search needs
-
-same-length : tie.Need-same-length
-same-length c = search needs
-
-same-length-2 : tie.Need-same-length-2
-same-length-2 c = search needs
-
-same-length-3 : tie.Need-same-length-3
-same-length-3 c = search needs
-
 returns : tie.Need-returns
 returns c = λ q room.
     let written = c .before .before .before .before .before .before in
     let told = written .before .before .before .before in
     after-joined _ _ (told .enum-told .given .1) (written .write-pairs .ensures q (room .joined _ (told .enum-told .given .1)))
-
-same-length-4 : tie.Need-same-length-4
-same-length-4 c = search needs
 
 returns-2 : tie.Need-returns-2
 returns-2 c = λ q room.
@@ -48,14 +27,5 @@ returns-2 c = λ q room.
 pub write-answer-spec : {M : Type 1} → statement M
 write-answer-spec =
     tie.close
-    (tie.spec
-    enum-told
-    write-pairs-requires
-    enum-told-2
-    zero-u16-requires
-    same-length
-    same-length-2
-    same-length-3
-    returns
-    same-length-4
-    returns-2)
+    (tie.spec (λ c. search needs) write-pairs-requires (λ c. search needs) (λ c κs. search needs) (λ c. search needs)
+    (λ c. search needs) (λ c. search needs) returns (λ c. search needs) returns-2)

@@ -11,12 +11,6 @@ returns c = tally-spent _ _ _ (c .if1 .taken)
 add-count : tie.Need-add-count
 add-count c = record { fits = c .before .before .pre .pairs (c .before .if1 .left) }
 
-cast-if2 : tie.Need-cast-if2
-cast-if2 c = search needs
-
-mul-if2 : tie.Need-mul-if2
-mul-if2 c = search needs
-
 returns-2 : tie.Need-returns-2
 returns-2 c = tally-short _ _ _ (c .before .before .if1 .left) (c .if2 .taken)
 
@@ -37,4 +31,5 @@ returns-3 c =
 
 pub answer-tally-spec : {M : Type 1} → statement M
 answer-tally-spec =
-    tie.close (tie.spec returns add-count cast-if2 mul-if2 returns-2 add-t10 add-t11 returns-3)
+    tie.close
+    (tie.spec returns add-count (λ c. search needs) (λ c. search needs) returns-2 add-t10 add-t11 returns-3)

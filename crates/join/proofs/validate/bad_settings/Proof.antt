@@ -24,9 +24,6 @@ returns-3 c =
     let a = few .before .before .args in
     high-limit (a .t) (a .limit) (a .ranks .now) (few .if1 .left) (some .if2 .left) (c .if3 .taken)
 
-is-permutation-requires : tie.Need-is-permutation-requires
-is-permutation-requires c κs = search needs
-
 returns-4 : tie.Need-returns-4
 returns-4 c =
     let low = c .before in
@@ -37,4 +34,4 @@ returns-4 c =
     ∙ rank-test (a .t) (a .limit) (a .ranks .now) (few .if1 .left) (some .if2 .left) (low .if3 .left)
 
 pub bad-settings-spec : {M : Type 1} → statement M
-bad-settings-spec = tie.close (tie.spec returns returns-2 returns-3 is-permutation-requires returns-4)
+bad-settings-spec = tie.close (tie.spec returns returns-2 returns-3 (λ c κs. search needs) returns-4)

@@ -5,20 +5,8 @@ use borrow.Author.Needs.{needs}
 use Rattle.join.proofs.validate.test_join.Statement.{statement}
 use Rattle.join.proofs.validate.test_join.Tie as tie
 
-bad-settings-requires : tie.Need-bad-settings-requires
-bad-settings-requires c κs = search needs
-
 returns : tie.Need-returns
 returns c = settings-failed _ _ _ _ (sym (c .before .bad-settings .ensures) ∙ c .if1 .taken)
-
-test-sets-requires : tie.Need-test-sets-requires
-test-sets-requires c κs = search needs
-
-enum-known-sets : tie.Need-enum-known-sets
-enum-known-sets c = search needs
-
-enum-told : tie.Need-enum-told
-enum-told c = search needs
 
 test-work-requires : tie.Need-test-work-requires
 test-work-requires c κs =
@@ -48,12 +36,5 @@ returns-3 c =
 pub test-join-spec : {M : Type 1} → statement M
 test-join-spec =
     tie.close
-    (tie.spec
-    bad-settings-requires
-    returns
-    test-sets-requires
-    enum-known-sets
-    enum-told
-    test-work-requires
-    returns-2
-    returns-3)
+    (tie.spec (λ c κs. search needs) returns (λ c κs. search needs) (λ c. search needs) (λ c. search needs) test-work-requires
+    returns-2 returns-3)

@@ -1,10 +1,10 @@
--- `join_gather::gather`, which calls itself on each child, meets its contract. The loop's invariant is `RunsChecking`:
+-- `join_check::gather::gather`, which calls itself on each child, meets its contract. The loop's invariant is `RangesChecking`:
 -- the counters, with the checks of the left sets still to come, are what they were with all. The measures: the limit less the
 -- depth, and how many left sets are still to come.
 use native.Mathlib.Omega.{arith}
-use Rattle.join_index.proofs.Orders.{run-left}
-use Rattle.join_check.proofs.gather.Gathering.{runs-within, runs-run, RunsChecking}
-use Rattle.join_check.proofs.gather.Gathering.{runs-start, runs-next, runs-step, runs-end}
+use Rattle.join_index.proofs.Orders.{range-left}
+use Rattle.join_check.proofs.gather.Gathering.{ranges-within, ranges-range, RangesChecking}
+use Rattle.join_check.proofs.gather.Gathering.{ranges-start, ranges-next, ranges-step, ranges-end}
 use Prim.Native.Nat.{ℕ, _-_, _<_}
 use borrow.Fn.Kinds.{In}
 use borrow.Fn.PlainCycle.{Measures, is, falls, and}
@@ -12,8 +12,8 @@ use Rattle.join_check.proofs.gather.gather.Reads as gather
 use Rattle.join_check.proofs.gather.gather.Kinds as gather-kinds
 use Rattle.join_check.proofs.gather.+gather.Lts-gather as gather-lts
 use Rattle.join_check.proofs.keys.key_at.Reads as key-at-reads
-use Rattle.join_check.proofs.keys.run_end.Reads as run-end-reads
-use Rattle.join_check.proofs.gather.check_run.Reads as check-run-reads
+use Rattle.join_check.proofs.keys.range_end.Reads as range-end-reads
+use Rattle.join_check.proofs.gather.check_range.Reads as check-range-reads
 use Rattle.words.proofs.word_at.Reads as word-at-reads
 use Rattle.join_check.proofs.gather.+gather.{statement}
 use Rattle.join_check.proofs.gather.+gather.Tie.{close}
@@ -29,41 +29,41 @@ gather-below t = and 1 gather-kinds.ps (falls 1 gather-kinds.ps _<_ μ-gather t)
 
 abbrev callees : ℕ → gather-lts.Claims
 callees t = (
-  check-run-reads.Asked,
-  check-run-reads.Learnt,
+  check-range-reads.Asked,
+  check-range-reads.Learnt,
   word-at-reads.Asked,
   word-at-reads.Learnt,
   key-at-reads.Asked,
   key-at-reads.Learnt,
-  run-end-reads.Asked,
-  run-end-reads.Learnt,
+  range-end-reads.Asked,
+  range-end-reads.Learnt,
   gather-below t,
   gather.Post,
 )
 
 abbrev Inv-loop : gather-lts.InvT-loop
 Inv-loop work lay limit d e lo hi from to order r₀ i₀ r i =
-    RunsChecking lay work e lo hi from to r₀ r i
+    RangesChecking lay work e lo hi from to r₀ r i
 
 abbrev μ-loop : gather-lts.MeasureT-loop
 μ-loop work lay limit d e lo hi from to order r₀ i₀ r i =
     hi - i
 
 module _ (t : ℕ) where
-  gather-check-run-requires : gather-lts.Need-check-run-requires (callees t) (gather-at t) gather.Post Inv-loop μ-loop
-  gather-check-run-requires c κs = c .before .before .pre .1
+  gather-check-range-requires : gather-lts.Need-check-range-requires (callees t) (gather-at t) gather.Post Inv-loop μ-loop
+  gather-check-range-requires c κs = c .before .before .pre .1
 
   gather-returns : gather-lts.Need-returns (callees t) (gather-at t) gather.Post Inv-loop μ-loop
-  gather-returns c = c .check-run .ensures
+  gather-returns c = c .check-range .ensures
 
   gather-loop-holds : gather-lts.Need-loop-holds (callees t) (gather-at t) gather.Post Inv-loop μ-loop
-  gather-loop-holds c = runs-start
+  gather-loop-holds c = ranges-start
 
   gather-add-word-at : gather-lts.Need-add-word-at (callees t) (gather-at t) gather.Post Inv-loop μ-loop
-  gather-add-word-at c = omega (arith, runs-within (c .before .before .before .before .pre .1 .0 .holds))
+  gather-add-word-at c = omega (arith, ranges-within (c .before .before .before .before .pre .1 .0 .holds))
 
   gather-word-at-requires : gather-lts.Need-word-at-requires (callees t) (gather-at t) gather.Post Inv-loop μ-loop
-  gather-word-at-requires c κs = omega (arith, runs-within (c .before .before .before .before .pre .1 .0 .holds))
+  gather-word-at-requires c κs = omega (arith, ranges-within (c .before .before .before .before .pre .1 .0 .holds))
 
   gather-key-at-requires : gather-lts.Need-key-at-requires (callees t) (gather-at t) gather.Post Inv-loop μ-loop
   gather-key-at-requires c κs =
@@ -71,20 +71,20 @@ module _ (t : ℕ) where
       let some = at-loop .before .before .before .pre .1 .0 in
       let i = at-loop .loop .i in
       let more = c .before .loop-test .taken in
-      record { query = some .query; holds = run-left (runs-run (some .holds) i more) i more (c .word-at .ensures) }
+      record { query = some .query; holds = range-left (ranges-range (some .holds) i more) i more (c .word-at .ensures) }
 
-  gather-run-end-requires : gather-lts.Need-run-end-requires (callees t) (gather-at t) gather.Post Inv-loop μ-loop
-  gather-run-end-requires c κs =
+  gather-range-end-requires : gather-lts.Need-range-end-requires (callees t) (gather-at t) gather.Post Inv-loop μ-loop
+  gather-range-end-requires c κs =
       let test = c .before .before in
       let some = test .before .before .before .before .pre .1 .0 in
-      record { query = some .query; holds = runs-run (some .holds) (test .before .loop .i) (test .loop-test .taken) }
+      record { query = some .query; holds = ranges-range (some .holds) (test .before .loop .i) (test .loop-test .taken) }
 
-  -- the next run, checked as a whole or gathered by its tree
-  gather-check-run-requires-2 : gather-lts.Need-check-run-requires-2 (callees t) (gather-at t) gather.Post Inv-loop μ-loop
-  gather-check-run-requires-2 c κs =
+  -- the next range, checked as a whole or gathered by its tree
+  gather-check-range-requires-2 : gather-lts.Need-check-range-requires-2 (callees t) (gather-at t) gather.Post Inv-loop μ-loop
+  gather-check-range-requires-2 c κs =
       let at-loop = c .before .before .before .before .before in
       let start = at-loop .before .before .before in
-      runs-next (at-loop .loop .inv) (start .pre .1 .0) (c .before .run-end .ensures) (start .pre .1 .1)
+      ranges-next (at-loop .loop .inv) (start .pre .1 .0) (c .before .range-end .ensures) (start .pre .1 .1)
 
   gather-add-gather : gather-lts.Need-add-gather (callees t) (gather-at t) gather.Post Inv-loop μ-loop
   gather-add-gather c = omega (arith, c .before .before .before .before .before .before .if1 .left)
@@ -94,47 +94,47 @@ module _ (t : ℕ) where
       let at-loop = c .before .before .before .before .before in
       let start = at-loop .before .before .before in (
         omega (arith, at-loop .before .if1 .left, start .pre .0),
-        runs-next (at-loop .loop .inv) (start .pre .1 .0) (c .before .run-end .ensures) (start .pre .1 .1),
+        ranges-next (at-loop .loop .inv) (start .pre .1 .0) (c .before .range-end .ensures) (start .pre .1 .1),
       )
 
   gather-loop-less : gather-lts.Need-loop-less (callees t) (gather-at t) gather.Post Inv-loop μ-loop
   gather-loop-less c =
       let end = c .before .before in
-      omega (arith, end .run-end .ensures .more, end .before .before .before .loop-test .taken)
+      omega (arith, end .range-end .ensures .more, end .before .before .before .loop-test .taken)
 
   gather-loop-again : gather-lts.Need-loop-again (callees t) (gather-at t) gather.Post Inv-loop μ-loop
   gather-loop-again c =
       let end = c .before .before in
-      let run = end .run-end .ensures in
-      runs-step (end .before .before .before .before .loop .inv) (omega (arith, run .more)) (run .within) (c .check-run2 .ensures)
+      let range = end .range-end .ensures in
+      ranges-step (end .before .before .before .before .loop .inv) (omega (arith, range .more)) (range .within) (c .check-range2 .ensures)
 
   gather-loop-less-2 : gather-lts.Need-loop-less-2 (callees t) (gather-at t) gather.Post Inv-loop μ-loop
   gather-loop-less-2 c =
       let end = c .before .before in
-      omega (arith, end .run-end .ensures .more, end .before .before .before .loop-test .taken)
+      omega (arith, end .range-end .ensures .more, end .before .before .before .loop-test .taken)
 
   gather-loop-again-2 : gather-lts.Need-loop-again-2 (callees t) (gather-at t) gather.Post Inv-loop μ-loop
   gather-loop-again-2 c =
       let end = c .before .before in
-      let run = end .run-end .ensures in
-      runs-step (end .before .before .before .before .loop .inv) (omega (arith, run .more)) (run .within) (c .gather .ensures)
+      let range = end .range-end .ensures in
+      ranges-step (end .before .before .before .before .loop .inv) (omega (arith, range .more)) (range .within) (c .gather .ensures)
 
   gather-returns-2 : gather-lts.Need-returns-2 (callees t) (gather-at t) gather.Post Inv-loop μ-loop
-  gather-returns-2 c = runs-end (c .before .loop .inv) (c .loop-test .left)
+  gather-returns-2 c = ranges-end (c .before .loop .inv) (c .loop-test .left)
 
 pub +gather-spec : {M : Type 1} → statement M
 +gather-spec = close μ-gather λ t. gather-lts.spec (callees t) (gather-at t)
     gather.Post
     Inv-loop
     μ-loop
-    (gather-check-run-requires t)
+    (gather-check-range-requires t)
     (gather-returns t)
     (gather-loop-holds t)
     (gather-add-word-at t)
     (gather-word-at-requires t)
     (gather-key-at-requires t)
-    (gather-run-end-requires t)
-    (gather-check-run-requires-2 t)
+    (gather-range-end-requires t)
+    (gather-check-range-requires-2 t)
     (gather-add-gather t)
     (gather-gather-requires t)
     (gather-loop-less t)

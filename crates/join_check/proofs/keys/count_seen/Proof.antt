@@ -1,4 +1,4 @@
--- `join_keys::seen::count_seen` meets its contract. The invariant: the count so far and that of the places still to come are the
+-- `join_check::keys::count_seen` meets its contract. The invariant: the count so far and that of the places still to come are the
 -- count of all. The measure is how many places are to come.
 use mathlib.Core.Path.{_≡_, ap, _∙_}
 use mathlib.Core.List.{List}
@@ -53,21 +53,9 @@ is-seen-requires c κs =
           (c .before .loop-test .taken) (c .word-at .ensures);
     }
 
-number-requires : tie.Need-number-requires Inv-loop μ-loop
-number-requires c κs =
-    search needs
-
 add-n : tie.Need-add-n Inv-loop μ-loop
 add-n c =
     omega (arith, c .number .ensures .small)
-
-add-i : tie.Need-add-i Inv-loop μ-loop
-add-i c =
-    omega arith
-
-loop-less : tie.Need-loop-less Inv-loop μ-loop
-loop-less c =
-    omega arith
 
 loop-again : tie.Need-loop-again Inv-loop μ-loop
 loop-again c =
@@ -106,15 +94,5 @@ returns c =
 pub count-seen-spec : {M : Type 1} → statement M
 count-seen-spec =
     tie.close
-    (tie.spec
-    Inv-loop
-    μ-loop
-    loop-holds
-    word-at-requires
-    is-seen-requires
-    number-requires
-    add-n
-    add-i
-    loop-less
-    loop-again
-    returns)
+    (tie.spec Inv-loop μ-loop loop-holds word-at-requires is-seen-requires (λ c κs. search needs) add-n (λ c. omega arith)
+    (λ c. omega arith) loop-again returns)

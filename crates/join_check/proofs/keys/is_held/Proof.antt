@@ -1,4 +1,4 @@
--- `join_keys::held::is_held` meets its contract: the list of a rank is empty where it ends at its beginning.
+-- `join_check::keys::is_held` meets its contract: the list of a rank is empty where it ends at its beginning.
 use Prim.Native.Nat.{ℕ, suc, _+_, _≤_}
 use mathlib.Core.Path.{_≡_, sym, ap, _∙_}
 use native.Mathlib.Omega.{arith}
@@ -9,21 +9,6 @@ use Rattle.lists.proofs.Slices.{slice-past}
 use Rattle.join_index.specs.Ground.{offsetOf}
 use Rattle.join_check.proofs.keys.is_held.Statement.{statement}
 use Rattle.join_check.proofs.keys.is_held.Tie as tie
-
-add-word-at : tie.Need-add-word-at
-add-word-at c = search needs
-
-word-at-requires : tie.Need-word-at-requires
-word-at-requires c κs = search needs
-
-add-word-at-2 : tie.Need-add-word-at-2
-add-word-at-2 c = search needs
-
-add-word-at-3 : tie.Need-add-word-at-3
-add-word-at-3 c = search needs
-
-word-at-requires-2 : tie.Need-word-at-requires-2
-word-at-requires-2 c κs = search needs
 
 returns : tie.Need-returns
 returns c =
@@ -44,10 +29,5 @@ returns c =
 pub is-held-spec : {M : Type 1} → statement M
 is-held-spec =
     tie.close
-    (tie.spec
-    add-word-at
-    word-at-requires
-    add-word-at-2
-    add-word-at-3
-    word-at-requires-2
+    (tie.spec (λ c. search needs) (λ c κs. search needs) (λ c. search needs) (λ c. search needs) (λ c κs. search needs)
     returns)

@@ -1,4 +1,4 @@
--- `join_keys::seen::is_seen` meets its contract: the ranks of a right set lie between two starts, the least one first.
+-- `join_check::keys::is_seen` meets its contract: the ranks of a right set lie between two starts, the least one first.
 use mathlib.Core.Path.{ap, _∙_}
 use Prim.Native.Nat.{ℕ, _+_}
 use native.Mathlib.Omega.{arith}
@@ -9,21 +9,6 @@ use Rattle.join_index.proofs.Places.{right-none, right-first}
 use borrow.Author.Needs.{needs}
 use Rattle.join_check.proofs.keys.is_seen.Statement.{statement}
 use Rattle.join_check.proofs.keys.is_seen.Tie as tie
-
-add-word-at : tie.Need-add-word-at
-add-word-at c = search needs
-
-word-at-requires : tie.Need-word-at-requires
-word-at-requires c κs = search needs
-
-add-word-at-2 : tie.Need-add-word-at-2
-add-word-at-2 c = search needs
-
-add-word-at-3 : tie.Need-add-word-at-3
-add-word-at-3 c = search needs
-
-word-at-requires-2 : tie.Need-word-at-requires-2
-word-at-requires-2 c κs = search needs
 
 returns : tie.Need-returns
 returns c =
@@ -53,13 +38,5 @@ returns-2 c =
 pub is-seen-spec : {M : Type 1} → statement M
 is-seen-spec =
     tie.close
-    (tie.spec
-    add-word-at
-    word-at-requires
-    add-word-at-2
-    add-word-at-3
-    word-at-requires-2
-    returns
-    add-word-at-4
-    word-at-requires-3
-    returns-2)
+    (tie.spec (λ c. search needs) (λ c κs. search needs) (λ c. search needs) (λ c. search needs) (λ c κs. search needs)
+    returns add-word-at-4 word-at-requires-3 returns-2)

@@ -1,4 +1,4 @@
--- `join_keys::keys::key_at` meets its contract: the ranks of a left set lie between two starts.
+-- `join_check::keys::key_at` meets its contract: the ranks of a left set lie between two starts.
 use mathlib.Core.Path.{ap, _∙_}
 use Prim.Native.Nat.{ℕ, _+_}
 use native.Mathlib.Omega.{arith}
@@ -7,21 +7,6 @@ use Rattle.join_index.proofs.Reading.{left-stored, key-none, key-rank}
 use borrow.Author.Needs.{needs}
 use Rattle.join_check.proofs.keys.key_at.Statement.{statement}
 use Rattle.join_check.proofs.keys.key_at.Tie as tie
-
-add-word-at : tie.Need-add-word-at
-add-word-at c = search needs
-
-word-at-requires : tie.Need-word-at-requires
-word-at-requires c κs = search needs
-
-add-word-at-2 : tie.Need-add-word-at-2
-add-word-at-2 c = search needs
-
-add-word-at-3 : tie.Need-add-word-at-3
-add-word-at-3 c = search needs
-
-word-at-requires-2 : tie.Need-word-at-requires-2
-word-at-requires-2 c κs = search needs
 
 sub-if1 : tie.Need-sub-if1
 sub-if1 c =
@@ -44,9 +29,6 @@ word-at-requires-3 : tie.Need-word-at-requires-3
 word-at-requires-3 c κs =
     let s = left-stored (c .before .before .before .before .pre .holds) in omega arith
 
-add-result : tie.Need-add-result
-add-result c = search needs
-
 returns-2 : tie.Need-returns-2
 returns-2 c =
     let at-word-at = c .before .before .before in
@@ -61,16 +43,5 @@ returns-2 c =
 pub key-at-spec : {M : Type 1} → statement M
 key-at-spec =
     tie.close
-    (tie.spec
-    add-word-at
-    word-at-requires
-    add-word-at-2
-    add-word-at-3
-    word-at-requires-2
-    sub-if1
-    returns
-    add-word-at-4
-    add-word-at-5
-    word-at-requires-3
-    add-result
-    returns-2)
+    (tie.spec (λ c. search needs) (λ c κs. search needs) (λ c. search needs) (λ c. search needs) (λ c κs. search needs)
+    sub-if1 returns add-word-at-4 add-word-at-5 word-at-requires-3 (λ c. search needs) returns-2)

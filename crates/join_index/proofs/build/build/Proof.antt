@@ -1,4 +1,4 @@
--- `join_build::build` meets its contract: each stage requires what the layout and the stages before it leave.
+-- `join_index::build::build` meets its contract: each stage requires what the layout and the stages before it leave.
 use native.Mathlib.Omega.{arith}
 use borrow.Author.Needs.{needs}
 use Rattle.join_index.proofs.build.BuildPlan.{Planned, by-length, sizes, plan-sizes, wide}
@@ -35,12 +35,6 @@ before-least c = c .before .before .before .before
 abbrev before-order : tie.After-build-order → tie.After-build-least
 before-order c = c .before .before .before .before
 
-count-entries-requires : tie.Need-count-entries-requires
-count-entries-requires c κs = search needs
-
-count-entries-requires-2 : tie.Need-count-entries-requires-2
-count-entries-requires-2 c κs = search needs
-
 lay-out-requires : tie.Need-lay-out-requires
 lay-out-requires c κs =
     let lefts = c .before in
@@ -51,9 +45,6 @@ add-left-base : tie.Need-add-left-base
 add-left-base c =
     let out = c .before in
     omega (arith, plan-sizes (planned out), out .lay-out .ensures)
-
-add-order-base : tie.Need-add-order-base
-add-order-base c = search needs
 
 build-side-requires : tie.Need-build-side-requires
 build-side-requires c κs = right-room (planned (c .before .before .before))
@@ -88,9 +79,6 @@ sign-collections-requires c κs =
     (start out .args .limit)
     (order .build-order .ensures)
 
-same-length : tie.Need-same-length
-same-length c = search needs
-
 returns : tie.Need-returns
 returns c =
     let signed = c .before .before in
@@ -123,16 +111,6 @@ returns c =
 pub build-spec : {M : Type 1} → statement M
 build-spec =
     tie.close
-    (tie.spec
-    count-entries-requires
-    count-entries-requires-2
-    lay-out-requires
-    add-left-base
-    add-order-base
-    build-side-requires
-    build-side-requires-2
-    build-least-requires
-    build-order-requires
-    sign-collections-requires
-    same-length
-    returns)
+    (tie.spec (λ c κs. search needs) (λ c κs. search needs) lay-out-requires add-left-base (λ c. search needs)
+    build-side-requires build-side-requires-2 build-least-requires build-order-requires sign-collections-requires
+    (λ c. search needs) returns)

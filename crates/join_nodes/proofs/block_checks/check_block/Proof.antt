@@ -9,19 +9,10 @@ use Rattle.lists.proofs.Bools.{true-false}
 use Rattle.join_nodes.proofs.block_checks.check_block.Statement.{statement}
 use Rattle.join_nodes.proofs.block_checks.check_block.Tie as tie
 
-sub-checks : tie.Need-sub-checks
-sub-checks c = search needs
-
-sub-checks-2 : tie.Need-sub-checks-2
-sub-checks-2 c = search needs
-
 mul-checks : tie.Need-mul-checks
 mul-checks c =
     let small = c .before .before .pre .1 in
     omega (arith, mul-le-mul (small .lefts) (small .rights))
-
-covers-requires : tie.Need-covers-requires
-covers-requires c κs = search needs
 
 returns : tie.Need-returns
 returns c =
@@ -55,4 +46,4 @@ returns-2 c =
 pub check-block-spec : {M : Type 1} → statement M
 check-block-spec =
     tie.close
-    (tie.spec sub-checks sub-checks-2 mul-checks covers-requires returns gather-requires returns-2)
+    (tie.spec (λ c. search needs) (λ c. search needs) mul-checks (λ c κs. search needs) returns gather-requires returns-2)

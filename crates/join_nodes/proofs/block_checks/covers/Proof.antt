@@ -19,9 +19,6 @@ sub-spare : tie.Need-sub-spare
 unfolding sum
 sub-spare c = search needs
 
-cast-result : tie.Need-cast-result
-cast-result c = search needs
-
 returns : tie.Need-returns
 unfolding sum
 returns c =
@@ -33,4 +30,4 @@ returns c =
     }
 
 pub covers-spec : {M : Type 1} → statement M
-covers-spec = tie.close (tie.spec add-made add-made-2 sub-spare cast-result returns)
+covers-spec = tie.close (tie.spec add-made add-made-2 sub-spare (λ c. search needs) returns)

@@ -68,15 +68,5 @@ returns-2 c =
 pub finish-spec : {M : Type 1} → statement M
 finish-spec =
     tie.close
-    (tie.spec
-    Inv-loop
-    μ-loop
-    loop-holds
-    finish-one-requires
-    same-length
-    returns
-    add-i
-    loop-less
-    loop-again
-    same-length-2
+    (tie.spec Inv-loop μ-loop loop-holds finish-one-requires same-length returns add-i loop-less loop-again same-length-2
     returns-2)

@@ -4,28 +4,19 @@ use Prim.Native.Nat.{_+_}
 use mathlib.Core.Path.{sym, _∙_}
 use native.Mathlib.Omega.{arith}
 use borrow.Author.Needs.{needs}
-use Rattle.join_index.proofs.Orders.{run-left}
+use Rattle.join_index.proofs.Orders.{range-left}
 use Rattle.join_nodes.proofs.Asked.{some-query}
-use Rattle.join_nodes.proofs.blocks.GoingLaws.{going-run, going-there}
+use Rattle.join_nodes.proofs.blocks.GoingLaws.{going-range, going-there}
 use Rattle.join_nodes.proofs.blocks.NodeRows.{row-record}
 use Rattle.join_nodes.proofs.blocks.LimitLaws.{one-key, one-list, one-room, one-kept, one-small, one-blocked, one-recorded}
 use Rattle.join_nodes.proofs.blocks.finish_one.Statement.{statement}
 use Rattle.join_nodes.proofs.blocks.finish_one.Tie as tie
 
-add-word-at : tie.Need-add-word-at
-add-word-at c = search needs
-
-word-at-requires : tie.Need-word-at-requires
-word-at-requires c κs = search needs
-
 key-at-requires : tie.Need-key-at-requires
 key-at-requires c κs =
     let start = c .before .before .before .before in
     some-query (start .pre)
-    (λ q path at. run-left (going-run (at .going) (omega arith)) (start .args .i) (omega arith) (c .before .word-at .ensures))
-
-add-pair-ended : tie.Need-add-pair-ended
-add-pair-ended c = search needs
+    (λ q path at. range-left (going-range (at .going) (omega arith)) (start .args .i) (omega arith) (c .before .word-at .ensures))
 
 -- the left set ends here
 pair-ended-requires : tie.Need-pair-ended-requires
@@ -41,9 +32,6 @@ pair-ended-requires c κs =
       (omega arith, one-room (some .holds) (read .word-at .ensures)),
     )
 
-same-length : tie.Need-same-length
-same-length c = search needs
-
 returns : tie.Need-returns
 returns c =
     let paired = c .before .before in
@@ -53,15 +41,6 @@ returns c =
     λ q path at.
     one-kept at (read .word-at .ensures)
     (sym (one-key at (read .word-at .ensures) (keyed .key-at .ensures)) ∙ ends .if1 .taken) (paired .pair-ended .ensures)
-
-sub-if2 : tie.Need-sub-if2
-sub-if2 c = search needs
-
-sub-if2-2 : tie.Need-sub-if2-2
-sub-if2-2 c = search needs
-
-add-check-block : tie.Need-add-check-block
-add-check-block c = search needs
 
 -- there is no room for its row
 check-block-requires : tie.Need-check-block-requires
@@ -74,9 +53,6 @@ check-block-requires c κs =
       one-small (some .holds) (read .word-at .ensures)
           (λ none. longer .if1 .left (one-key (some .holds) (read .word-at .ensures) (keyed .key-at .ensures) ∙ none)),
     )
-
-same-length-2 : tie.Need-same-length-2
-same-length-2 c = search needs
 
 returns-2 : tie.Need-returns-2
 returns-2 c =
@@ -103,9 +79,6 @@ finish-row-requires c κs =
       (some .holds .going .rise, some .holds .going .underway .budget),
     )
 
-same-length-3 : tie.Need-same-length-3
-same-length-3 c = search needs
-
 returns-3 : tie.Need-returns-3
 returns-3 c =
     let finished = c .before .before in
@@ -121,20 +94,6 @@ returns-3 c =
 pub finish-one-spec : {M : Type 1} → statement M
 finish-one-spec =
     tie.close
-    (tie.spec
-    add-word-at
-    word-at-requires
-    key-at-requires
-    add-pair-ended
-    pair-ended-requires
-    same-length
-    returns
-    sub-if2
-    sub-if2-2
-    add-check-block
-    check-block-requires
-    same-length-2
-    returns-2
-    finish-row-requires
-    same-length-3
-    returns-3)
+    (tie.spec (λ c. search needs) (λ c κs. search needs) key-at-requires (λ c. search needs) pair-ended-requires
+    (λ c. search needs) returns (λ c. search needs) (λ c. search needs) (λ c. search needs) check-block-requires
+    (λ c. search needs) returns-2 finish-row-requires (λ c. search needs) returns-3)

@@ -7,12 +7,6 @@ use Rattle.lists.proofs.Bools.{true-false}
 use Rattle.join_nodes.proofs.blocks.finish_row.Statement.{statement}
 use Rattle.join_nodes.proofs.blocks.finish_row.Tie as tie
 
-sub-covers : tie.Need-sub-covers
-sub-covers c = search needs
-
-covers-requires : tie.Need-covers-requires
-covers-requires c κs = search needs
-
 returns : tie.Need-returns
 returns c =
     record {
@@ -32,9 +26,6 @@ record-row-requires c κs =
       omega (arith, start .good .1 .1 .0, covered .ensures .within (not-false (covered .result) (enough .if1 .left))),
     )
 
-same-length : tie.Need-same-length
-same-length c = search needs
-
 returns-2 : tie.Need-returns-2
 returns-2 c =
     let recorded = c .before .before .before in
@@ -53,4 +44,4 @@ returns-2 c =
 pub finish-row-spec : {M : Type 1} → statement M
 finish-row-spec =
     tie.close
-    (tie.spec sub-covers covers-requires returns record-row-requires same-length returns-2)
+    (tie.spec (λ c. search needs) (λ c κs. search needs) returns record-row-requires (λ c. search needs) returns-2)

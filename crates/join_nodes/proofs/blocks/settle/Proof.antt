@@ -3,7 +3,7 @@ use Prim.Native.Nat.{_-_}
 use native.Mathlib.Omega.{arith}
 use borrow.Author.Needs.{needs}
 use Rattle.join_nodes.proofs.Asked.{some-query}
-use Rattle.join_nodes.proofs.blocks.GoingLaws.{going-run, going-room}
+use Rattle.join_nodes.proofs.blocks.GoingLaws.{going-range, going-room}
 use Rattle.join_nodes.proofs.blocks.NodeRows.{merged-list, settled}
 use Rattle.join_nodes.proofs.blocks.settle.Statement.{statement}
 use Rattle.join_nodes.proofs.blocks.settle.Tie as tie
@@ -11,7 +11,7 @@ use Rattle.join_nodes.proofs.blocks.settle.Tie as tie
 merged-end-requires : tie.Need-merged-end-requires
 merged-end-requires c κs =
     let start = c .before .before in
-    some-query (start .pre .0) (λ q path going. going-run going (start .pre .1))
+    some-query (start .pre .0) (λ q path going. going-range going (start .pre .1))
 
 pair-ended-requires : tie.Need-pair-ended-requires
 pair-ended-requires c κs =
@@ -22,9 +22,6 @@ pair-ended-requires c κs =
       (end .ensures .low, going-room (some .holds) (end .result - start .args .lo) (omega (arith, end .ensures .high))),
     )
 
-same-length : tie.Need-same-length
-same-length c = search needs
-
 returns : tie.Need-returns
 returns c =
     let paired = c .before .before in
@@ -32,4 +29,4 @@ returns c =
     settled (end .before .before .before .pre .1) (end .merged-end .ensures) (paired .pair-ended .ensures)
 
 pub settle-spec : {M : Type 1} → statement M
-settle-spec = tie.close (tie.spec merged-end-requires pair-ended-requires same-length returns)
+settle-spec = tie.close (tie.spec merged-end-requires pair-ended-requires (λ c. search needs) returns)

@@ -5,18 +5,6 @@ use borrow.Author.Needs.{needs}
 use Rattle.join_nodes.proofs.decide.decide.Statement.{statement}
 use Rattle.join_nodes.proofs.decide.decide.Tie as tie
 
-enum-told : tie.Need-enum-told
-enum-told c = search needs
-
-enum-told-2 : tie.Need-enum-told-2
-enum-told-2 c = search needs
-
-enum-known-rule : tie.Need-enum-known-rule
-enum-known-rule c = search needs
-
-weigh-node-requires : tie.Need-weigh-node-requires
-weigh-node-requires c κs = search needs
-
 returns : tie.Need-returns
 returns c =
     λ q path node is. merge-goes q path (is ∙ c .enum-told .given .1)
@@ -33,11 +21,4 @@ returns-3 c =
 pub decide-spec : {M : Type 1} → statement M
 decide-spec =
     tie.close
-    (tie.spec
-    enum-told
-    enum-told-2
-    enum-known-rule
-    weigh-node-requires
-    returns
-    returns-2
-    returns-3)
+    (tie.spec (λ c. search needs) (λ c. search needs) (λ c. search needs) (λ c κs. search needs) returns returns-2 returns-3)

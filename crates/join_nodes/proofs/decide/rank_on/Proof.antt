@@ -6,12 +6,6 @@ use borrow.Author.Needs.{needs}
 use Rattle.join_nodes.proofs.decide.rank_on.Statement.{statement}
 use Rattle.join_nodes.proofs.decide.rank_on.Tie as tie
 
-add-word-at : tie.Need-add-word-at
-add-word-at c = search needs
-
-word-at-requires : tie.Need-word-at-requires
-word-at-requires c κs = search needs
-
 key-at-requires : tie.Need-key-at-requires
 key-at-requires c κs =
     let some = c .before .before .pre in
@@ -29,4 +23,4 @@ returns c =
     λ q path on. omega (arith, on-read on (read .word-at .ensures) (c .key-at .ensures))
 
 pub rank-on-spec : {M : Type 1} → statement M
-rank-on-spec = tie.close (tie.spec add-word-at word-at-requires key-at-requires sub-result returns)
+rank-on-spec = tie.close (tie.spec (λ c. search needs) (λ c κs. search needs) key-at-requires sub-result returns)

@@ -11,19 +11,9 @@ use Rattle.join_nodes.proofs.decide.weigh.Tie as tie
 mul-product : tie.Need-mul-product
 mul-product c = omega (arith, mul-le-mul (c .pre .0) (c .pre .1))
 
-int-to-float-merging : tie.Need-int-to-float-merging
-int-to-float-merging c = search needs
-
-int-to-float-merging-2 : tie.Need-int-to-float-merging-2
-int-to-float-merging-2 c = search needs
-
-int-to-float-checking : tie.Need-int-to-float-checking
-int-to-float-checking c = search needs
-
 returns : tie.Need-returns
 unfolding lt goesOn
 returns c = search needs
 
 pub weigh-spec : {M : Type 1} → statement M
-weigh-spec =
-    tie.close (tie.spec mul-product int-to-float-merging int-to-float-merging-2 int-to-float-checking returns)
+weigh-spec = tie.close (tie.spec mul-product (λ c. search needs) (λ c. search needs) (λ c. search needs) returns)

@@ -1,5 +1,5 @@
 -- `weigh_node` meets its contract: the two ranks are the path's first and last, the last one's inverted list is counted, and
--- the lengths of the run and of the candidates are the rule's other two numbers.
+-- the lengths of the range and of the candidates are the rule's other two numbers.
 use Prim.Native.Nat.{_+_, _-_, _≤_, _<_}
 use mathlib.Core.Path.{sym, ap, _∙_}
 use native.Mathlib.Omega.{arith}
@@ -16,9 +16,6 @@ use Rattle.join_nodes.proofs.decide.weigh_node.Tie as tie
 
 rank-on-requires : tie.Need-rank-on-requires
 rank-on-requires c κs = some-path (c .before .pre) (λ q path node. node-path node 0 (node .candidates .deep))
-
-sub-rank-on : tie.Need-sub-rank-on
-sub-rank-on c = search needs
 
 rank-on-requires-2 : tie.Need-rank-on-requires-2
 rank-on-requires-2 c κs =
@@ -83,9 +80,6 @@ count-seen-requires c κs =
     (inverted-read (node .candidates) (last-read node (ranked .rank-on2 .ensures)) (first .word-at .ensures)
     (c .word-at2 .ensures)))
 
-sub-weigh : tie.Need-sub-weigh
-sub-weigh c = search needs
-
 cast-weigh : tie.Need-cast-weigh
 cast-weigh c =
     let node = c .before .before .before .before .before .before .pre .holds in
@@ -102,12 +96,6 @@ cast-weigh-2 c =
     let held = inverted-read (node .candidates) rank (first .word-at .ensures) (last .word-at2 .ensures) in
     let few = counted-few (rooted .rank-on .result) _ _ node held (c .count-seen .ensures) in
     omega (arith, few, node .candidates .index .ground .rightFew)
-
-sub-weigh-2 : tie.Need-sub-weigh-2
-sub-weigh-2 c = search needs
-
-cast-weigh-3 : tie.Need-cast-weigh-3
-cast-weigh-3 c = search needs
 
 weigh-requires : tie.Need-weigh-requires
 weigh-requires c κs =
@@ -133,22 +121,6 @@ returns c =
 pub weigh-node-spec : {M : Type 1} → statement M
 weigh-node-spec =
     tie.close
-    (tie.spec
-    rank-on-requires
-    sub-rank-on
-    rank-on-requires-2
-    add-word-at
-    word-at-requires
-    add-word-at-2
-    add-word-at-3
-    word-at-requires-2
-    add-count-seen
-    add-count-seen-2
-    count-seen-requires
-    sub-weigh
-    cast-weigh
-    cast-weigh-2
-    sub-weigh-2
-    cast-weigh-3
-    weigh-requires
-    returns)
+    (tie.spec rank-on-requires (λ c. search needs) rank-on-requires-2 add-word-at word-at-requires add-word-at-2 add-word-at-3
+    word-at-requires-2 add-count-seen add-count-seen-2 count-seen-requires (λ c. search needs) cast-weigh cast-weigh-2
+    (λ c. search needs) (λ c. search needs) weigh-requires returns)

@@ -7,11 +7,11 @@ use mathlib.Core.Bool.{false}
 use native.Mathlib.Omega.{arith}
 use borrow.Author.Needs.{needs}
 use Rattle.join_spec.specs.Query.{Query}
-use Rattle.join_nodes.specs.Visiting.{RunVisited}
+use Rattle.join_nodes.specs.Visiting.{RangeVisited}
 use Rattle.join_nodes.proofs.Asked.{some-path, some-query}
 use Rattle.join_nodes.proofs.NodeFacts.{node-path, last-read}
 use Rattle.join_nodes.specs.blocks.Blocks.{Going}
-use Rattle.join_nodes.proofs.blocks.GoingLaws.{going-run}
+use Rattle.join_nodes.proofs.blocks.GoingLaws.{going-range}
 use Rattle.join_nodes.proofs.blocks.NodeRows.{empty-list}
 use Rattle.join_nodes.specs.lone.Lone.{Lone}
 use Rattle.join_nodes.specs.enter.Entering.{GoesOn}
@@ -63,12 +63,6 @@ keep-list-requires c κs =
     some-query (begun part .pre .0)
     (λ q path going. empty-list (onward-going (onward part q path going)) (none .if1 .taken))
 
-same-length : tie.Need-same-length
-same-length c = search needs
-
-same-length-2 : tie.Need-same-length-2
-same-length-2 c = search needs
-
 returns : tie.Need-returns
 returns c =
     let kept = c .before .before in
@@ -86,12 +80,6 @@ finish-requires c κs =
     let deep = c .before in
     let part = deep .before .before .before .before .before .before in
     some-path (begun part .pre .0) (λ q path going. node-limit (onward part q path going) (omega (arith, deep .if2 .taken)))
-
-same-length-3 : tie.Need-same-length-3
-same-length-3 c = search needs
-
-same-length-4 : tie.Need-same-length-4
-same-length-4 c = search needs
 
 returns-2 : tie.Need-returns-2
 returns-2 c =
@@ -111,7 +99,7 @@ is-lone-requires c κs =
     let some = begun part .pre .0 in
     let so = onward part (some .query) (some .path) (some .holds) in (
       some-query some
-          (λ q path going. going-run (onward-going (onward part q path going)) (going .node .at .some)),
+          (λ q path going. going-range (onward-going (onward part q path going)) (going .node .at .some)),
       (so .rise, so .rows .high),
     )
 
@@ -130,12 +118,6 @@ pair-lone-requires c κs =
       subst (λ (n : ℕ). Lone (a .lay) (a .st) w (a .lo) n (p .from) (p .to) (a .p .top)) (lone .one) lone,
     )
 
-same-length-5 : tie.Need-same-length-5
-same-length-5 c = search needs
-
-same-length-6 : tie.Need-same-length-6
-same-length-6 c = search needs
-
 returns-3 : tie.Need-returns-3
 returns-3 c =
     let paired = c .before .before in
@@ -150,7 +132,7 @@ returns-3 c =
           entered-over refl
           (limit-visited so
           (subst
-          (λ (n : ℕ). RunVisited (a .lay) q (a .st .budget) (a .lay .«row_starts») (a .d) w (paired .pair-lone .last .0) (a .lo) n
+          (λ (n : ℕ). RangeVisited (a .lay) q (a .st .budget) (a .lay .«row_starts») (a .d) w (paired .pair-lone .last .0) (a .lo) n
           (a .p .tally) (record { at = paired .pair-lone .result; spent = false }))
           (sym (lone .one))
           (paired .pair-lone .ensures q path
@@ -166,12 +148,6 @@ settle-requires c κs =
     let asked = begun part .pre .0 in
     (some-path asked (λ q path going. onward-going (onward part q path going)), asked .holds .node .at .some)
 
-same-length-7 : tie.Need-same-length-7
-same-length-7 c = search needs
-
-same-length-8 : tie.Need-same-length-8
-same-length-8 c = search needs
-
 returns-4 : tie.Need-returns-4
 returns-4 c =
     let settled = c .before .before .before in
@@ -184,24 +160,6 @@ returns-4 c =
 pub enter-node-spec : {M : Type 1} → statement M
 enter-node-spec =
     tie.close
-    (tie.spec
-    sub-rank-on
-    rank-on-requires
-    narrow-requires
-    keep-list-requires
-    same-length
-    same-length-2
-    returns
-    finish-requires
-    same-length-3
-    same-length-4
-    returns-2
-    is-lone-requires
-    pair-lone-requires
-    same-length-5
-    same-length-6
-    returns-3
-    settle-requires
-    same-length-7
-    same-length-8
-    returns-4)
+    (tie.spec sub-rank-on rank-on-requires narrow-requires keep-list-requires (λ c. search needs) (λ c. search needs) returns
+    finish-requires (λ c. search needs) (λ c. search needs) returns-2 is-lone-requires pair-lone-requires (λ c. search needs)
+    (λ c. search needs) returns-3 settle-requires (λ c. search needs) (λ c. search needs) returns-4)

@@ -7,48 +7,24 @@ use borrow.Author.Tests.{eqb-true}
 use lib.ListN.{length}
 use Rattle.lists.proofs.Bools.{true-false}
 use Rattle.join_index.specs.Grouping.{leftAt}
-use Rattle.join_index.proofs.Orders.{run-left}
+use Rattle.join_index.proofs.Orders.{range-left}
 use Rattle.join_nodes.proofs.lone.LoneSets.{key-within}
 use Rattle.join_nodes.proofs.lone.is_lone.Statement.{statement}
 use Rattle.join_nodes.proofs.lone.is_lone.Tie as tie
 
-sub-if1 : tie.Need-sub-if1
-sub-if1 c = search needs
-
 returns : tie.Need-returns
 returns c = λ yes. true-false yes refl
 
-sub-if2 : tie.Need-sub-if2
-sub-if2 c = search needs
-
-sub-if2-2 : tie.Need-sub-if2-2
-sub-if2-2 c = search needs
-
 returns-2 : tie.Need-returns-2
 returns-2 c = λ yes. true-false yes refl
-
-enum-told : tie.Need-enum-told
-enum-told c = search needs
-
-add-word-at : tie.Need-add-word-at
-add-word-at c = search needs
-
-word-at-requires : tie.Need-word-at-requires
-word-at-requires c κs = search needs
 
 key-at-requires : tie.Need-key-at-requires
 key-at-requires c κs =
     let some = c .before .before .before .before .before .before .before .pre .0 in
     record {
       query = some .query;
-      holds = run-left (some .holds) (c .before .before .before .before .before .before .before .args .lo) (some .holds .some) (c .word-at .ensures);
+      holds = range-left (some .holds) (c .before .before .before .before .before .before .before .args .lo) (some .holds .some) (c .word-at .ensures);
     }
-
-enum-told-2 : tie.Need-enum-told-2
-enum-told-2 c = search needs
-
-enum-told-3 : tie.Need-enum-told-3
-enum-told-3 c = search needs
 
 returns-3 : tie.Need-returns-3
 returns-3 c =
@@ -63,7 +39,7 @@ returns-3 c =
       short = λ q there.
           subst (λ (k : ℕ). length (leftAt q k) ≤ start .args .st .limit) (read .word-at .ensures .is)
           (key-within q (start .args .st .limit) (read .word-at .result)
-          (sym (c .key-at .ensures q (run-left there (start .args .lo) (there .some) (read .word-at .ensures)))
+          (sym (c .key-at .ensures q (range-left there (start .args .lo) (there .some) (read .word-at .ensures)))
           ∙ eqb-true (c .key-at .result) 0 yes));
       room = omega (arith, roomy .if2 .left, start .pre .1 .1);
     }
@@ -77,18 +53,6 @@ returns-5 c = λ yes. true-false yes refl
 pub is-lone-spec : {M : Type 1} → statement M
 is-lone-spec =
     tie.close
-    (tie.spec
-    sub-if1
-    returns
-    sub-if2
-    sub-if2-2
-    returns-2
-    enum-told
-    add-word-at
-    word-at-requires
-    key-at-requires
-    enum-told-2
-    enum-told-3
-    returns-3
-    returns-4
+    (tie.spec (λ c. search needs) returns (λ c. search needs) (λ c. search needs) returns-2 (λ c. search needs)
+    (λ c. search needs) (λ c κs. search needs) key-at-requires (λ c. search needs) (λ c. search needs) returns-3 returns-4
     returns-5)

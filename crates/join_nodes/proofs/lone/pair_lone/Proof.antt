@@ -9,12 +9,6 @@ use Rattle.join_nodes.proofs.lone.LoneSets.{lone-record, lone-room, lon
 use Rattle.join_nodes.proofs.lone.pair_lone.Statement.{statement}
 use Rattle.join_nodes.proofs.lone.pair_lone.Tie as tie
 
-add-word-at : tie.Need-add-word-at
-add-word-at c = search needs
-
-word-at-requires : tie.Need-word-at-requires
-word-at-requires c κs = search needs
-
 record-row-requires : tie.Need-record-row-requires
 unfolding sum
 record-row-requires c κs =
@@ -43,9 +37,6 @@ add-paths-requires c κs =
     let start = recorded .before .before .before .before .before in
     lone-room (start .pre .0 .holds) (start .pre .1) (read .ensures) (recorded .record-row .ensures)
 
-same-length : tie.Need-same-length
-same-length c = search needs
-
 returns : tie.Need-returns
 returns c =
     let recorded = c .before .before .before .before .before in
@@ -57,11 +48,5 @@ returns c =
 pub pair-lone-spec : {M : Type 1} → statement M
 pair-lone-spec =
     tie.close
-    (tie.spec
-    add-word-at
-    word-at-requires
-    record-row-requires
-    sub-add-paths
-    add-paths-requires
-    same-length
-    returns)
+    (tie.spec (λ c. search needs) (λ c κs. search needs) record-row-requires sub-add-paths add-paths-requires
+    (λ c. search needs) returns)

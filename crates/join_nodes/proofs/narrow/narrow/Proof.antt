@@ -10,21 +10,6 @@ use Rattle.join_nodes.proofs.CandidateLaws.{before-small, inverted-smal
 use Rattle.join_nodes.proofs.narrow.narrow.Statement.{statement}
 use Rattle.join_nodes.proofs.narrow.narrow.Tie as tie
 
-add-word-at : tie.Need-add-word-at
-add-word-at c = search needs
-
-word-at-requires : tie.Need-word-at-requires
-word-at-requires c κs = search needs
-
-add-word-at-2 : tie.Need-add-word-at-2
-add-word-at-2 c = search needs
-
-add-word-at-3 : tie.Need-add-word-at-3
-add-word-at-3 c = search needs
-
-word-at-requires-2 : tie.Need-word-at-requires-2
-word-at-requires-2 c κs = search needs
-
 -- the two words that were read bound a list that lies in the work list
 list-low : (c : tie.After-word-at2)
     → let a = c .before .before .before .before .before .before .args in
@@ -44,9 +29,6 @@ add-t22 c =
 add-t23 : tie.Need-add-t23
 add-t23 c = omega (arith, list-low (c .before) .1, c .before .before .before .before .before .before .before .good .0)
 
-same-length : tie.Need-same-length
-same-length c = search needs
-
 returns : tie.Need-returns
 returns c =
     let last = c .before in
@@ -56,9 +38,6 @@ returns c =
           (c .if1 .taken),
       c .before .before .before .before .before .before .before .pre .1,
     )
-
-add-out : tie.Need-add-out
-add-out c = search needs
 
 add-intersect : tie.Need-add-intersect
 add-intersect c =
@@ -89,12 +68,6 @@ intersect-requires c κs =
       ),
     )
 
-same-length-2 : tie.Need-same-length-2
-same-length-2 c = search needs
-
-same-length-3 : tie.Need-same-length-3
-same-length-3 c = search needs
-
 returns-2 : tie.Need-returns-2
 returns-2 c =
     let met = c .before .before .before .before in
@@ -109,20 +82,6 @@ returns-2 c =
 pub narrow-spec : {M : Type 1} → statement M
 narrow-spec =
     tie.close
-    (tie.spec
-    add-word-at
-    word-at-requires
-    add-word-at-2
-    add-word-at-3
-    word-at-requires-2
-    add-t22
-    add-t23
-    same-length
-    returns
-    add-out
-    add-intersect
-    add-intersect-2
-    intersect-requires
-    same-length-2
-    same-length-3
-    returns-2)
+    (tie.spec (λ c. search needs) (λ c κs. search needs) (λ c. search needs) (λ c. search needs) (λ c κs. search needs)
+    add-t22 add-t23 (λ c. search needs) returns (λ c. search needs) add-intersect add-intersect-2 intersect-requires
+    (λ c. search needs) (λ c. search needs) returns-2)

@@ -1,4 +1,4 @@
--- `left_search::search_left` meets its contract: an empty left set has no pair, any other those with the candidates that contain
+-- `join_pairs::left_search::search_left` meets its contract: an empty left set has no pair, any other those with the candidates that contain
 -- it.
 use mathlib.Core.Path.{refl}
 use native.Mathlib.Omega.{arith}
@@ -65,15 +65,6 @@ write-row-requires c κs =
           (asked .holds);
     }
 
-same-length-2 : tie.Need-same-length-2
-same-length-2 c = search needs
-
-same-length-3 : tie.Need-same-length-3
-same-length-3 c = search needs
-
-same-length-4 : tie.Need-same-length-4
-same-length-4 c = search needs
-
 returns-2 : tie.Need-returns-2
 returns-2 c =
     let wrote = c .before .before in
@@ -93,14 +84,5 @@ returns-2 c =
 pub search-left-spec : {M : Type 1} → statement M
 search-left-spec =
     tie.close
-    (tie.spec
-    probe-left-requires
-    same-length
-    returns
-    pivot-requires
-    find-candidates-requires
-    write-row-requires
-    same-length-2
-    same-length-3
-    same-length-4
-    returns-2)
+    (tie.spec probe-left-requires same-length returns pivot-requires find-candidates-requires write-row-requires
+    (λ c. search needs) (λ c. search needs) (λ c. search needs) returns-2)

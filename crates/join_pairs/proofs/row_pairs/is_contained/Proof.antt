@@ -1,4 +1,4 @@
--- `row_pairs::left::is_contained` meets its contract: where the rest has no rank the right set contains the left set, else the check
+-- `join_pairs::row_pairs::is_contained` meets its contract: where the rest has no rank the right set contains the left set, else the check
 -- decides.
 use mathlib.Core.Path.{sym, ap, _∙_}
 use mathlib.Core.Bool.{Bool}
@@ -17,18 +17,6 @@ returns c =
 -- whether the check ends with a confirmed pair
 abbrev confirms : Checked → Bool
 confirms end = isConfirmed (outcomeOf end)
-
-check-probe-requires : tie.Need-check-probe-requires
-check-probe-requires c κs = search needs
-
-enum-told : tie.Need-enum-told
-enum-told c = search needs
-
-enum-told-2 : tie.Need-enum-told-2
-enum-told-2 c = search needs
-
-enum-told-3 : tie.Need-enum-told-3
-enum-told-3 c = search needs
 
 returns-2 : tie.Need-returns-2
 returns-2 c =
@@ -51,4 +39,5 @@ returns-4 c =
 pub is-contained-spec : {M : Type 1} → statement M
 is-contained-spec =
     tie.close
-    (tie.spec returns check-probe-requires enum-told enum-told-2 enum-told-3 returns-2 returns-3 returns-4)
+    (tie.spec returns (λ c κs. search needs) (λ c. search needs) (λ c. search needs) (λ c. search needs) returns-2 returns-3
+    returns-4)

@@ -1,4 +1,4 @@
--- `row_pairs::push` meets its contract: two stores, or none.
+-- `join_pairs::row_pairs::push` meets its contract: two stores, or none.
 use Prim.Native.Nat.{ℕ, _+_, _≤_}
 use mathlib.Core.Path.{_≡_, refl}
 use mathlib.Core.List.{List, []}
@@ -23,32 +23,11 @@ put-pair at k s b w e = rw (e, add-one at) (record { written = refl; past = refl
 put-none : (at k s : ℕ) (b : Bool) (w : List ℕ) → b ≡ false → Put w at (ontoPair b k s []) at w
 put-none at k s b w e = rw e (record { written = refl; past = omega arith })
 
-cast-pairs : tie.Need-cast-pairs
-cast-pairs c = search needs
-
-mul-pairs : tie.Need-mul-pairs
-mul-pairs c = search needs
-
 slice-write-pairs : tie.Need-slice-write-pairs
 slice-write-pairs c = omega (arith, pair-room (c .before .pre) (c .if1 .taken))
 
-cast-pairs-2 : tie.Need-cast-pairs-2
-cast-pairs-2 c = search needs
-
-add-pairs : tie.Need-add-pairs
-add-pairs c = search needs
-
-mul-pairs-2 : tie.Need-mul-pairs-2
-mul-pairs-2 c = search needs
-
 slice-write-pairs-2 : tie.Need-slice-write-pairs-2
 slice-write-pairs-2 c = simp length-set (omega (arith, pair-room (c .before .pre) (c .if1 .taken)))
-
-add-result : tie.Need-add-result
-add-result c = search needs
-
-same-length : tie.Need-same-length
-same-length c = search needs
 
 returns : tie.Need-returns
 returns c =
@@ -61,15 +40,5 @@ returns-2 c =
 pub push-spec : {M : Type 1} → statement M
 push-spec =
     tie.close
-    (tie.spec
-    cast-pairs
-    mul-pairs
-    slice-write-pairs
-    cast-pairs-2
-    add-pairs
-    mul-pairs-2
-    slice-write-pairs-2
-    add-result
-    same-length
-    returns
-    returns-2)
+    (tie.spec (λ c. search needs) (λ c. search needs) slice-write-pairs (λ c. search needs) (λ c. search needs)
+    (λ c. search needs) slice-write-pairs-2 (λ c. search needs) (λ c. search needs) returns returns-2)

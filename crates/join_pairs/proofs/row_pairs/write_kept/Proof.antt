@@ -1,4 +1,4 @@
--- `row_pairs::write_kept` meets its contract. The invariant: the pairs with the right places that are left remain to be
+-- `join_pairs::row_pairs::write_kept` meets its contract. The invariant: the pairs with the right places that are left remain to be
 -- written. The measure is how many are left.
 use Prim.Native.Nat.{_+_, _-_, _≤_}
 use mathlib.Core.Path.{_≡_}
@@ -82,14 +82,4 @@ returns c =
 pub write-kept-spec : {M : Type 1} → statement M
 write-kept-spec =
     tie.close
-    (tie.spec
-    Inv-loop
-    μ-loop
-    loop-holds
-    word-at-requires
-    push-requires
-    add-place
-    loop-less
-    loop-again
-    same-length
-    returns)
+    (tie.spec Inv-loop μ-loop loop-holds word-at-requires push-requires add-place loop-less loop-again same-length returns)

@@ -1,4 +1,4 @@
--- `row_pairs::write_row` meets its contract. The invariant: the pairs with the places from i on remain to be written. The
+-- `join_pairs::row_pairs::write_row` meets its contract. The invariant: the pairs with the places from i on remain to be written. The
 -- measure is how many places remain.
 use Prim.Native.Nat.{ℕ, _+_, _-_, _≤_, _<_}
 use mathlib.Core.Path.{_≡_, sym, ap, _∙_}
@@ -16,7 +16,7 @@ use Rattle.join_check.specs.declared.Probe.{Probe}
 use Rattle.words.specs.Words.{Word}
 use Rattle.join_index.proofs.Places.{place-right}
 use Rattle.kept_rows.specs.Kept.{containedAt}
-use Rattle.join_pairs.specs.row_pairs.Containing.{rowOf, CheckThere}
+use Rattle.join_pairs.specs.row_pairs.Containing.{rowAmong, CheckThere}
 use Rattle.join_pairs.specs.row_pairs.Writing.{PushRoom, RowRoom}
 use Rattle.join_pairs.proofs.row_pairs.RowPairs.{row-next, row-none}
 use Rattle.join_pairs.proofs.shortlists.Inverted.{slice-memb}
@@ -28,11 +28,11 @@ record RowWriting (lay : Layout) (w : List ℕ) (p : Probe) (k from to at : ℕ)
   low : from ≤ i
   written :
       (q : Query) → RowRoom lay q w p k from to at was
-      → Writing was at (rowOf q k (slice from to w)) pairs n (rowOf q k (slice i to w))
+      → Writing was at (rowAmong q k (slice from to w)) pairs n (rowAmong q k (slice i to w))
 
-row-past : (q : Query) (k : ℕ) (w : List ℕ) (i to : ℕ) → to ≤ i → rowOf q k (slice i to w) ≡ []
+row-past : (q : Query) (k : ℕ) (w : List ℕ) (i to : ℕ) → to ≤ i → rowAmong q k (slice i to w) ≡ []
 row-past q k w i to past =
-    ap (rowOf q k) (slice-past i to w past) ∙ row-none (containedAt q k) k
+    ap (rowAmong q k) (slice-past i to w past) ∙ row-none (containedAt q k) k
 
 module _ {lay : Layout} {w : List ℕ} {p : Probe} {k from to at : ℕ} {was : List ℕ} {n : ℕ} {pairs : List ℕ} {i s : ℕ} {b : Bool}
     (writing : RowWriting lay w p k from to at was n pairs i) (more : i < to) (word : Word w i s)
@@ -40,16 +40,16 @@ module _ {lay : Layout} {w : List ℕ} {p : Probe} {k from to at : ℕ} {was : L
   where
     -- what remains begins with the pair, if it is one
     row-split : (q : Query) → RowRoom lay q w p k from to at was
-        → rowOf q k (slice i to w) ≡ ontoPair b k s [] ++ rowOf q k (slice (i + 1) to w)
+        → rowAmong q k (slice i to w) ≡ ontoPair b k s [] ++ rowAmong q k (slice (i + 1) to w)
     row-split q there =
         let right = place-right (there .places) i s (writing .low) more word in
         let here = slice-memb word from to (writing .low) more (there .places .within) in
         let test : containedAt q k s ≡ b =
         sym (tested q k (record { right = right; signed = there .signed; decides = there .decides s here })) in
-        ap (rowOf q k)
+        ap (rowAmong q k)
         (slice-next i to w more (there .places .within) ∙ ap (λ (x : ℕ). x ∷ slice (i + 1) to w) (sym (word .is)))
         ∙ row-next (containedAt q k) k s (slice (i + 1) to w)
-        ∙ ap (λ (t : Bool). ontoPair t k s [] ++ rowOf q k (slice (i + 1) to w)) test
+        ∙ ap (λ (t : Bool). ontoPair t k s [] ++ rowAmong q k (slice (i + 1) to w)) test
 
     row-step : {r : ℕ} {u : List ℕ} → Put pairs n (ontoPair b k s []) r u → RowWriting lay w p k from to at was r u (i + 1)
     row-step put =
@@ -65,7 +65,7 @@ module _ {lay : Layout} {w : List ℕ} {p : Probe} {k from to at : ℕ} {was : L
           left = omega (arith, there .left .below, there .left .index .ground .leftFew);
           right = omega (arith, right .below, right .index .ground .rightFew);
           room =
-              writing-room (writing .written q there) (ontoPair b k s []) (rowOf q k (slice (i + 1) to w)) (row-split q there);
+              writing-room (writing .written q there) (ontoPair b k s []) (rowAmong q k (slice (i + 1) to w)) (row-split q there);
         }
 
 abbrev Inv-loop : tie.InvT-loop
@@ -83,7 +83,7 @@ loop-holds c =
     record {
       low = omega arith;
       written = λ q there.
-          writing-start (a .pairs .now) (a .at) (rowOf q (a .k) (slice (a .from) (a .to) (a .work .now))) (there .room);
+          writing-start (a .pairs .now) (a .at) (rowAmong q (a .k) (slice (a .from) (a .to) (a .work .now))) (there .room);
     }
 
 word-at-requires : tie.Need-word-at-requires Inv-loop μ-loop
@@ -117,10 +117,6 @@ add-i c =
     let start = c .before .before .before .before .before .before .before .before .before .before in
     omega (arith, start .pre .holds .places .within)
 
-loop-less : tie.Need-loop-less Inv-loop μ-loop
-loop-less c =
-    omega arith
-
 loop-again : tie.Need-loop-again Inv-loop μ-loop
 loop-again c =
     let at-test = c .before .before .before .before .before .before in
@@ -141,15 +137,5 @@ returns c =
 pub write-row-spec : {M : Type 1} → statement M
 write-row-spec =
     tie.close
-    (tie.spec
-    Inv-loop
-    μ-loop
-    loop-holds
-    word-at-requires
-    is-contained-requires
-    push-requires
-    add-i
-    loop-less
-    loop-again
-    same-length
-    returns)
+    (tie.spec Inv-loop μ-loop loop-holds word-at-requires is-contained-requires push-requires add-i (λ c. omega arith)
+    loop-again same-length returns)

@@ -1,4 +1,4 @@
--- `join_shortlists::candidates::find_candidates` meets its contract. The invariant: no right set that holds all the ranks is missing
+-- `join_pairs::shortlists::find_candidates` meets its contract. The invariant: no right set that holds all the ranks is missing
 -- from the candidates, and of a candidate the ranks from i on decide. The measure is how many ranks remain.
 use Prim.Native.Nat.{ℕ, _+_, _-_, _≤_, _<_}
 use mathlib.Core.List.{List}
@@ -149,22 +149,5 @@ returns-2 c = (searching-end (c .before .loop .inv .0), c .before .loop .inv .1)
 pub find-candidates-spec : {M : Type 1} → statement M
 find-candidates-spec =
     tie.close
-    (tie.spec
-    Inv-loop
-    μ-loop
-    list-of-requires
-    loop-holds
-    word-at-requires
-    sub-stops
-    sub-stops-2
-    stops-requires
-    same-length
-    same-length-2
-    returns
-    meet-requires
-    add-i
-    loop-less
-    loop-again
-    same-length-3
-    same-length-4
-    returns-2)
+    (tie.spec Inv-loop μ-loop list-of-requires loop-holds word-at-requires sub-stops sub-stops-2 stops-requires same-length
+    same-length-2 returns meet-requires add-i loop-less loop-again same-length-3 same-length-4 returns-2)

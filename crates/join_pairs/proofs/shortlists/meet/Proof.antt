@@ -1,4 +1,4 @@
--- `join_shortlists::candidates::meet` meets its contract: all candidates hold the pivot; any other rank is met by its inverted list.
+-- `join_pairs::shortlists::meet` meets its contract: all candidates hold the pivot; any other rank is met by its inverted list.
 use Rattle.join_index.proofs.Places.{places-below}
 use Rattle.join_pairs.proofs.shortlists.Inverted.{list-rising, list-below}
 use Rattle.join_pairs.proofs.shortlists.Meeting.{met-same, met-apart, met-other}
@@ -10,18 +10,6 @@ returns : tie.Need-returns
 returns c =
     let start = c .before .before .before in
     (met-same (start .pre .0 .holds) (c .if1 .taken), start .pre .1)
-
-list-of-requires : tie.Need-list-of-requires
-list-of-requires c κs = search needs
-
-add-word-at : tie.Need-add-word-at
-add-word-at c = search needs
-
-word-at-requires : tie.Need-word-at-requires
-word-at-requires c κs = search needs
-
-add-out : tie.Need-add-out
-add-out c = search needs
 
 intersect-requires : tie.Need-intersect-requires
 intersect-requires c κs =
@@ -39,12 +27,6 @@ intersect-requires c κs =
       ),
     )
 
-same-length : tie.Need-same-length
-same-length c = search needs
-
-same-length-2 : tie.Need-same-length-2
-same-length-2 c = search needs
-
 returns-2 : tie.Need-returns-2
 returns-2 c =
     let met = c .before .before .before .before in
@@ -56,13 +38,5 @@ returns-2 c =
 pub meet-spec : {M : Type 1} → statement M
 meet-spec =
     tie.close
-    (tie.spec
-    returns
-    list-of-requires
-    add-word-at
-    word-at-requires
-    add-out
-    intersect-requires
-    same-length
-    same-length-2
-    returns-2)
+    (tie.spec returns (λ c κs. search needs) (λ c. search needs) (λ c κs. search needs) (λ c. search needs) intersect-requires
+    (λ c. search needs) (λ c. search needs) returns-2)

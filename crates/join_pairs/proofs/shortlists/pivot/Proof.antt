@@ -1,4 +1,4 @@
--- `join_shortlists::ranks::pivot` meets its contract. The invariant: the rank is one of those passed. The measure is how many
+-- `join_pairs::shortlists::pivot` meets its contract. The invariant: the rank is one of those passed. The measure is how many
 -- remain.
 use Prim.Native.Nat.{ℕ, _-_, _≤_}
 use mathlib.Core.Path.{_≡_, sym, subst}
@@ -23,16 +23,10 @@ abbrev μ-loop : tie.MeasureT-loop
 μ-loop work lay from to rank₀ least₀ i₀ rank least i =
     to - i
 
-word-at-requires : tie.Need-word-at-requires Inv-loop μ-loop
-word-at-requires c κs = omega arith
-
-holders-requires : tie.Need-holders-requires Inv-loop μ-loop
-holders-requires c κs =
+count-holders-requires : tie.Need-count-holders-requires Inv-loop μ-loop
+count-holders-requires c κs =
     let asked = c .before .before .pre in
     record { query = asked .query; holds = slice-rank (asked .holds) (c .word-at .ensures) (omega arith) (asked .holds .some) }
-
-add-i : tie.Need-add-i Inv-loop μ-loop
-add-i c = omega arith
 
 loop-holds : tie.Need-loop-holds Inv-loop μ-loop
 loop-holds c =
@@ -45,11 +39,8 @@ loop-holds c =
           (there .within);
     }
 
-word-at-requires-2 : tie.Need-word-at-requires-2 Inv-loop μ-loop
-word-at-requires-2 c κs = omega arith
-
-holders-requires-2 : tie.Need-holders-requires-2 Inv-loop μ-loop
-holders-requires-2 c κs =
+count-holders-requires-2 : tie.Need-count-holders-requires-2 Inv-loop μ-loop
+count-holders-requires-2 c κs =
     let at-loop = c .before .before in
     let asked = at-loop .before .before .before .before .pre in
     record {
@@ -57,12 +48,6 @@ holders-requires-2 c κs =
       holds =
           slice-rank (asked .holds) (c .word-at2 .ensures) (at-loop .loop .inv .low) (c .before .loop-test .taken);
     }
-
-add-i-2 : tie.Need-add-i-2 Inv-loop μ-loop
-add-i-2 c = omega arith
-
-loop-less : tie.Need-loop-less Inv-loop μ-loop
-loop-less c = omega arith
 
 loop-again : tie.Need-loop-again Inv-loop μ-loop
 loop-again c =
@@ -88,16 +73,5 @@ returns c = c .before .loop .inv .there
 pub pivot-spec : {M : Type 1} → statement M
 pivot-spec =
     tie.close
-    (tie.spec
-    Inv-loop
-    μ-loop
-    word-at-requires
-    holders-requires
-    add-i
-    loop-holds
-    word-at-requires-2
-    holders-requires-2
-    add-i-2
-    loop-less
-    loop-again
-    returns)
+    (tie.spec Inv-loop μ-loop (λ c κs. omega arith) count-holders-requires (λ c. omega arith) loop-holds (λ c κs. omega arith)
+    count-holders-requires-2 (λ c. omega arith) (λ c. omega arith) loop-again returns)

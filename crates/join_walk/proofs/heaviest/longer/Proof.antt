@@ -1,15 +1,9 @@
--- `heaviest_runs::longer` meets its contract.
+-- `join_walk::heaviest::longer` meets its contract.
 use mathlib.Core.Path.{refl}
 use borrow.Author.Needs.{needs}
 use borrow.Author.Tests.{lt-ltb, le-ltb}
 use Rattle.join_walk.proofs.heaviest.longer.Statement.{statement}
 use Rattle.join_walk.proofs.heaviest.longer.Tie as tie
-
-sub-if1 : tie.Need-sub-if1
-sub-if1 c = search needs
-
-sub-if1-2 : tie.Need-sub-if1-2
-sub-if1-2 c = search needs
 
 returns : tie.Need-returns
 returns c = rw (lt-ltb _ _ (c .if1 .taken)) refl
@@ -18,4 +12,4 @@ returns-2 : tie.Need-returns-2
 returns-2 c = rw (le-ltb _ _ (c .if1 .left)) refl
 
 pub longer-spec : {M : Type 1} → statement M
-longer-spec = tie.close (tie.spec sub-if1 sub-if1-2 returns returns-2)
+longer-spec = tie.close (tie.spec (λ c. search needs) (λ c. search needs) returns returns-2)

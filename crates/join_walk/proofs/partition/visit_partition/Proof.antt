@@ -10,18 +10,12 @@ use Rattle.join_spec.specs.declared.Rule.{Rule}
 use Rattle.join_spec.specs.Query.{Query}
 use Rattle.join_index.specs.Ground.{invertedList, seenCount, asksSeen}
 use Rattle.join_index.specs.Asking.{RankThere}
-use Rattle.join_index.proofs.Orders.{run-left}
+use Rattle.join_index.proofs.Orders.{range-left}
 use Rattle.join_walk.specs.partition.Partition.{Partition}
-use Rattle.join_walk.proofs.partition.PartitionSteps.{partition-run, partition-key, seen-word, partition-node, partition-visited}
+use Rattle.join_walk.proofs.partition.PartitionSteps.{partition-range, partition-key, seen-word, partition-node, partition-visited}
 use Rattle.join_walk.proofs.partition.PartitionSteps.{unasked-node, unheld-list, unheld-visited}
 use Rattle.join_walk.proofs.partition.visit_partition.Statement.{statement}
 use Rattle.join_walk.proofs.partition.visit_partition.Tie as tie
-
-add-word-at : tie.Need-add-word-at
-add-word-at c = search needs
-
-word-at-requires : tie.Need-word-at-requires
-word-at-requires c κs = search needs
 
 key-at-requires : tie.Need-key-at-requires
 key-at-requires c κs =
@@ -30,11 +24,8 @@ key-at-requires c κs =
     let part = start .pre .0 .holds in
     record {
       query = start .pre .0 .query;
-      holds = run-left (partition-run part) (start .args .lo) (part .some) (read .word-at .ensures);
+      holds = range-left (partition-range part) (start .args .lo) (part .some) (read .word-at .ensures);
     }
-
-asks-seen-requires : tie.Need-asks-seen-requires
-asks-seen-requires c κs = search needs
 
 -- the partition that is asked of, at the start
 abbrev Asked : tie.Start → Query → ℕ → Type 0
@@ -109,12 +100,6 @@ visit-node-requires c κs =
       pre .1,
     )
 
-same-length : tie.Need-same-length
-same-length c = search needs
-
-same-length-2 : tie.Need-same-length-2
-same-length-2 c = search needs
-
 returns : tie.Need-returns
 returns c =
     let visited = c .before .before .before .before in
@@ -161,12 +146,6 @@ visit-node-requires-2 c κs =
       pre .1,
     )
 
-same-length-3 : tie.Need-same-length-3
-same-length-3 c = search needs
-
-same-length-4 : tie.Need-same-length-4
-same-length-4 c = search needs
-
 returns-2 : tie.Need-returns-2
 returns-2 c =
     let visited = c .before .before .before .before in
@@ -201,9 +180,6 @@ keep-list-requires c κs =
           (unheld none (some .query) (some .rank) (some .holds));
     }
 
-same-length-5 : tie.Need-same-length-5
-same-length-5 c = search needs
-
 returns-3 : tie.Need-returns-3
 returns-3 c =
     let kept = c .before .before in
@@ -219,24 +195,7 @@ returns-3 c =
 pub visit-partition-spec : {M : Type 1} → statement M
 visit-partition-spec =
     tie.close
-    (tie.spec
-    add-word-at
-    word-at-requires
-    key-at-requires
-    asks-seen-requires
-    add-word-at-2
-    word-at-requires-2
-    add-visit-node
-    visit-node-requires
-    same-length
-    same-length-2
-    returns
-    sub-is-held
-    is-held-requires
-    visit-node-requires-2
-    same-length-3
-    same-length-4
-    returns-2
-    keep-list-requires
-    same-length-5
-    returns-3)
+    (tie.spec (λ c. search needs) (λ c κs. search needs) key-at-requires (λ c κs. search needs) add-word-at-2
+    word-at-requires-2 add-visit-node visit-node-requires (λ c. search needs) (λ c. search needs) returns sub-is-held
+    is-held-requires visit-node-requires-2 (λ c. search needs) (λ c. search needs) returns-2 keep-list-requires
+    (λ c. search needs) returns-3)

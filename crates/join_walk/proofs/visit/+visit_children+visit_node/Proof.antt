@@ -21,14 +21,14 @@ use Rattle.join_nodes.proofs.Asked.{some-path, some-query}
 use Rattle.join_nodes.proofs.PartLoop.{Continuing, continuing-start, continuing-step, continuing-spent, continuing-end}
 use Rattle.join_nodes.proofs.blocks.NodeStops.{goes-on, goes-not, stop-there, stop-small, stop-visited}
 use Rattle.join_nodes.specs.enter.Entering.{NodeEntered}
-use Rattle.join_walk.proofs.visit.ChildSteps.{kids-run, childPath}
+use Rattle.join_walk.proofs.visit.ChildSteps.{kids-range, childPath}
 use Rattle.join_walk.proofs.visit.ChildNodes.{next-node, children-done}
 use Rattle.join_walk.proofs.visit.Descents.{Descending, descending-start, node-left, descending-end, ask-below, spent-below, ask-above, spent-above, descending-step, descending-only}
-use Rattle.join_check.proofs.keys.run_end.Reads as run-end
+use Rattle.join_check.proofs.keys.range_end.Reads as range-end
 use Rattle.join_nodes.proofs.block_checks.check_block.Reads as check-block
 use Rattle.join_nodes.proofs.decide.decide.Reads as decide
 use Rattle.join_nodes.proofs.enter.enter_node.Reads as enter-node
-use Rattle.join_walk.proofs.heaviest.heaviest_run.Reads as heaviest-run
+use Rattle.join_walk.proofs.heaviest.heaviest_range.Reads as heaviest-range
 use Rattle.join_walk.proofs.visit.visit_children.Reads as visit-children
 use Rattle.join_walk.proofs.visit.visit_children.Kinds as children-kinds
 use Rattle.join_walk.proofs.visit.visit_node.Reads as visit-node
@@ -60,7 +60,7 @@ node-below t = and 2 node-kinds.ps (falls 2 node-kinds.ps _<_ μ-node t) visit-n
 
 -- what each member may use of the functions that it calls
 abbrev children-callees : ℕ → children-lts.Claims
-children-callees t = (run-end.Asked, run-end.Learnt, node-below t, visit-node.Post)
+children-callees t = (range-end.Asked, range-end.Learnt, node-below t, visit-node.Post)
 
 abbrev node-callees : ℕ → node-lts.Claims
 node-callees t = (
@@ -70,8 +70,8 @@ node-callees t = (
   check-block.Learnt,
   enter-node.Asked,
   enter-node.Learnt,
-  heaviest-run.Asked,
-  heaviest-run.Learnt,
+  heaviest-range.Asked,
+  heaviest-range.Learnt,
   children-below t,
   visit-children.Post,
 )
@@ -99,9 +99,9 @@ module _ (t : ℕ) where
       let asked = c .before .before .pre .1 in
       (continuing-start _ _ _ _ _ _ (asked .0), asked .1)
 
-  run-end-requires : children-lts.Need-run-end-requires (children-callees t) (children-at t) visit-children.Post Inv-loop μ-loop
-  run-end-requires c κs =
-      some-query (c .before .before .loop .inv .0 .some) (λ q path at. kids-run (at .kids) (c .before .loop-test .taken))
+  range-end-requires : children-lts.Need-range-end-requires (children-callees t) (children-at t) visit-children.Post Inv-loop μ-loop
+  range-end-requires c κs =
+      some-query (c .before .before .loop .inv .0 .some) (λ q path at. kids-range (at .kids) (c .before .loop-test .taken))
 
   add-visit-node : children-lts.Need-add-visit-node (children-callees t) (children-at t) visit-children.Post Inv-loop μ-loop
   add-visit-node c =
@@ -121,7 +121,7 @@ module _ (t : ℕ) where
           record {
             query = some .query;
             path = childPath kids (test .loop-test .taken);
-            holds = next-node (some .holds) (test .loop-test .taken) (end .run-end .ensures);
+            holds = next-node (some .holds) (test .loop-test .taken) (end .range-end .ensures);
           },
           at-loop .loop .inv .1,
         ),
@@ -145,8 +145,8 @@ module _ (t : ℕ) where
       let visit = c .before .before .before .before .before in
       let end = visit .before .before .before in
       let test = end .before .before in (
-        continuing-spent (test .before .loop .inv .0) (omega (arith, end .run-end .ensures .more)) (end .run-end .ensures .within)
-            (children-done (test .loop-test .taken) (end .run-end .ensures) (visit .visit-node .ensures .0)) (c .if1 .taken),
+        continuing-spent (test .before .loop .inv .0) (omega (arith, end .range-end .ensures .more)) (end .range-end .ensures .within)
+            (children-done (test .loop-test .taken) (end .range-end .ensures) (visit .visit-node .ensures .0)) (c .if1 .taken),
         visit .visit-node .ensures .1,
       )
 
@@ -154,7 +154,7 @@ module _ (t : ℕ) where
   loop-less c =
       let end = c .before .before .before .before .before .before .before .before .before in
       let test = end .before .before in
-      omega (arith, test .loop-test .taken, end .run-end .ensures .more, end .run-end .ensures .within)
+      omega (arith, test .loop-test .taken, end .range-end .ensures .more, end .range-end .ensures .within)
 
   loop-again : children-lts.Need-loop-again (children-callees t) (children-at t) visit-children.Post Inv-loop μ-loop
   loop-again c =
@@ -162,8 +162,8 @@ module _ (t : ℕ) where
       let visit = calm .before .before .before .before .before in
       let end = visit .before .before .before in
       let test = end .before .before in (
-        continuing-step (test .before .loop .inv .0) (omega (arith, end .run-end .ensures .more)) (end .run-end .ensures .within)
-            (children-done (test .loop-test .taken) (end .run-end .ensures) (visit .visit-node .ensures .0))
+        continuing-step (test .before .loop .inv .0) (omega (arith, end .range-end .ensures .more)) (end .range-end .ensures .within)
+            (children-done (test .loop-test .taken) (end .range-end .ensures) (visit .visit-node .ensures .0))
             (visit .visit-node .kept .0) (calm .if1 .left),
         visit .visit-node .ensures .1,
       )
@@ -288,25 +288,25 @@ module _ (t : ℕ) where
       let over = c .before .before .before .before .before .before in
       (ends (in-loop over) (λ q path node. entered over q path node .over (c .if2 .taken)), over .enter-node .ensures .1)
 
-  -- its children are left, and a run of them is chosen
-  abbrev inside : node-lts.After-heaviest-run (node-callees t) (node-at t) visit-node.Post Inv-down μ-down → node-lts.After-enter-node (node-callees t) (node-at t) visit-node.Post Inv-down μ-down
+  -- its children are left, and a range of them is chosen
+  abbrev inside : node-lts.After-heaviest-range (node-callees t) (node-at t) visit-node.Post Inv-down μ-down → node-lts.After-enter-node (node-callees t) (node-at t) visit-node.Post Inv-down μ-down
   inside c = c .before .before .before .before .before .before .before .before
 
-  abbrev chosen-at : node-lts.After-visit-children (node-callees t) (node-at t) visit-node.Post Inv-down μ-down → node-lts.After-heaviest-run (node-callees t) (node-at t) visit-node.Post Inv-down μ-down
+  abbrev chosen-at : node-lts.After-visit-children (node-callees t) (node-at t) visit-node.Post Inv-down μ-down → node-lts.After-heaviest-range (node-callees t) (node-at t) visit-node.Post Inv-down μ-down
   chosen-at c = c .before .before .before .before .before
 
-  heaviest-run-requires : node-lts.Need-heaviest-run-requires (node-callees t) (node-at t) visit-node.Post Inv-down μ-down
-  heaviest-run-requires c κs =
+  heaviest-range-requires : node-lts.Need-heaviest-range-requires (node-callees t) (node-at t) visit-node.Post Inv-down μ-down
+  heaviest-range-requires c κs =
       let more = c .before in
       let over = more .before .before .before .before .before .before in
       some-query (here (in-loop over))
-      (λ q path node. kids-run (entered over q path node .kids (more .if2 .left) .kids) (more .if2 .left))
+      (λ q path node. kids-range (entered over q path node .kids (more .if2 .left) .kids) (more .if2 .left))
 
   sub-if3 : node-lts.Need-sub-if3 (node-callees t) (node-at t) visit-node.Post Inv-down μ-down
-  sub-if3 c = omega (arith, c .before .heaviest-run .ensures)
+  sub-if3 c = omega (arith, c .before .heaviest-range .ensures)
 
   sub-if3-2 : node-lts.Need-sub-if3-2 (node-callees t) (node-at t) visit-node.Post Inv-down μ-down
-  sub-if3-2 c = omega (arith, c .before .heaviest-run .ensures)
+  sub-if3-2 c = omega (arith, c .before .heaviest-range .ensures)
 
   visit-children-requires : node-lts.Need-visit-children-requires (node-callees t) (node-at t) visit-node.Post Inv-down μ-down
   visit-children-requires c κs =
@@ -315,7 +315,7 @@ module _ (t : ℕ) where
       let test = in-loop over in (
         omega (arith, begun test .pre .0, test .before .loop .inv .0 .deeper),
         (
-          some-path (here test) (ask-below (entered over) (chosen .before .before .if2 .left) (chosen .heaviest-run .ensures)),
+          some-path (here test) (ask-below (entered over) (chosen .before .before .if2 .left) (chosen .heaviest-range .ensures)),
           over .enter-node .ensures .1,
         ),
       )
@@ -337,7 +337,7 @@ module _ (t : ℕ) where
       let chosen = chosen-at low in
       let over = inside chosen in (
         ends (in-loop over)
-            (spent-below (entered over) (chosen .before .before .if2 .left) (chosen .heaviest-run .ensures)
+            (spent-below (entered over) (chosen .before .before .if2 .left) (chosen .heaviest-range .ensures)
             (low .visit-children .ensures .0) (c .if4 .taken)),
         low .visit-children .ensures .1,
       )
@@ -352,7 +352,7 @@ module _ (t : ℕ) where
         omega (arith, begun test .pre .0, test .before .loop .inv .0 .deeper),
         (
           some-path (here test)
-              (ask-above (entered over) (chosen .before .before .if2 .left) (chosen .heaviest-run .ensures)
+              (ask-above (entered over) (chosen .before .before .if2 .left) (chosen .heaviest-range .ensures)
               (low .visit-children .ensures .0) (calm .if4 .left)),
           low .visit-children .ensures .1,
         ),
@@ -379,7 +379,7 @@ module _ (t : ℕ) where
       let chosen = chosen-at low in
       let over = inside chosen in (
         ends (in-loop over)
-            (spent-above (entered over) (chosen .before .before .if2 .left) (chosen .heaviest-run .ensures)
+            (spent-above (entered over) (chosen .before .before .if2 .left) (chosen .heaviest-range .ensures)
             (low .visit-children .ensures .0) (calm .if4 .left) (high .visit-children2 .ensures .0) (c .if5 .taken)),
         high .visit-children2 .ensures .1,
       )
@@ -402,14 +402,14 @@ module _ (t : ℕ) where
       let test = in-loop over in
       ⊎-elim
       (λ others. rw (others .18, others .19, others .20) (
-        descending-step (entered over) (chosen .before .before .if2 .left) (chosen .heaviest-run .ensures)
+        descending-step (entered over) (chosen .before .before .if2 .left) (chosen .heaviest-range .ensures)
             (others .3 .ensures .0) (others .8 .left) (others .11 .ensures .0) (others .16 .left)
             (test .loop-test .taken) (test .before .loop .inv .0)
             (others .11 .kept .0 ∙ others .3 .kept .0 ∙ over .enter-node .kept .0),
         others .11 .ensures .1,
       ))
       (λ only. rw (only .1, only .2, only .3) (
-        descending-only (entered over) (chosen .before .before .if2 .left) (chosen .heaviest-run .ensures)
+        descending-only (entered over) (chosen .before .before .if2 .left) (chosen .heaviest-range .ensures)
             (omega (arith, only .0 .left)) (test .loop-test .taken) (test .before .loop .inv .0) (over .enter-node .kept .0),
         over .enter-node .ensures .1,
       ))
@@ -430,7 +430,7 @@ pub +visit-children+visit-node-spec : {M : Type 1} → statement M
     (λ t.
     children-lts.spec (children-callees t) (children-at t) visit-children.Post Inv-loop μ-loop
     (loop-holds t)
-    (run-end-requires t)
+    (range-end-requires t)
     (add-visit-node t)
     (visit-node-requires t)
     (children-same-length t)
@@ -454,7 +454,7 @@ pub +visit-children+visit-node-spec : {M : Type 1} → statement M
     (node-same-length-3 t)
     (node-same-length-4 t)
     (node-returns-2 t)
-    (heaviest-run-requires t)
+    (heaviest-range-requires t)
     (sub-if3 t)
     (sub-if3-2 t)
     (visit-children-requires t)

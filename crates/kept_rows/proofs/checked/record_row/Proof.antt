@@ -1,4 +1,4 @@
--- `checked_rows::record_row` meets its contract. The invariant is `Recording`: the confirmed ones of the places so far stand
+-- `kept_rows::checked::record_row` meets its contract. The invariant is `Recording`: the confirmed ones of the places so far stand
 -- from top on, and the counters have their checks. The measure is how many places are to come.
 use Prim.Native.Nat.{_+_, _-_, _<_}
 use native.Mathlib.Omega.{arith}
@@ -127,22 +127,5 @@ returns c =
 pub record-row-spec : {M : Type 1} → statement M
 record-row-spec =
     tie.close
-    (tie.spec
-    Inv-loop
-    μ-loop
-    probe-left-requires
-    loop-holds
-    word-at-requires
-    check-one-requires
-    cast-work
-    mul-work
-    slice-write-work
-    sub-n
-    cast-n
-    add-n
-    add-i
-    loop-less
-    loop-again
-    keep-row-requires
-    same-length
-    returns)
+    (tie.spec Inv-loop μ-loop probe-left-requires loop-holds word-at-requires check-one-requires cast-work mul-work
+    slice-write-work sub-n cast-n add-n add-i loop-less loop-again keep-row-requires same-length returns)

@@ -1,4 +1,4 @@
--- `pool_sets::fill_new` meets its contract: what is marked are the items of the record's tags.
+-- `pool_fill::own_sets::fill_new` meets its contract: what is marked are the items of the record's tags.
 use mathlib.Core.List.{[]}
 use Rattle.tag_index.specs.Index.{tableOf}
 use Rattle.tag_loader.proofs.record_items.Marks.{unmarked-marked}
@@ -27,18 +27,6 @@ put-record-requires c κs =
       rw (fresh-items (start .pre .0) (start .pre .1 .0) m) (start .pre .1 .1),
     )
 
-same-length : tie.Need-same-length
-same-length c = search needs
-
-same-length-2 : tie.Need-same-length-2
-same-length-2 c = search needs
-
-same-length-3 : tie.Need-same-length-3
-same-length-3 c = search needs
-
-same-length-4 : tie.Need-same-length-4
-same-length-4 c = search needs
-
 returns : tie.Need-returns
 returns c =
     let put = c .before .before .before .before .before .before .before .before in
@@ -50,11 +38,5 @@ returns c =
 pub fill-new-spec : {M : Type 1} → statement M
 fill-new-spec =
     tie.close
-    (tie.spec
-    mark-tags-requires
-    put-record-requires
-    same-length
-    same-length-2
-    same-length-3
-    same-length-4
-    returns)
+    (tie.spec mark-tags-requires put-record-requires (λ c. search needs) (λ c. search needs) (λ c. search needs)
+    (λ c. search needs) returns)

@@ -1,4 +1,4 @@
--- `pool_sets::fill_own` meets its contract: what is marked are the items of the record's tags.
+-- `pool_fill::own_sets::fill_own` meets its contract: what is marked are the items of the record's tags.
 use mathlib.Core.List.{[]}
 use Rattle.tag_index.specs.Index.{tableOf}
 use Rattle.tag_loader.proofs.record_items.Marks.{unmarked-marked}
@@ -18,9 +18,6 @@ mark-tags-requires c κs =
       },
     )
 
-slot-of-requires : tie.Need-slot-of-requires
-slot-of-requires c κs = search needs
-
 put-own-requires : tie.Need-put-own-requires
 put-own-requires c κs =
     let at-slot = c .before .before .before .before .before in
@@ -31,21 +28,6 @@ put-own-requires c κs =
       fresh-wide (start .pre .0) (start .pre .1 .0) m,
       (rw slot (start .pre .1 .1 .0 .within), rw (slot, fresh-items (start .pre .0) (start .pre .1 .0) m) (start .pre .1 .1 .1)),
     )
-
-same-length : tie.Need-same-length
-same-length c = search needs
-
-same-length-2 : tie.Need-same-length-2
-same-length-2 c = search needs
-
-same-length-3 : tie.Need-same-length-3
-same-length-3 c = search needs
-
-same-length-4 : tie.Need-same-length-4
-same-length-4 c = search needs
-
-same-length-5 : tie.Need-same-length-5
-same-length-5 c = search needs
 
 returns : tie.Need-returns
 returns c =
@@ -60,13 +42,5 @@ returns c =
 pub fill-own-spec : {M : Type 1} → statement M
 fill-own-spec =
     tie.close
-    (tie.spec
-    mark-tags-requires
-    slot-of-requires
-    put-own-requires
-    same-length
-    same-length-2
-    same-length-3
-    same-length-4
-    same-length-5
-    returns)
+    (tie.spec mark-tags-requires (λ c κs. search needs) put-own-requires (λ c. search needs) (λ c. search needs)
+    (λ c. search needs) (λ c. search needs) (λ c. search needs) returns)

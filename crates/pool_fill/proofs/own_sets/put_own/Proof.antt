@@ -1,4 +1,4 @@
--- `pool_sets::put_own` meets its contract.
+-- `pool_fill::own_sets::put_own` meets its contract.
 use mathlib.Core.Path.{_≡_, refl, ap, _∙_}
 use Prim.Native.Nat.{ℕ, _+_, _-_}
 use native.Mathlib.Omega.{arith}
@@ -26,77 +26,17 @@ taken c =
     .args in
     c .length-by .ensures ∙ ap (λ (k : ℕ). lengthBy (getD (a .slots .now) (a .slot) 0) k) (owned c)
 
-mul-word : tie.Need-mul-word
-mul-word c = search needs
-
-slice-read-word : tie.Need-slice-read-word
-slice-read-word c = search needs
-
-drain-requires : tie.Need-drain-requires
-drain-requires c κs = search needs
-
-sub-own : tie.Need-sub-own
-sub-own c = search needs
-
-length-by-requires : tie.Need-length-by-requires
-length-by-requires c κs = search needs
-
 add-end : tie.Need-add-end
 add-end c =
     let at-drain = c .before .before .before .before .before in
     let start = at-drain .before .before .before .before .before .before .before .before .before in
     omega (arith, taken c, start .pre .1 .1 .few)
 
-mul-slots : tie.Need-mul-slots
-mul-slots c = search needs
-
-add-slots : tie.Need-add-slots
-add-slots c = search needs
-
-cast-slots : tie.Need-cast-slots
-cast-slots c = search needs
-
-mul-slots-2 : tie.Need-mul-slots-2
-mul-slots-2 c = search needs
-
-slice-write-slots : tie.Need-slice-write-slots
-slice-write-slots c = search needs
-
-mul-numbers : tie.Need-mul-numbers
-mul-numbers c = search needs
-
-slice-write-numbers : tie.Need-slice-write-numbers
-slice-write-numbers c = search needs
-
 cast-ends : tie.Need-cast-ends
 cast-ends c =
     let at-drain = c .before .before .before .before .before in
     let start = at-drain .before .before .before .before .before .before .before .before .before in
     omega (arith, taken c, start .pre .1 .1 .few)
-
-mul-ends : tie.Need-mul-ends
-mul-ends c = search needs
-
-slice-write-ends : tie.Need-slice-write-ends
-slice-write-ends c = search needs
-
-add-t15 : tie.Need-add-t15
-add-t15 c = search needs
-
-same-length : tie.Need-same-length
-same-length c = search needs
-
-same-length-2 : tie.Need-same-length-2
-same-length-2 c = search needs
-
-same-length-3 : tie.Need-same-length-3
-same-length-3 c = search needs
-
-same-length-4 : tie.Need-same-length-4
-same-length-4 c = search needs
-
-same-length-5 : tie.Need-same-length-5
-same-length-5 c = search needs
 
 returns : tie.Need-returns
 returns c =
@@ -119,27 +59,7 @@ returns c =
 pub put-own-spec : {M : Type 1} → statement M
 put-own-spec =
     tie.close
-    (tie.spec
-    mul-word
-    slice-read-word
-    drain-requires
-    sub-own
-    length-by-requires
-    add-end
-    mul-slots
-    add-slots
-    cast-slots
-    mul-slots-2
-    slice-write-slots
-    mul-numbers
-    slice-write-numbers
-    cast-ends
-    mul-ends
-    slice-write-ends
-    add-t15
-    same-length
-    same-length-2
-    same-length-3
-    same-length-4
-    same-length-5
-    returns)
+    (tie.spec (λ c. search needs) (λ c. search needs) (λ c κs. search needs) (λ c. search needs) (λ c κs. search needs)
+    add-end (λ c. search needs) (λ c. search needs) (λ c. search needs) (λ c. search needs) (λ c. search needs)
+    (λ c. search needs) (λ c. search needs) cast-ends (λ c. search needs) (λ c. search needs) (λ c. search needs)
+    (λ c. search needs) (λ c. search needs) (λ c. search needs) (λ c. search needs) (λ c. search needs) returns)

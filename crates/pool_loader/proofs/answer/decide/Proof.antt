@@ -1,17 +1,8 @@
--- `pool_answer::decide` meets its contract: case by case.
+-- `pool_loader::answer::decide` meets its contract: case by case.
 use Rattle.pool_loader.proofs.answer.Cases.{decided-short, decided-long, decided-loaded}
 use borrow.Author.Needs.{needs}
 use Rattle.pool_loader.proofs.answer.decide.Statement.{statement}
 use Rattle.pool_loader.proofs.answer.decide.Tie as tie
-
-enum-known-answer : tie.Need-enum-known-answer
-enum-known-answer c = search needs
-
-enum-told : tie.Need-enum-told
-enum-told c = search needs
-
-returns : tie.Need-returns
-returns c = search needs
 
 has-room-requires : tie.Need-has-room-requires
 has-room-requires c κs =
@@ -20,12 +11,6 @@ has-room-requires c κs =
 returns-2 : tie.Need-returns-2
 returns-2 c =
     decided-short _ _ _ _ _ _ _ _ _ (c .before .before .before .answer .given .1) (c .before .has-room .ensures) (c .if1 .taken)
-
-enum-known-long : tie.Need-enum-known-long
-enum-known-long c = search needs
-
-enum-told-2 : tie.Need-enum-told-2
-enum-told-2 c = search needs
 
 returns-3 : tie.Need-returns-3
 returns-3 c =
@@ -38,13 +23,5 @@ returns-4 c =
 pub decide-spec : {M : Type 1} → statement M
 decide-spec =
     tie.close
-    (tie.spec
-    enum-known-answer
-    enum-told
-    returns
-    has-room-requires
-    returns-2
-    enum-known-long
-    enum-told-2
-    returns-3
-    returns-4)
+    (tie.spec (λ c. search needs) (λ c. search needs) (λ c. search needs) has-room-requires returns-2 (λ c. search needs)
+    (λ c. search needs) returns-3 returns-4)

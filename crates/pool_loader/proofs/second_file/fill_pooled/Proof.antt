@@ -1,4 +1,4 @@
--- `pool_lists::fill_pooled` meets its contract.
+-- `pool_loader::second_file::fill_pooled` meets its contract.
 use Prim.Native.Nat.{ℕ}
 use lib.ListN.{length-replicate}
 use Rattle.tag_index.specs.Index.{indexRoom}
@@ -72,16 +72,5 @@ returns c =
 pub fill-pooled-spec : {M : Type 1} → statement M
 fill-pooled-spec =
     tie.close
-    (tie.spec
-    rank-ids-requires
-    fill-tags-requires
-    fill-side-requires
-    fill-right-requires
-    same-length
-    same-length-2
-    same-length-3
-    same-length-4
-    same-length-5
-    same-length-6
-    same-length-7
-    returns)
+    (tie.spec rank-ids-requires fill-tags-requires fill-side-requires fill-right-requires same-length same-length-2
+    same-length-3 same-length-4 same-length-5 same-length-6 same-length-7 returns)

@@ -1,15 +1,9 @@
--- `pool_lists::judge` meets its contract: by the first file, or by both.
+-- `pool_loader::second_file::judge` meets its contract: by the first file, or by both.
 use Rattle.pool_scan.proofs.right_slots.Accepted.{slottable}
 use Rattle.pool_loader.proofs.second_file.Answers.{first-taken, first-refused, second-limited, second-decided}
 use borrow.Author.Needs.{needs}
 use Rattle.pool_loader.proofs.second_file.judge.Statement.{statement}
 use Rattle.pool_loader.proofs.second_file.judge.Tie as tie
-
-enum-known-answer : tie.Need-enum-known-answer
-enum-known-answer c = search needs
-
-enum-told : tie.Need-enum-told
-enum-told c = search needs
 
 returns : tie.Need-returns
 returns c lent lengths =
@@ -63,11 +57,5 @@ returns-2 c lent lengths =
 pub judge-spec : {M : Type 1} → statement M
 judge-spec =
     tie.close
-    (tie.spec
-    enum-known-answer
-    enum-told
-    returns
-    index-right-requires
-    scan-second-requires
-    decide-requires
+    (tie.spec (λ c. search needs) (λ c. search needs) returns index-right-requires scan-second-requires decide-requires
     returns-2)

@@ -1,4 +1,4 @@
--- `pool_lists::pool_second` meets its contract: by the ends of a call.
+-- `pool_loader::second_file::pool_second` meets its contract: by the ends of a call.
 use mathlib.Core.Path.{refl, sym, _∙_}
 use Prim.Native.Nat.{ℕ}
 use lib.ListN.{length-replicate}
@@ -26,15 +26,6 @@ judge-requires c κs =
       counts-size = length-replicate {A = ℕ} blocks 0;
       slots-size = length-replicate {A = ℕ} maxSets 0;
     }
-
-enum-known-judged : tie.Need-enum-known-judged
-enum-known-judged c = search needs
-
-enum-told : tie.Need-enum-told
-enum-told c = search needs
-
-clear-lists-requires : tie.Need-clear-lists-requires
-clear-lists-requires c κs = search needs
 
 -- where `clear_lists` has come back
 abbrev cleared : tie.After-slice-known14 → tie.After-clear-lists
@@ -114,25 +105,6 @@ returns-2 c =
 pub pool-second-spec : {M : Type 1} → statement M
 pool-second-spec =
     tie.close
-    (tie.spec
-    judge-requires
-    enum-known-judged
-    enum-told
-    clear-lists-requires
-    same-length
-    same-length-2
-    same-length-3
-    same-length-4
-    same-length-5
-    same-length-6
-    same-length-7
-    returns
-    fill-pooled-requires
-    same-length-8
-    same-length-9
-    same-length-10
-    same-length-11
-    same-length-12
-    same-length-13
-    same-length-14
-    returns-2)
+    (tie.spec judge-requires (λ c. search needs) (λ c. search needs) (λ c κs. search needs) same-length same-length-2
+    same-length-3 same-length-4 same-length-5 same-length-6 same-length-7 returns fill-pooled-requires same-length-8
+    same-length-9 same-length-10 same-length-11 same-length-12 same-length-13 same-length-14 returns-2)

@@ -1,4 +1,4 @@
--- `right_slots::count_blocks` meets its contract. The invariant: the blocks passed have their counts, and the total is that of the next
+-- `pool_scan::right_slots::count_blocks` meets its contract. The invariant: the blocks passed have their counts, and the total is that of the next
 -- (`Counting`). The measure is how many blocks are left.
 use mathlib.Core.Path.{sym, _∙_}
 use Prim.Native.Nat.{_-_}
@@ -41,9 +41,6 @@ add-total c =
 add-b : tie.Need-add-b Inv-loop μ-loop
 add-b c = record { fits = omega (arith, c .before .before .loop .inv .within) }
 
-loop-less : tie.Need-loop-less Inv-loop μ-loop
-loop-less c = omega arith
-
 loop-again : tie.Need-loop-again Inv-loop μ-loop
 loop-again c =
     let at-loop = c .before .before in
@@ -61,17 +58,5 @@ returns c =
 pub count-blocks-spec : {M : Type 1} → statement M
 count-blocks-spec =
     tie.close
-    (tie.spec
-    Inv-loop
-    μ-loop
-    loop-holds
-    cast-counts
-    mul-counts
-    slice-write-counts
-    block-ones-requires
-    add-total
-    add-b
-    loop-less
-    loop-again
-    same-length
-    returns)
+    (tie.spec Inv-loop μ-loop loop-holds cast-counts mul-counts slice-write-counts block-ones-requires add-total add-b
+    (λ c. omega arith) loop-again same-length returns)

@@ -1,4 +1,4 @@
--- `right_slots::note_numbers` meets its contract. The invariant: the numbers of the right sets seen are the members (`Noting`). The
+-- `pool_scan::right_slots::note_numbers` meets its contract. The invariant: the numbers of the right sets seen are the members (`Noting`). The
 -- measure is how many bytes are left.
 use mathlib.Core.Path.{_≡_, sym, _∙_}
 use Prim.Native.Nat.{_-_, _<_}
@@ -87,18 +87,5 @@ loop-again-2 c =
 pub note-numbers-spec : {M : Type 1} → statement M
 note-numbers-spec =
     tie.close
-    (tie.spec
-    Inv-loop
-    μ-loop
-    loop-holds
-    read-record-requires
-    enum-known-answer
-    same-length
-    returns
-    is-side-requires
-    loop-less
-    loop-again
-    cast-insert
-    insert-requires
-    loop-less-2
-    loop-again-2)
+    (tie.spec Inv-loop μ-loop loop-holds read-record-requires enum-known-answer same-length returns is-side-requires loop-less
+    loop-again cast-insert insert-requires loop-less-2 loop-again-2)

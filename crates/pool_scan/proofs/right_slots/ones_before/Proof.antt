@@ -1,22 +1,10 @@
--- `right_slots::ones_before` meets its contract: the product takes the first word or nothing.
+-- `pool_scan::right_slots::ones_before` meets its contract: the product takes the first word or nothing.
 use native.Mathlib.Omega.{arith}
 use borrow.Author.Needs.{needs}
 use Rattle.bit_sets.proofs.Counted.{ones-bound}
 use Rattle.pool_scan.proofs.right_slots.Counted.{product-fits, block-before}
 use Rattle.pool_scan.proofs.right_slots.ones_before.Statement.{statement}
 use Rattle.pool_scan.proofs.right_slots.ones_before.Tie as tie
-
-sub-ones-of : tie.Need-sub-ones-of
-sub-ones-of c = search needs
-
-mul-ones-of : tie.Need-mul-ones-of
-mul-ones-of c = search needs
-
-shared-slice-read-ones-of : tie.Need-shared-slice-read-ones-of
-shared-slice-read-ones-of c = search needs
-
-ones-of-requires : tie.Need-ones-of-requires
-ones-of-requires c κs = search needs
 
 mul-result : tie.Need-mul-result
 mul-result c =
@@ -30,10 +18,4 @@ returns c =
 pub ones-before-spec : {M : Type 1} → statement M
 ones-before-spec =
     tie.close
-    (tie.spec
-    sub-ones-of
-    mul-ones-of
-    shared-slice-read-ones-of
-    ones-of-requires
-    mul-result
-    returns)
+    (tie.spec (λ c. search needs) (λ c. search needs) (λ c. search needs) (λ c κs. search needs) mul-result returns)

@@ -1,4 +1,4 @@
--- `right_slots::put_places` meets its contract. The invariant: the right sets seen have their places in their slots (`Placing`). The
+-- `pool_scan::right_slots::put_places` meets its contract. The invariant: the right sets seen have their places in their slots (`Placing`). The
 -- measure is how many bytes are left.
 use mathlib.Core.Path.{_≡_, sym, subst, _∙_}
 use mathlib.Core.Bool.{true}
@@ -129,20 +129,5 @@ loop-again-2 c =
 pub put-places-spec : {M : Type 1} → statement M
 put-places-spec =
     tie.close
-    (tie.spec
-    Inv-loop
-    μ-loop
-    loop-holds
-    read-record-requires
-    enum-known-answer
-    same-length
-    returns
-    is-side-requires
-    loop-less
-    loop-again
-    slot-of-requires
-    cast-slots
-    mul-slots
-    slice-write-slots
-    loop-less-2
-    loop-again-2)
+    (tie.spec Inv-loop μ-loop loop-holds read-record-requires enum-known-answer same-length returns is-side-requires loop-less
+    loop-again slot-of-requires cast-slots mul-slots slice-write-slots loop-less-2 loop-again-2)

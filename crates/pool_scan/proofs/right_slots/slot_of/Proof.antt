@@ -1,4 +1,4 @@
--- `right_slots::slot_of` meets its contract: the used numbers below are those before the block, those of the block before the word, and
+-- `pool_scan::right_slots::slot_of` meets its contract: the used numbers below are those before the block, those of the block before the word, and
 -- those of the word below the number (`slot-parts`). A slot is at most its number, so that the sums fit.
 use mathlib.Core.Path.{_≡_}
 use Prim.Native.Nat.{_+_, _*_, _/_}
@@ -9,12 +9,6 @@ use Rattle.pool_scan.specs.right_slots.Slots.{slotOf}
 use Rattle.pool_scan.proofs.right_slots.Counted.{slot-bound, slot-parts}
 use Rattle.pool_scan.proofs.right_slots.slot_of.Statement.{statement}
 use Rattle.pool_scan.proofs.right_slots.slot_of.Tie as tie
-
-mul-start : tie.Need-mul-start
-mul-start c = search needs
-
-shared-slice-read-start : tie.Need-shared-slice-read-start
-shared-slice-read-start c = search needs
 
 cast-start : tie.Need-cast-start
 cast-start c =
@@ -29,18 +23,6 @@ cast-start c =
         slot-bound (a .used .now) (128 * block),
       );
     }
-
-ones-before-requires : tie.Need-ones-before-requires
-ones-before-requires c κs = search needs
-
-mul-ones-below : tie.Need-mul-ones-below
-mul-ones-below c = search needs
-
-shared-slice-read-ones-below : tie.Need-shared-slice-read-ones-below
-shared-slice-read-ones-below c = search needs
-
-ones-below-requires : tie.Need-ones-below-requires
-ones-below-requires c κs = search needs
 
 -- the sum is the slot
 total : (c : tie.After-ones-below)
@@ -70,14 +52,5 @@ returns c = total c
 pub slot-of-spec : {M : Type 1} → statement M
 slot-of-spec =
     tie.close
-    (tie.spec
-    mul-start
-    shared-slice-read-start
-    cast-start
-    ones-before-requires
-    mul-ones-below
-    shared-slice-read-ones-below
-    ones-below-requires
-    add-result
-    add-result-2
-    returns)
+    (tie.spec (λ c. search needs) (λ c. search needs) cast-start (λ c κs. search needs) (λ c. search needs)
+    (λ c. search needs) (λ c κs. search needs) add-result add-result-2 returns)

@@ -1,13 +1,10 @@
--- `pool_union::add_alone` meets its contract.
+-- `pool_scan::union::add_alone` meets its contract.
 use mathlib.Core.Path.{refl}
 use mathlib.Core.List.{[]}
 use Rattle.pool_scan.proofs.union.Uniting.{start-adding, start-some, start-room, taken-alone}
 use borrow.Author.Needs.{needs}
 use Rattle.pool_scan.proofs.union.add_alone.Statement.{statement}
 use Rattle.pool_scan.proofs.union.add_alone.Tie as tie
-
-slice-aggregate-add-tags : tie.Need-slice-aggregate-add-tags
-slice-aggregate-add-tags c = search needs
 
 add-tags-requires : tie.Need-add-tags-requires
 add-tags-requires c κs =
@@ -24,4 +21,4 @@ returns c =
     }
 
 pub add-alone-spec : {M : Type 1} → statement M
-add-alone-spec = tie.close (tie.spec slice-aggregate-add-tags add-tags-requires returns)
+add-alone-spec = tie.close (tie.spec (λ c. search needs) add-tags-requires returns)

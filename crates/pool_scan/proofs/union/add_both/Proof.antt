@@ -1,4 +1,4 @@
--- `pool_union::add_both` meets its contract: the tags of the first file's record are known, so that there is room for the second's.
+-- `pool_scan::union::add_both` meets its contract: the tags of the first file's record are known, so that there is room for the second's.
 use mathlib.Core.Path.{refl}
 use mathlib.Core.List.{[]}
 use Rattle.tag_file.specs.Reading.{tagsAt}
@@ -7,15 +7,6 @@ use Rattle.pool_scan.proofs.union.Uniting.{next-some, next-room, both-f
 use borrow.Author.Needs.{needs}
 use Rattle.pool_scan.proofs.union.add_both.Statement.{statement}
 use Rattle.pool_scan.proofs.union.add_both.Tie as tie
-
-slice-aggregate-add-first : tie.Need-slice-aggregate-add-first
-slice-aggregate-add-first c = search needs
-
-add-first-requires : tie.Need-add-first-requires
-add-first-requires c κs = search needs
-
-slice-aggregate-add-beside : tie.Need-slice-aggregate-add-beside
-slice-aggregate-add-beside c = search needs
 
 add-beside-requires : tie.Need-add-beside-requires
 add-beside-requires c κs =
@@ -46,11 +37,4 @@ returns c =
     }
 
 pub add-both-spec : {M : Type 1} → statement M
-add-both-spec =
-    tie.close
-    (tie.spec
-    slice-aggregate-add-first
-    add-first-requires
-    slice-aggregate-add-beside
-    add-beside-requires
-    returns)
+add-both-spec = tie.close (tie.spec (λ c. search needs) (λ c κs. search needs) (λ c. search needs) add-beside-requires returns)

@@ -1,4 +1,4 @@
--- `pool_union::add_first` meets its contract: where a record is at the place, its tags were added.
+-- `pool_scan::union::add_first` meets its contract: where a record is at the place, its tags were added.
 use mathlib.Core.Path.{_≡_, sym, _∙_}
 use mathlib.Core.List.{[]}
 use Prim.Native.Nat.{ℕ}
@@ -8,12 +8,6 @@ use Rattle.pool_scan.proofs.union.Uniting.{start-adding, start-some, st
 use borrow.Author.Needs.{needs}
 use Rattle.pool_scan.proofs.union.add_first.Statement.{statement}
 use Rattle.pool_scan.proofs.union.add_first.Tie as tie
-
-read-record-requires : tie.Need-read-record-requires
-read-record-requires c κs = search needs
-
-enum-known-answer : tie.Need-enum-known-answer
-enum-known-answer c = search needs
 
 add-tags-requires : tie.Need-add-tags-requires
 add-tags-requires c κs =
@@ -25,15 +19,6 @@ add-tags-requires c κs =
       start-room (p .0) file _ _ (omega (arith, read-past file at e, read-within file at e))
           (read-count file at e (λ i. c .before .before .before .before .before .before .before .before .before .before .shared-slice-known .given i .fits)),
     )
-
-enum-told : tie.Need-enum-told
-enum-told c = search needs
-
-enum-told-2 : tie.Need-enum-told-2
-enum-told-2 c = search needs
-
-same-length : tie.Need-same-length
-same-length c = search needs
 
 returns : tie.Need-returns
 returns c =
@@ -54,13 +39,5 @@ returns-3 c =
 pub add-first-spec : {M : Type 1} → statement M
 add-first-spec =
     tie.close
-    (tie.spec
-    read-record-requires
-    enum-known-answer
-    add-tags-requires
-    enum-told
-    enum-told-2
-    same-length
-    returns
-    returns-2
-    returns-3)
+    (tie.spec (λ c κs. search needs) (λ c. search needs) add-tags-requires (λ c. search needs) (λ c. search needs)
+    (λ c. search needs) returns returns-2 returns-3)

@@ -1,4 +1,4 @@
--- `pool_union::unite` meets its contract: by whether the first file has the number.
+-- `pool_scan::union::unite` meets its contract: by whether the first file has the number.
 use mathlib.Core.Path.{_≡_, refl, sym, ap, subst, _∙_}
 use Prim.Native.Nat.{ℕ, _+_, _<_}
 use native.Mathlib.Omega.{arith}
@@ -38,12 +38,6 @@ there-at a {count} {tags} there =
     let s = a .before .before .before .before .before .before .before .before .args in
     subst (λ (k : ℕ). RecordThere (s .first .now) (getD (s .slots .now) k 0) count tags) (sym (a .slot-of .ensures)) there
 
-contains-requires : tie.Need-contains-requires
-contains-requires c κs = search needs
-
-add-alone-requires : tie.Need-add-alone-requires
-add-alone-requires c κs = search needs
-
 returns : tie.Need-returns
 returns c =
     let at-if = c .before .before .before .before .before in
@@ -56,9 +50,6 @@ returns c =
       met = λ e. true-false e out;
       noted = λ e. true-false e out;
     }
-
-slot-of-requires : tie.Need-slot-of-requires
-slot-of-requires c κs = search needs
 
 mul-at : tie.Need-mul-at
 mul-at c =
@@ -77,12 +68,6 @@ add-both-requires c κs =
     let p = c .before .before .before .before .before .before .before .before .before .before .before .before .before .pre in
     (p .index, (p .tags-inside, known (c .before .before .before .before .before)))
 
-cast-slots : tie.Need-cast-slots
-cast-slots c = search needs
-
-add-slots : tie.Need-add-slots
-add-slots c = search needs
-
 mul-slots : tie.Need-mul-slots
 mul-slots c =
     let below = slot-small (c .before .before .before .before .before .before .before) in omega (arith, below)
@@ -90,9 +75,6 @@ mul-slots c =
 slice-write-slots : tie.Need-slice-write-slots
 slice-write-slots c =
     let below = slot-small (c .before .before .before .before .before .before .before) in omega (arith, below, c .before .before .before .before .before .before .before .before .before .before .before .before .before .before .before .pre .size)
-
-same-length : tie.Need-same-length
-same-length c = search needs
 
 returns-2 : tie.Need-returns-2
 returns-2 c =
@@ -110,18 +92,5 @@ returns-2 c =
 pub unite-spec : {M : Type 1} → statement M
 unite-spec =
     tie.close
-    (tie.spec
-    contains-requires
-    add-alone-requires
-    returns
-    slot-of-requires
-    mul-at
-    slice-read-at
-    cast-at
-    add-both-requires
-    cast-slots
-    add-slots
-    mul-slots
-    slice-write-slots
-    same-length
-    returns-2)
+    (tie.spec (λ c κs. search needs) (λ c κs. search needs) returns (λ c κs. search needs) mul-at slice-read-at cast-at
+    add-both-requires (λ c. search needs) (λ c. search needs) mul-slots slice-write-slots (λ c. search needs) returns-2)

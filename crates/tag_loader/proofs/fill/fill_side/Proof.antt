@@ -1,4 +1,4 @@
--- `tag_fill::fill_side` meets its contract. The invariant: what is written of each list and what the records still to come give
+-- `tag_loader::fill::fill_side` meets its contract. The invariant: what is written of each list and what the records still to come give
 -- are together what is wanted, and no item is marked (`SideFilling`). The measure is how many bytes are left.
 use mathlib.Core.Path.{_≡_, refl, sym, _∙_}
 use mathlib.Core.List.{[]}
@@ -138,22 +138,6 @@ loop-again-2 c =
 pub fill-side-spec : {M : Type 1} → statement M
 fill-side-spec =
     tie.close
-    (tie.spec
-    Inv-loop
-    μ-loop
-    loop-holds
-    read-record-requires
-    enum-known-answer
-    same-length
-    same-length-2
-    same-length-3
-    returns
-    is-side-requires
-    loop-less
-    loop-again
-    slice-aggregate-mark-tags
-    mark-tags-requires
-    slice-aggregate-put-record
-    put-record-requires
-    loop-less-2
-    loop-again-2)
+    (tie.spec Inv-loop μ-loop loop-holds read-record-requires enum-known-answer same-length same-length-2 same-length-3
+    returns is-side-requires loop-less loop-again slice-aggregate-mark-tags mark-tags-requires slice-aggregate-put-record
+    put-record-requires loop-less-2 loop-again-2)

@@ -1,4 +1,4 @@
--- `load_lists::has_room` meets its contract.
+-- `tag_loader::lent_lists::has_room` meets its contract.
 use mathlib.Core.Path.{_≡_, sym, _∙_}
 use mathlib.Core.Bool.{Bool, true, false, not, _&&_}
 use Prim.Native.Nat.{_*_}
@@ -8,16 +8,10 @@ use borrow.Author.Needs.{needs}
 use Rattle.tag_loader.proofs.lent_lists.has_room.Statement.{statement}
 use Rattle.tag_loader.proofs.lent_lists.has_room.Tie as tie
 
-mul-if1 : tie.Need-mul-if1
-mul-if1 c = search needs
-
 returns : tie.Need-returns
 returns c =
     let a = c .before .before .args in
     rw (lt-leb (tagLength * a .total .tags) (a .tags) (c .if1 .taken))
-
-side-fits-requires : tie.Need-side-fits-requires
-side-fits-requires c κs = search needs
 
 -- the left lists are too short, or the right ones decide
 left-short : {a left b : Bool} (right : Bool) → a ≡ true → b ≡ left → not b ≡ true → false ≡ (a && (left && right))
@@ -32,9 +26,6 @@ returns-2 c =
     left-short _ (le-leb (tagLength * a .total .tags) (a .tags) (c .before .before .if1 .left))
     (c .before .side-fits .ensures) (c .if2 .taken)
 
-side-fits-requires-2 : tie.Need-side-fits-requires-2
-side-fits-requires-2 c κs = search needs
-
 returns-3 : tie.Need-returns-3
 returns-3 c =
     let at-if1 = c .before .before .before in
@@ -45,4 +36,4 @@ returns-3 c =
 pub has-room-spec : {M : Type 1} → statement M
 has-room-spec =
     tie.close
-    (tie.spec mul-if1 returns side-fits-requires returns-2 side-fits-requires-2 returns-3)
+    (tie.spec (λ c. search needs) returns (λ c κs. search needs) returns-2 (λ c κs. search needs) returns-3)

@@ -1,4 +1,4 @@
--- `load_lists::side_fits` meets its contract.
+-- `tag_loader::lent_lists::side_fits` meets its contract.
 use borrow.Author.Tests.{le-leb, lt-leb}
 use Rattle.tag_loader.proofs.lent_lists.side_fits.Statement.{statement}
 use Rattle.tag_loader.proofs.lent_lists.side_fits.Tie as tie

@@ -1,4 +1,4 @@
--- `tag_table::fill_tags` meets its contract. The invariant: the tags written and those still to come are together the table
+-- `tag_loader::tag_table::fill_tags` meets its contract. The invariant: the tags written and those still to come are together the table
 -- (`Writing`). The measure is how many are left.
 use mathlib.Core.Path.{sym, ap}
 use Prim.Native.Nat.{_+_, _-_, _<_, _≤_}
@@ -69,14 +69,6 @@ put-tag-requires c κs =
     let room = writing-room (at-loop .loop .inv .0) (bytesOf tagLength (getD table i 0)) (tagBytes (drop (i + 1) table)) next in
     omega (arith, room, length-bytesOf tagLength (getD table i 0))
 
-add-i : tie.Need-add-i Inv-loop μ-loop
-add-i c =
-    omega arith
-
-loop-less : tie.Need-loop-less Inv-loop μ-loop
-loop-less c =
-    omega arith
-
 loop-again : tie.Need-loop-again Inv-loop μ-loop
 loop-again c =
     let test = c .before .before .before .before .before .before .before in
@@ -106,20 +98,5 @@ returns c =
 pub fill-tags-spec : {M : Type 1} → statement M
 fill-tags-spec =
     tie.close
-    (tie.spec
-    Inv-loop
-    μ-loop
-    loop-holds
-    mul-id
-    element-copy-out-id
-    cast-id
-    mul-put-tag
-    element-copy-out-put-tag
-    mul-put-tag-2
-    element-copy-out-put-tag-2
-    put-tag-requires
-    add-i
-    loop-less
-    loop-again
-    same-length
-    returns)
+    (tie.spec Inv-loop μ-loop loop-holds mul-id element-copy-out-id cast-id mul-put-tag element-copy-out-put-tag mul-put-tag-2
+    element-copy-out-put-tag-2 put-tag-requires (λ c. omega arith) (λ c. omega arith) loop-again same-length returns)

@@ -1,4 +1,4 @@
--- `tag_table::put_number` meets its contract. The invariant: with the bytes still to come the whole number is written
+-- `tag_loader::tag_table::put_number` meets its contract. The invariant: with the bytes still to come the whole number is written
 -- (`PuttingBytes`). The measure is how many bytes are left.
 use native.Mathlib.Omega.{arith}
 use Rattle.tag_loader.proofs.tag_table.TableBytes.{PuttingBytes, putting-start, putting-step, putting-end}
@@ -17,14 +17,6 @@ loop-holds : tie.Need-loop-holds Inv-loop μ-loop
 loop-holds c =
     putting-start (c .args .tags .now) (c .args .at) (c .args .width) (c .args .number)
 
-sub-left : tie.Need-sub-left Inv-loop μ-loop
-sub-left c =
-    omega arith
-
-cast-tags : tie.Need-cast-tags Inv-loop μ-loop
-cast-tags c =
-    omega arith
-
 add-tags : tie.Need-add-tags Inv-loop μ-loop
 add-tags c =
     omega (arith, c .before .loop .inv .within, c .before .before .pre)
@@ -32,10 +24,6 @@ add-tags c =
 slice-write-tags : tie.Need-slice-write-tags Inv-loop μ-loop
 slice-write-tags c =
     omega (arith, c .before .loop .inv .within, c .before .loop .inv .same, c .before .before .pre)
-
-loop-less : tie.Need-loop-less Inv-loop μ-loop
-loop-less c =
-    omega arith
 
 loop-again : tie.Need-loop-again Inv-loop μ-loop
 loop-again c =
@@ -56,16 +44,5 @@ returns c =
 pub put-number-spec : {M : Type 1} → statement M
 put-number-spec =
     tie.close
-    (tie.spec
-    Inv-loop
-    μ-loop
-    loop-holds
-    sub-left
-    cast-tags
-    add-tags
-    slice-write-tags
-    loop-less
-    loop-again
-    add-result
-    same-length
-    returns)
+    (tie.spec Inv-loop μ-loop loop-holds (λ c. omega arith) (λ c. omega arith) add-tags slice-write-tags (λ c. omega arith)
+    loop-again add-result same-length returns)

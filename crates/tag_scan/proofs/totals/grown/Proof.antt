@@ -1,25 +1,7 @@
--- `load_totals::grown` meets its contract.
+-- `tag_scan::totals::grown` meets its contract.
 use borrow.Author.Needs.{needs}
 use Rattle.tag_scan.proofs.totals.grown.Statement.{statement}
 use Rattle.tag_scan.proofs.totals.grown.Tie as tie
-
-enum-told : tie.Need-enum-told
-enum-told c = search needs
-
-add-t5 : tie.Need-add-t5
-add-t5 c = search needs
-
-add-t6 : tie.Need-add-t6
-add-t6 c = search needs
-
-enum-told-2 : tie.Need-enum-told-2
-enum-told-2 c = search needs
-
-add-t7 : tie.Need-add-t7
-add-t7 c = search needs
-
-add-t8 : tie.Need-add-t8
-add-t8 c = search needs
 
 returns : tie.Need-returns
 returns c =
@@ -31,4 +13,6 @@ returns-2 c =
 
 pub grown-spec : {M : Type 1} → statement M
 grown-spec =
-    tie.close (tie.spec enum-told add-t5 add-t6 enum-told-2 add-t7 add-t8 returns returns-2)
+    tie.close
+    (tie.spec (λ c. search needs) (λ c. search needs) (λ c. search needs) (λ c. search needs) (λ c. search needs)
+    (λ c. search needs) returns returns-2)

@@ -1,19 +1,7 @@
--- `load_totals::is_over` meets its contract.
+-- `tag_scan::totals::is_over` meets its contract.
 use borrow.Author.Needs.{needs}
 use Rattle.tag_scan.proofs.totals.is_over.Statement.{statement}
 use Rattle.tag_scan.proofs.totals.is_over.Tie as tie
-
-enum-told : tie.Need-enum-told
-enum-told c = search needs
-
-is-past-requires : tie.Need-is-past-requires
-is-past-requires c κs = search needs
-
-enum-told-2 : tie.Need-enum-told-2
-enum-told-2 c = search needs
-
-is-past-requires-2 : tie.Need-is-past-requires-2
-is-past-requires-2 c κs = search needs
 
 returns : tie.Need-returns
 returns c =
@@ -26,4 +14,4 @@ returns-2 c =
 pub is-over-spec : {M : Type 1} → statement M
 is-over-spec =
     tie.close
-    (tie.spec enum-told is-past-requires enum-told-2 is-past-requires-2 returns returns-2)
+    (tie.spec (λ c. search needs) (λ c κs. search needs) (λ c. search needs) (λ c κs. search needs) returns returns-2)

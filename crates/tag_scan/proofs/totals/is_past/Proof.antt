@@ -1,4 +1,4 @@
--- `load_totals::is_past` meets its contract.
+-- `tag_scan::totals::is_past` meets its contract.
 use borrow.Author.Tests.{lt-ltb, le-ltb}
 use Rattle.sets.specs.Limits.{maxSets, maxEntries}
 use Rattle.tag_scan.proofs.totals.is_past.Statement.{statement}

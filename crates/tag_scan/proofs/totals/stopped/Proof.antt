@@ -1,16 +1,7 @@
--- `load_totals::stopped` meets its contract.
+-- `tag_scan::totals::stopped` meets its contract.
 use borrow.Author.Needs.{needs}
 use Rattle.tag_scan.proofs.totals.stopped.Statement.{statement}
 use Rattle.tag_scan.proofs.totals.stopped.Tie as tie
-
-enum-known-answer : tie.Need-enum-known-answer
-enum-known-answer c = search needs
-
-enum-told : tie.Need-enum-told
-enum-told c = search needs
-
-enum-told-2 : tie.Need-enum-told-2
-enum-told-2 c = search needs
 
 returns : tie.Need-returns
 returns c =
@@ -25,5 +16,4 @@ returns-3 c =
     rw (c .enum-told2 .given .1)
 
 pub stopped-spec : {M : Type 1} → statement M
-stopped-spec =
-    tie.close (tie.spec enum-known-answer enum-told enum-told-2 returns returns-2 returns-3)
+stopped-spec = tie.close (tie.spec (λ c. search needs) (λ c. search needs) (λ c. search needs) returns returns-2 returns-3)

@@ -23,50 +23,14 @@ four-stores tags from file at whole =
     stores file at (getD tags from 0) (getD tags (from + 1) 0) (getD tags (from + 2) 0) (getD tags (from + 3) 0)
     ∙ ap (sets file at) (sym (four-bytes tags from whole))
 
-shared-slice-read-a : tie.Need-shared-slice-read-a
-shared-slice-read-a c = search needs
-
-add-b : tie.Need-add-b
-add-b c = search needs
-
-shared-slice-read-b : tie.Need-shared-slice-read-b
-shared-slice-read-b c = search needs
-
-add-c : tie.Need-add-c
-add-c c = search needs
-
-shared-slice-read-c : tie.Need-shared-slice-read-c
-shared-slice-read-c c = search needs
-
-add-d : tie.Need-add-d
-add-d c = search needs
-
-shared-slice-read-d : tie.Need-shared-slice-read-d
-shared-slice-read-d c = search needs
-
-slice-write-file : tie.Need-slice-write-file
-slice-write-file c = search needs
-
-add-file : tie.Need-add-file
-add-file c = search needs
-
 slice-write-file-2 : tie.Need-slice-write-file-2
 slice-write-file-2 c = simp length-set (omega arith)
-
-add-file-2 : tie.Need-add-file-2
-add-file-2 c = search needs
 
 slice-write-file-3 : tie.Need-slice-write-file-3
 slice-write-file-3 c = simp length-set (omega arith)
 
-add-file-3 : tie.Need-add-file-3
-add-file-3 c = search needs
-
 slice-write-file-4 : tie.Need-slice-write-file-4
 slice-write-file-4 c = simp length-set (omega arith)
-
-same-length : tie.Need-same-length
-same-length c = search needs
 
 returns : tie.Need-returns
 returns c =
@@ -76,20 +40,6 @@ returns c =
 pub put-four-spec : {M : Type 1} → statement M
 put-four-spec =
     tie.close
-    (tie.spec
-    shared-slice-read-a
-    add-b
-    shared-slice-read-b
-    add-c
-    shared-slice-read-c
-    add-d
-    shared-slice-read-d
-    slice-write-file
-    add-file
-    slice-write-file-2
-    add-file-2
-    slice-write-file-3
-    add-file-3
-    slice-write-file-4
-    same-length
-    returns)
+    (tie.spec (λ c. search needs) (λ c. search needs) (λ c. search needs) (λ c. search needs) (λ c. search needs)
+    (λ c. search needs) (λ c. search needs) (λ c. search needs) (λ c. search needs) slice-write-file-2 (λ c. search needs)
+    slice-write-file-3 (λ c. search needs) slice-write-file-4 (λ c. search needs) returns)

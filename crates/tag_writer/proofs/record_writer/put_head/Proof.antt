@@ -21,47 +21,17 @@ head-stores side file at number count first second room e₁ e₂ =
     rw (mark-bytes side, ← e₁, ← e₂)
     (simp towards-suc)
 
-first-mark-requires : tie.Need-first-mark-requires
-first-mark-requires c κs = search needs
-
-second-mark-requires : tie.Need-second-mark-requires
-second-mark-requires c κs = search needs
-
-slice-write-file : tie.Need-slice-write-file
-slice-write-file c = search needs
-
-add-file : tie.Need-add-file
-add-file c = search needs
-
 slice-write-file-2 : tie.Need-slice-write-file-2
 slice-write-file-2 c = simp length-set (omega arith)
-
-cast-file : tie.Need-cast-file
-cast-file c = search needs
-
-add-file-2 : tie.Need-add-file-2
-add-file-2 c = search needs
 
 slice-write-file-3 : tie.Need-slice-write-file-3
 slice-write-file-3 c = simp length-set (omega arith)
 
-cast-file-2 : tie.Need-cast-file-2
-cast-file-2 c = search needs
-
-add-file-3 : tie.Need-add-file-3
-add-file-3 c = search needs
-
 slice-write-file-4 : tie.Need-slice-write-file-4
 slice-write-file-4 c = simp length-set (omega arith)
 
-add-file-4 : tie.Need-add-file-4
-add-file-4 c = search needs
-
 slice-write-file-5 : tie.Need-slice-write-file-5
 slice-write-file-5 c = simp length-set (omega arith)
-
-same-length : tie.Need-same-length
-same-length c = search needs
 
 returns : tie.Need-returns
 returns c =
@@ -71,19 +41,6 @@ returns c =
 pub put-head-spec : {M : Type 1} → statement M
 put-head-spec =
     tie.close
-    (tie.spec
-    first-mark-requires
-    second-mark-requires
-    slice-write-file
-    add-file
-    slice-write-file-2
-    cast-file
-    add-file-2
-    slice-write-file-3
-    cast-file-2
-    add-file-3
-    slice-write-file-4
-    add-file-4
-    slice-write-file-5
-    same-length
-    returns)
+    (tie.spec (λ c κs. search needs) (λ c κs. search needs) (λ c. search needs) (λ c. search needs) slice-write-file-2
+    (λ c. search needs) (λ c. search needs) slice-write-file-3 (λ c. search needs) (λ c. search needs) slice-write-file-4
+    (λ c. search needs) slice-write-file-5 (λ c. search needs) returns)

@@ -29,15 +29,6 @@ record-put side number tags items start end file at file′ file″ fit room e�
 sub-count : tie.Need-sub-count
 sub-count c = c .before .before .before .pre .0 .rise
 
-cast-count : tie.Need-cast-count
-cast-count c = omega arith
-
-put-head-requires : tie.Need-put-head-requires
-put-head-requires c κs = omega arith
-
-add-put-tags : tie.Need-add-put-tags
-add-put-tags c = omega arith
-
 put-tags-requires : tie.Need-put-tags-requires
 put-tags-requires c κs =
     let head = c .before .before .before in
@@ -59,11 +50,4 @@ returns c =
 pub put-record-spec : {M : Type 1} → statement M
 put-record-spec =
     tie.close
-    (tie.spec
-    sub-count
-    cast-count
-    put-head-requires
-    add-put-tags
-    put-tags-requires
-    same-length
-    returns)
+    (tie.spec sub-count (λ c. omega arith) (λ c κs. omega arith) (λ c. omega arith) put-tags-requires same-length returns)

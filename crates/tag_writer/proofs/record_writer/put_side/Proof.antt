@@ -120,20 +120,8 @@ within c = c .before .before .before .before .before .before
 loop-holds : tie.Need-loop-holds Inv-loop μ-loop
 loop-holds c = putting-start _ _ _ _ _ _ _ (c .before .before .before .before .before .pre .0)
 
-mul-end : tie.Need-mul-end Inv-loop μ-loop
-mul-end c = omega arith
-
-shared-slice-read-end : tie.Need-shared-slice-read-end Inv-loop μ-loop
-shared-slice-read-end c = omega arith
-
 cast-end : tie.Need-cast-end Inv-loop μ-loop
 cast-end c = omega (arith, c .shared-slice-known5 .given (c .before .before .loop .k))
-
-mul-number : tie.Need-mul-number Inv-loop μ-loop
-mul-number c = omega arith
-
-shared-slice-read-number : tie.Need-shared-slice-read-number Inv-loop μ-loop
-shared-slice-read-number c = omega arith
 
 put-record-requires : tie.Need-put-record-requires Inv-loop μ-loop
 put-record-requires c κs =
@@ -150,12 +138,6 @@ add-to : tie.Need-add-to Inv-loop μ-loop
 add-to c =
     let p = within (c .before) in
     omega (arith, c .record-length .ensures, now-turn p .room, begin p .good)
-
-add-k : tie.Need-add-k Inv-loop μ-loop
-add-k c = omega arith
-
-loop-less : tie.Need-loop-less Inv-loop μ-loop
-loop-less c = omega arith
 
 loop-again : tie.Need-loop-again Inv-loop μ-loop
 loop-again c =
@@ -174,21 +156,6 @@ returns c =
 pub put-side-spec : {M : Type 1} → statement M
 put-side-spec =
     tie.close
-    (tie.spec
-    Inv-loop
-    μ-loop
-    loop-holds
-    mul-end
-    shared-slice-read-end
-    cast-end
-    mul-number
-    shared-slice-read-number
-    put-record-requires
-    sub-record-length
-    record-length-requires
-    add-to
-    add-k
-    loop-less
-    loop-again
-    same-length
-    returns)
+    (tie.spec Inv-loop μ-loop loop-holds (λ c. omega arith) (λ c. omega arith) cast-end (λ c. omega arith) (λ c. omega arith)
+    put-record-requires sub-record-length record-length-requires add-to (λ c. omega arith) (λ c. omega arith) loop-again
+    same-length returns)

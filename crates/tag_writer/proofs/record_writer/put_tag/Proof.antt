@@ -32,30 +32,6 @@ put-fours tags from file at whole room =
     ∙ sets-then (sets file at a) (at + 4) b c 4 second
     ∙ ap (λ (k : ℕ). sets (sets (sets file at a) (at + 4) b) k c) (add-assoc at 4 4))
 
-put-four-requires : tie.Need-put-four-requires
-put-four-requires c κs = search needs
-
-add-put-four : tie.Need-add-put-four
-add-put-four c = search needs
-
-add-put-four-2 : tie.Need-add-put-four-2
-add-put-four-2 c = search needs
-
-put-four-requires-2 : tie.Need-put-four-requires-2
-put-four-requires-2 c κs = search needs
-
-add-put-four-3 : tie.Need-add-put-four-3
-add-put-four-3 c = search needs
-
-add-put-four-4 : tie.Need-add-put-four-4
-add-put-four-4 c = search needs
-
-put-four-requires-3 : tie.Need-put-four-requires-3
-put-four-requires-3 c κs = search needs
-
-same-length : tie.Need-same-length
-same-length c = search needs
-
 returns : tie.Need-returns
 returns c =
     let third = c .before .before in
@@ -72,13 +48,5 @@ returns c =
 pub put-tag-spec : {M : Type 1} → statement M
 put-tag-spec =
     tie.close
-    (tie.spec
-    put-four-requires
-    add-put-four
-    add-put-four-2
-    put-four-requires-2
-    add-put-four-3
-    add-put-four-4
-    put-four-requires-3
-    same-length
-    returns)
+    (tie.spec (λ c κs. search needs) (λ c. search needs) (λ c. search needs) (λ c κs. search needs) (λ c. search needs)
+    (λ c. search needs) (λ c κs. search needs) (λ c. search needs) returns)

@@ -68,12 +68,6 @@ abbrev μ-loop : tie.MeasureT-loop
 loop-holds : tie.Need-loop-holds Inv-loop μ-loop
 loop-holds c = putting-start _ _ _ _ _ _ (c .before .before .before .pre .0 .rise)
 
-mul-from : tie.Need-mul-from Inv-loop μ-loop
-mul-from c = omega arith
-
-shared-slice-read-from : tie.Need-shared-slice-read-from Inv-loop μ-loop
-shared-slice-read-from c = omega arith
-
 cast-from : tie.Need-cast-from Inv-loop μ-loop
 cast-from c = omega (arith, c .shared-slice-known3 .given (c .before .before .loop .i))
 
@@ -87,15 +81,6 @@ put-tag-requires c κs =
     let so = test .before .loop .inv in
     let more = test .loop-test .taken in
     (entry .pre .0 .known _ (so .above) more, omega (arith, so .long, so .place, entry .pre .1, more))
-
-add-to : tie.Need-add-to Inv-loop μ-loop
-add-to c = omega arith
-
-add-i : tie.Need-add-i Inv-loop μ-loop
-add-i c = omega arith
-
-loop-less : tie.Need-loop-less Inv-loop μ-loop
-loop-less c = omega arith
 
 loop-again : tie.Need-loop-again Inv-loop μ-loop
 loop-again c =
@@ -114,18 +99,5 @@ returns c = putting-end _ _ _ _ _ _ _ _ _ (c .loop-test .left) (c .before .loop 
 pub put-tags-spec : {M : Type 1} → statement M
 put-tags-spec =
     tie.close
-    (tie.spec
-    Inv-loop
-    μ-loop
-    loop-holds
-    mul-from
-    shared-slice-read-from
-    cast-from
-    mul-from-2
-    put-tag-requires
-    add-to
-    add-i
-    loop-less
-    loop-again
-    same-length
-    returns)
+    (tie.spec Inv-loop μ-loop loop-holds (λ c. omega arith) (λ c. omega arith) cast-from mul-from-2 put-tag-requires
+    (λ c. omega arith) (λ c. omega arith) (λ c. omega arith) loop-again same-length returns)

@@ -1,4 +1,4 @@
--- `answer_text::put_answer` meets its contract: the counts, the repeats and the pairs one after the other, or the refusal.
+-- `text::answer_text::put_answer` meets its contract: the counts, the repeats and the pairs one after the other, or the refusal.
 use Prim.Native.Nat.{ℕ}
 use mathlib.Core.Path.{refl, sym, subst}
 use mathlib.Core.List.{List}
@@ -18,21 +18,6 @@ start told = told .before .before .before .before .before .before
 abbrev start-refused : tie.After-answer2 → tie.Start
 start-refused told = told .before .before .before .before .before .before
 
-enum-known-answer : tie.Need-enum-known-answer
-enum-known-answer c = search needs
-
-put-counts-requires : tie.Need-put-counts-requires
-put-counts-requires c κs = search needs
-
-put-repeats-requires : tie.Need-put-repeats-requires
-put-repeats-requires c κs = search needs
-
-cast-places : tie.Need-cast-places
-cast-places c = search needs
-
-mul-places : tie.Need-mul-places
-mul-places c = search needs
-
 slice-aggregate-put-pairs : tie.Need-slice-aggregate-put-pairs
 slice-aggregate-put-pairs c =
     let told = c .before .before .before .before .before .before .before .before .before .before .before .before in
@@ -47,15 +32,6 @@ put-pairs-requires c κs =
     let counts = earlier .put-counts in
     lines-room (start told .pre) (told .answer .given .1) _ _ (omega (arith, counts .ensures .1, repeats .ensures .1))
     (omega (arith, repeats .kept .0, counts .kept .0))
-
-enum-known-answer-2 : tie.Need-enum-known-answer-2
-enum-known-answer-2 c = search needs
-
-put-refusal-requires : tie.Need-put-refusal-requires
-put-refusal-requires c κs = search needs
-
-same-length : tie.Need-same-length
-same-length c = search needs
 
 returns : tie.Need-returns
 returns c =
@@ -75,9 +51,6 @@ returns c =
       omega (arith, pairs .ensures .1, room .room),
     )
 
-same-length-2 : tie.Need-same-length-2
-same-length-2 c = search needs
-
 returns-2 : tie.Need-returns-2
 returns-2 c =
     let line = c .before .before .put-refusal in
@@ -92,17 +65,6 @@ returns-2 c =
 pub put-answer-spec : {M : Type 1} → statement M
 put-answer-spec =
     tie.close
-    (tie.spec
-    enum-known-answer
-    put-counts-requires
-    put-repeats-requires
-    cast-places
-    mul-places
-    slice-aggregate-put-pairs
-    put-pairs-requires
-    enum-known-answer-2
-    put-refusal-requires
-    same-length
-    returns
-    same-length-2
-    returns-2)
+    (tie.spec (λ c. search needs) (λ c κs. search needs) (λ c κs. search needs) (λ c. search needs) (λ c. search needs)
+    slice-aggregate-put-pairs put-pairs-requires (λ c. search needs) (λ c κs. search needs) (λ c. search needs) returns
+    (λ c. search needs) returns-2)

@@ -1,4 +1,4 @@
--- `counts_line::put_count` meets its contract: a 32-bit number has at most ten digits.
+-- `text::counts_line::put_count` meets its contract: a 32-bit number has at most ten digits.
 use native.Mathlib.Omega.{arith}
 use borrow.Author.Needs.{needs}
 use Rattle.text.proofs.LineBounds.{count-labelled}
@@ -9,9 +9,6 @@ put-labelled-requires : tie.Need-put-labelled-requires
 put-labelled-requires c κs =
     let start = c .before .before .before in
     omega (arith, start .pre, count-labelled (start .args .word .now) (start .args .count) (start .fits .count .fits))
-
-same-length : tie.Need-same-length
-same-length c = search needs
 
 returns : tie.Need-returns
 returns c =
@@ -26,4 +23,4 @@ returns c =
     )
 
 pub put-count-spec : {M : Type 1} → statement M
-put-count-spec = tie.close (tie.spec put-labelled-requires same-length returns)
+put-count-spec = tie.close (tie.spec put-labelled-requires (λ c. search needs) returns)

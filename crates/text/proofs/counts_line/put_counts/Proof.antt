@@ -1,4 +1,4 @@
--- `counts_line::put_counts` meets its contract: the two halves of the counts.
+-- `text::counts_line::put_counts` meets its contract: the two halves of the counts.
 use Prim.Native.Nat.{ℕ}
 use mathlib.Core.Path.{subst}
 use mathlib.Core.List.{List}
@@ -9,15 +9,6 @@ use Rattle.text.proofs.counts_line.CountHalves.{counts-halves}
 use borrow.Author.Needs.{needs}
 use Rattle.text.proofs.counts_line.put_counts.Statement.{statement}
 use Rattle.text.proofs.counts_line.put_counts.Tie as tie
-
-put-pair-counts-requires : tie.Need-put-pair-counts-requires
-put-pair-counts-requires c κs = search needs
-
-put-check-counts-requires : tie.Need-put-check-counts-requires
-put-check-counts-requires c κs = search needs
-
-same-length : tie.Need-same-length
-same-length c = search needs
 
 returns : tie.Need-returns
 returns c =
@@ -31,5 +22,4 @@ returns c =
     )
 
 pub put-counts-spec : {M : Type 1} → statement M
-put-counts-spec =
-    tie.close (tie.spec put-pair-counts-requires put-check-counts-requires same-length returns)
+put-counts-spec = tie.close (tie.spec (λ c κs. search needs) (λ c κs. search needs) (λ c. search needs) returns)

@@ -1,4 +1,4 @@
--- `number_lines::put_refusal` meets its contract: number and detail are the refusal table's.
+-- `text::number_lines::put_refusal` meets its contract: number and detail are the refusal table's.
 use mathlib.Core.Path.{ap₂, subst}
 use Prim.Native.Nat.{ℕ}
 use mathlib.Core.List.{List}
@@ -7,15 +7,6 @@ use Rattle.lists.specs.Writing.{Put}
 use Rattle.text.specs.Lines.{refusedLine}
 use Rattle.text.proofs.number_lines.put_refusal.Statement.{statement}
 use Rattle.text.proofs.number_lines.put_refusal.Tie as tie
-
-head-of-requires : tie.Need-head-of-requires
-head-of-requires c κs = search needs
-
-put-refused-requires : tie.Need-put-refused-requires
-put-refused-requires c κs = search needs
-
-same-length : tie.Need-same-length
-same-length c = search needs
 
 returns : tie.Need-returns
 returns c =
@@ -28,4 +19,4 @@ returns c =
     )
 
 pub put-refusal-spec : {M : Type 1} → statement M
-put-refusal-spec = tie.close (tie.spec head-of-requires put-refused-requires same-length returns)
+put-refusal-spec = tie.close (tie.spec (λ c κs. search needs) (λ c κs. search needs) (λ c. search needs) returns)

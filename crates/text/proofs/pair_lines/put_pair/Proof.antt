@@ -1,4 +1,4 @@
--- `pair_lines::put_pair` meets its contract: two numbers of at most five digits, with a space between and a line feed behind.
+-- `text::pair_lines::put_pair` meets its contract: two numbers of at most five digits, with a space between and a line feed behind.
 use native.Mathlib.Omega.{arith}
 use borrow.Author.Needs.{needs}
 use Rattle.lists.proofs.Writing.{put-append}
@@ -12,9 +12,6 @@ put-number-requires c κs =
     let start = c .before .before in
     omega (arith, start .pre, short-number (start .args .left) (start .fits .left .fits))
 
-slice-aggregate-put-labelled : tie.Need-slice-aggregate-put-labelled
-slice-aggregate-put-labelled c = search needs
-
 put-labelled-requires : tie.Need-put-labelled-requires
 put-labelled-requires c κs =
     let start = c .before .before .before .before .before .before .before in
@@ -27,9 +24,6 @@ put-labelled-requires c κs =
       short-number (start .args .left) (start .fits .left .fits),
       short-labelled (ascii " ") (start .args .right) (start .fits .right .fits),
     )
-
-slice-aggregate-put-word : tie.Need-slice-aggregate-put-word
-slice-aggregate-put-word c = search needs
 
 put-word-requires : tie.Need-put-word-requires
 put-word-requires c κs =
@@ -46,9 +40,6 @@ put-word-requires c κs =
       short-number (start .args .left) (start .fits .left .fits),
       short-labelled (ascii " ") (start .args .right) (start .fits .right .fits),
     )
-
-same-length : tie.Need-same-length
-same-length c = search needs
 
 returns : tie.Need-returns
 unfolding pairLine
@@ -72,11 +63,5 @@ returns c =
 pub put-pair-spec : {M : Type 1} → statement M
 put-pair-spec =
     tie.close
-    (tie.spec
-    put-number-requires
-    slice-aggregate-put-labelled
-    put-labelled-requires
-    slice-aggregate-put-word
-    put-word-requires
-    same-length
-    returns)
+    (tie.spec put-number-requires (λ c. search needs) put-labelled-requires (λ c. search needs) put-word-requires
+    (λ c. search needs) returns)

@@ -1,4 +1,4 @@
--- `pair_lines::put_pairs` meets its contract. The invariant: what is written is the lines of the pairs before i, those from i on
+-- `text::pair_lines::put_pairs` meets its contract. The invariant: what is written is the lines of the pairs before i, those from i on
 -- are of places that have numbers, and there is room for a line each. The measure is how many places remain.
 use Prim.Native.Nat.{_-_}
 use native.Mathlib.Omega.{arith}
@@ -28,21 +28,12 @@ next : (c : tie.After-shared-slice-known4 Inv-loop μ-loop)
     (c .before .before .loop .i)
 next c = pair-next (c .before .before .loop .inv) (c .before .loop-test .taken)
 
-mul-left : tie.Need-mul-left Inv-loop μ-loop
-mul-left c = search needs
-
 shared-slice-read-left : tie.Need-shared-slice-read-left Inv-loop μ-loop
 shared-slice-read-left c =
     c .before .loop-test .taken
 
 cast-left : tie.Need-cast-left Inv-loop μ-loop
 cast-left c = omega (arith, next c .left)
-
-add-right : tie.Need-add-right Inv-loop μ-loop
-add-right c = search needs
-
-mul-right : tie.Need-mul-right Inv-loop μ-loop
-mul-right c = search needs
 
 shared-slice-read-right : tie.Need-shared-slice-read-right Inv-loop μ-loop
 shared-slice-read-right c =
@@ -69,9 +60,6 @@ put-pair-requires : tie.Need-put-pair-requires Inv-loop μ-loop
 put-pair-requires c κs =
     line-room (c .before .before .before .before .before .before .loop .inv) (c .before .before .before .before .before .loop-test .taken)
 
-add-i : tie.Need-add-i Inv-loop μ-loop
-add-i c = search needs
-
 loop-less : tie.Need-loop-less Inv-loop μ-loop
 loop-less c =
     omega (arith, next (c .before .before .before .before .before .before .before) .whole)
@@ -91,24 +79,6 @@ returns c =
 pub put-pairs-spec : {M : Type 1} → statement M
 put-pairs-spec =
     tie.close
-    (tie.spec
-    Inv-loop
-    μ-loop
-    loop-holds
-    mul-left
-    shared-slice-read-left
-    cast-left
-    add-right
-    mul-right
-    shared-slice-read-right
-    cast-right
-    mul-put-pair
-    shared-slice-read-put-pair
-    mul-put-pair-2
-    shared-slice-read-put-pair-2
-    put-pair-requires
-    add-i
-    loop-less
-    loop-again
-    same-length
-    returns)
+    (tie.spec Inv-loop μ-loop loop-holds (λ c. search needs) shared-slice-read-left cast-left (λ c. search needs)
+    (λ c. search needs) shared-slice-read-right cast-right mul-put-pair shared-slice-read-put-pair mul-put-pair-2
+    shared-slice-read-put-pair-2 put-pair-requires (λ c. search needs) loop-less loop-again same-length returns)

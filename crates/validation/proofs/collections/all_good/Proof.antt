@@ -1,4 +1,4 @@
--- `set_tests::all_good` meets its contract: each early return is a test that a collection without a bad set passes; past them its
+-- `validation::collections::all_good` meets its contract: each early return is a test that a collection without a bad set passes; past them its
 -- falls decide.
 use mathlib.Core.Path.{_≡_, refl, sym, _∙_}
 use mathlib.Core.Bool.{Bool, true, false, _&&_}
@@ -31,9 +31,6 @@ returns-2 c =
     not-good (leb (a .t) maxItems) (firstBad (a .t) (a .ends .now) (a .items .now))
     (λ good. omega (arith, good-places (a .t) (a .ends .now) (a .items .now) good))
 
-good-ends-requires : tie.Need-good-ends-requires
-good-ends-requires c κs = search needs
-
 returns-3 : tie.Need-returns-3
 returns-3 c =
     let a = c .before .before .before .before .before .before .args in
@@ -41,9 +38,6 @@ returns-3 c =
     (λ good.
     true-false (c .before .good-ends .ensures ∙ good-ends (a .t) (a .ends .now) (a .items .now) good)
     (not-true (c .before .good-ends .result) (c .if3 .taken)))
-
-count-entries-requires : tie.Need-count-entries-requires
-count-entries-requires c κs = search needs
 
 returns-4 : tie.Need-returns-4
 returns-4 c =
@@ -57,12 +51,6 @@ returns-5 c =
     not-good (leb (a .t) maxItems) (firstBad (a .t) (a .ends .now) (a .items .now))
     (λ good. omega (arith, c .before .before .count-entries .ensures, good-entries (a .t) (a .ends .now) (a .items .now) good))
 
-cast-count-high : tie.Need-cast-count-high
-cast-count-high c = search needs
-
-count-high-requires : tie.Need-count-high-requires
-count-high-requires c κs = search needs
-
 returns-6 : tie.Need-returns-6
 returns-6 c =
     let a = c .before .before .before .before .before .before .before .before .before .before .before .args in
@@ -71,12 +59,6 @@ returns-6 c =
     (λ good.
     c .if6 .taken
     (c .before .count-high .ensures ∙ good-low (a .t) (n .result) (a .ends .now) (a .items .now) (sym (n .ensures)) good))
-
-count-border-falls-requires : tie.Need-count-border-falls-requires
-count-border-falls-requires c κs = search needs
-
-count-falls-requires : tie.Need-count-falls-requires
-count-falls-requires c κs = search needs
 
 returns-7 : tie.Need-returns-7
 returns-7 c =
@@ -94,17 +76,5 @@ returns-7 c =
 pub all-good-spec : {M : Type 1} → statement M
 all-good-spec =
     tie.close
-    (tie.spec
-    returns
-    returns-2
-    good-ends-requires
-    returns-3
-    count-entries-requires
-    returns-4
-    returns-5
-    cast-count-high
-    count-high-requires
-    returns-6
-    count-border-falls-requires
-    count-falls-requires
-    returns-7)
+    (tie.spec returns returns-2 (λ c κs. search needs) returns-3 (λ c κs. search needs) returns-4 returns-5
+    (λ c. search needs) (λ c κs. search needs) returns-6 (λ c κs. search needs) (λ c κs. search needs) returns-7)

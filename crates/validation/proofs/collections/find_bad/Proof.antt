@@ -1,4 +1,4 @@
--- `set_tests::find_bad` meets its contract. The invariant: the first bad place from k on is the first of all. The measure is how many
+-- `validation::collections::find_bad` meets its contract. The invariant: the first bad place from k on is the first of all. The measure is how many
 -- sets are left.
 use mathlib.Core.Path.{_≡_, refl, sym, _∙_}
 use Prim.Native.Nat.{_-_}
@@ -20,12 +20,6 @@ abbrev μ-loop : tie.MeasureT-loop
 loop-holds : tie.Need-loop-holds Inv-loop μ-loop
 loop-holds c = refl
 
-mul-end : tie.Need-mul-end Inv-loop μ-loop
-mul-end c = omega arith
-
-shared-slice-read-end : tie.Need-shared-slice-read-end Inv-loop μ-loop
-shared-slice-read-end c = omega arith
-
 cast-end : tie.Need-cast-end Inv-loop μ-loop
 cast-end c = omega (arith, c .shared-slice-known3 .given (c .before .before .loop .k))
 
@@ -38,9 +32,6 @@ returns c =
     let bad = bad-place (a .t) k start (getD (a .ends .now) k 0) (a .items .now) (c .if1 .taken) in
     sym (first-bad-stop (a .t) (a .ends .now) (a .items .now) k start (omega arith) bad) ∙ at-loop .loop .inv
 
-good-set-requires : tie.Need-good-set-requires Inv-loop μ-loop
-good-set-requires c κs = search needs
-
 returns-2 : tie.Need-returns-2 Inv-loop μ-loop
 returns-2 c =
     let at-loop = c .before .before .before .before .before in
@@ -50,12 +41,6 @@ returns-2 c =
     let test = sym (c .before .good-set .ensures) ∙ not-true (c .before .good-set .result) (c .if2 .taken) in
     let bad = bad-content (a .t) k start (getD (a .ends .now) k 0) (a .items .now) (omega arith) test in
     sym (first-bad-stop (a .t) (a .ends .now) (a .items .now) k start (omega arith) bad) ∙ at-loop .loop .inv
-
-add-k : tie.Need-add-k Inv-loop μ-loop
-add-k c = omega arith
-
-loop-less : tie.Need-loop-less Inv-loop μ-loop
-loop-less c = omega arith
 
 loop-again : tie.Need-loop-again Inv-loop μ-loop
 loop-again c =
@@ -77,17 +62,5 @@ returns-3 c =
 pub find-bad-spec : {M : Type 1} → statement M
 find-bad-spec =
     tie.close
-    (tie.spec
-    Inv-loop
-    μ-loop
-    loop-holds
-    mul-end
-    shared-slice-read-end
-    cast-end
-    returns
-    good-set-requires
-    returns-2
-    add-k
-    loop-less
-    loop-again
-    returns-3)
+    (tie.spec Inv-loop μ-loop loop-holds (λ c. omega arith) (λ c. omega arith) cast-end returns (λ c κs. search needs)
+    returns-2 (λ c. omega arith) (λ c. omega arith) loop-again returns-3)

@@ -1,4 +1,4 @@
--- `set_tests::first_bad` meets its contract: none is bad where the whole collection passes, else the search tells.
+-- `validation::collections::first_bad` meets its contract: none is bad where the whole collection passes, else the search tells.
 use mathlib.Core.Path.{sym, _∙_}
 use lib.Dec.{leb}
 use Rattle.lists.proofs.Bools.{and-right}
@@ -10,20 +10,11 @@ use borrow.Author.Needs.{needs}
 use Rattle.validation.proofs.collections.first_bad.Statement.{statement}
 use Rattle.validation.proofs.collections.first_bad.Tie as tie
 
-all-good-requires : tie.Need-all-good-requires
-all-good-requires c κs = search needs
-
 returns : tie.Need-returns
 returns c =
     let a = c .before .before .before .before .args in
     let verdict = firstBad (a .t) (a .ends .now) (a .items .now) in
     sym (is-good verdict (and-right (leb (a .t) maxItems) (isGood verdict) (sym (c .before .all-good .ensures) ∙ c .if1 .taken)))
 
-find-bad-requires : tie.Need-find-bad-requires
-find-bad-requires c κs = search needs
-
-returns-2 : tie.Need-returns-2
-returns-2 c = search needs
-
 pub first-bad-spec : {M : Type 1} → statement M
-first-bad-spec = tie.close (tie.spec all-good-requires returns find-bad-requires returns-2)
+first-bad-spec = tie.close (tie.spec (λ c κs. search needs) returns (λ c κs. search needs) (λ c. search needs))

@@ -1,4 +1,4 @@
--- `list_falls::border_fall` meets its contract: an empty part, a border at the end of the list, and else the two numbers beside
+-- `validation::falls::border_fall` meets its contract: an empty part, a border at the end of the list, and else the two numbers beside
 -- it.
 use native.Mathlib.Omega.{arith}
 use borrow.Author.Tests.{lt-ltb, le-ltb}
@@ -17,24 +17,6 @@ returns-2 c =
     let a = c .before .before .before .args in
     rw (lt-ltb (a .start) (a .end) (omega arith), le-ltb (a .end) (a .n) (omega arith))
 
-sub-last : tie.Need-sub-last
-sub-last c = search needs
-
-mul-last : tie.Need-mul-last
-mul-last c = search needs
-
-shared-slice-read-last : tie.Need-shared-slice-read-last
-shared-slice-read-last c = search needs
-
-mul-next : tie.Need-mul-next
-mul-next c = search needs
-
-shared-slice-read-next : tie.Need-shared-slice-read-next
-shared-slice-read-next c = search needs
-
-number-requires : tie.Need-number-requires
-number-requires c κs = search needs
-
 returns-3 : tie.Need-returns-3
 unfolding borderFall
 returns-3 c =
@@ -44,13 +26,5 @@ returns-3 c =
 pub border-fall-spec : {M : Type 1} → statement M
 border-fall-spec =
     tie.close
-    (tie.spec
-    returns
-    returns-2
-    sub-last
-    mul-last
-    shared-slice-read-last
-    mul-next
-    shared-slice-read-next
-    number-requires
-    returns-3)
+    (tie.spec returns returns-2 (λ c. search needs) (λ c. search needs) (λ c. search needs) (λ c. search needs)
+    (λ c. search needs) (λ c κs. search needs) returns-3)

@@ -1,4 +1,4 @@
--- `list_falls::count_border_falls` meets its contract. The invariant: the borders that were counted and those that are left are
+-- `validation::falls::count_border_falls` meets its contract. The invariant: the borders that were counted and those that are left are
 -- all. The measure is how many parts are left.
 use mathlib.Core.Path.{_≡_}
 use Prim.Native.Nat.{_+_, _-_}
@@ -17,20 +17,8 @@ Inv-loop n ends list falls₀ k₀ start₀ found k start =
 abbrev μ-loop : tie.MeasureT-loop
 μ-loop n ends list falls₀ k₀ start₀ found k start = length ends - k
 
-loop-holds : tie.Need-loop-holds Inv-loop μ-loop
-loop-holds c = omega arith
-
-mul-end : tie.Need-mul-end Inv-loop μ-loop
-mul-end c = omega arith
-
-shared-slice-read-end : tie.Need-shared-slice-read-end Inv-loop μ-loop
-shared-slice-read-end c = omega arith
-
 cast-end : tie.Need-cast-end Inv-loop μ-loop
 cast-end c = omega (arith, c .shared-slice-known3 .given (c .before .before .loop .k))
-
-border-fall-requires : tie.Need-border-fall-requires Inv-loop μ-loop
-border-fall-requires c κs = search needs
 
 -- this border's part of what was left
 step : (c : tie.After-border-fall Inv-loop μ-loop)
@@ -54,12 +42,6 @@ add-falls c =
     let a = c .before .before .before .before .before .before .args in
     omega (arith, step c, borders-bound (a .n) 0 (a .ends .now) (a .list .now))
 
-add-k : tie.Need-add-k Inv-loop μ-loop
-add-k c = omega arith
-
-loop-less : tie.Need-loop-less Inv-loop μ-loop
-loop-less c = omega arith
-
 loop-again : tie.Need-loop-again Inv-loop μ-loop
 loop-again c = step c
 
@@ -76,16 +58,5 @@ returns c =
 pub count-border-falls-spec : {M : Type 1} → statement M
 count-border-falls-spec =
     tie.close
-    (tie.spec
-    Inv-loop
-    μ-loop
-    loop-holds
-    mul-end
-    shared-slice-read-end
-    cast-end
-    border-fall-requires
-    add-falls
-    add-k
-    loop-less
-    loop-again
-    returns)
+    (tie.spec Inv-loop μ-loop (λ c. omega arith) (λ c. omega arith) (λ c. omega arith) cast-end (λ c κs. search needs)
+    add-falls (λ c. omega arith) (λ c. omega arith) loop-again returns)

@@ -1,4 +1,4 @@
--- `list_falls::count_falls` meets its contract. The invariant: the falls that were counted and those from here on are all. The
+-- `validation::falls::count_falls` meets its contract. The invariant: the falls that were counted and those from here on are all. The
 -- measure is how many numbers are left.
 use mathlib.Core.Path.{_≡_}
 use Prim.Native.Nat.{_+_, _-_, _≤_}
@@ -17,30 +17,6 @@ Inv-loop n list falls₀ e₀ found e =
 
 abbrev μ-loop : tie.MeasureT-loop
 μ-loop n list falls₀ e₀ found e = n - e
-
-loop-holds : tie.Need-loop-holds Inv-loop μ-loop
-loop-holds c = omega arith
-
-add-loop : tie.Need-add-loop Inv-loop μ-loop
-add-loop c = omega arith
-
-mul-x : tie.Need-mul-x Inv-loop μ-loop
-mul-x c = omega arith
-
-shared-slice-read-x : tie.Need-shared-slice-read-x Inv-loop μ-loop
-shared-slice-read-x c = omega arith
-
-add-next : tie.Need-add-next Inv-loop μ-loop
-add-next c = omega arith
-
-mul-next : tie.Need-mul-next Inv-loop μ-loop
-mul-next c = omega arith
-
-shared-slice-read-next : tie.Need-shared-slice-read-next Inv-loop μ-loop
-shared-slice-read-next c = omega arith
-
-number-requires : tie.Need-number-requires Inv-loop μ-loop
-number-requires c κs = search needs
 
 -- this number's part of what was left
 step : (c : tie.After-number Inv-loop μ-loop)
@@ -64,12 +40,6 @@ add-falls c =
     let all = slice 0 (a .n) (a .list .now) in
     omega (arith, step c, falls-bound all, length-slice 0 (a .n) (a .list .now) (omega arith))
 
-add-e : tie.Need-add-e Inv-loop μ-loop
-add-e c = omega arith
-
-loop-less : tie.Need-loop-less Inv-loop μ-loop
-loop-less c = omega arith
-
 loop-again : tie.Need-loop-again Inv-loop μ-loop
 loop-again c = (step c, omega arith)
 
@@ -82,19 +52,6 @@ returns c =
 pub count-falls-spec : {M : Type 1} → statement M
 count-falls-spec =
     tie.close
-    (tie.spec
-    Inv-loop
-    μ-loop
-    loop-holds
-    add-loop
-    mul-x
-    shared-slice-read-x
-    add-next
-    mul-next
-    shared-slice-read-next
-    number-requires
-    add-falls
-    add-e
-    loop-less
-    loop-again
+    (tie.spec Inv-loop μ-loop (λ c. omega arith) (λ c. omega arith) (λ c. omega arith) (λ c. omega arith) (λ c. omega arith)
+    (λ c. omega arith) (λ c. omega arith) (λ c κs. search needs) add-falls (λ c. omega arith) (λ c. omega arith) loop-again
     returns)

@@ -1,4 +1,4 @@
--- `list_falls::count_high` meets its contract. The invariant: what was counted and what is left to count are the whole. The
+-- `validation::falls::count_high` meets its contract. The invariant: what was counted and what is left to count are the whole. The
 -- measure is how many numbers are left.
 use mathlib.Core.Path.{_≡_}
 use Prim.Native.Nat.{_+_, _-_}
@@ -18,18 +18,6 @@ Inv-loop t n list high₀ e₀ high e =
 
 abbrev μ-loop : tie.MeasureT-loop
 μ-loop t n list high₀ e₀ high e = n - e
-
-loop-holds : tie.Need-loop-holds Inv-loop μ-loop
-loop-holds c = omega arith
-
-mul-x : tie.Need-mul-x Inv-loop μ-loop
-mul-x c = omega arith
-
-shared-slice-read-x : tie.Need-shared-slice-read-x Inv-loop μ-loop
-shared-slice-read-x c = omega arith
-
-number-requires : tie.Need-number-requires Inv-loop μ-loop
-number-requires c κs = search needs
 
 -- this number's part of what was left
 step : (c : tie.After-number Inv-loop μ-loop)
@@ -53,12 +41,6 @@ add-high c =
     let all = slice 0 (a .n) (a .list .now) in
     omega (arith, step c, count-bound (leb (a .t)) all, length-slice 0 (a .n) (a .list .now) (omega arith))
 
-add-e : tie.Need-add-e Inv-loop μ-loop
-add-e c = omega arith
-
-loop-less : tie.Need-loop-less Inv-loop μ-loop
-loop-less c = omega arith
-
 loop-again : tie.Need-loop-again Inv-loop μ-loop
 loop-again c = step c
 
@@ -71,15 +53,5 @@ returns c =
 pub count-high-spec : {M : Type 1} → statement M
 count-high-spec =
     tie.close
-    (tie.spec
-    Inv-loop
-    μ-loop
-    loop-holds
-    mul-x
-    shared-slice-read-x
-    number-requires
-    add-high
-    add-e
-    loop-less
-    loop-again
-    returns)
+    (tie.spec Inv-loop μ-loop (λ c. omega arith) (λ c. omega arith) (λ c. omega arith) (λ c κs. search needs) add-high
+    (λ c. omega arith) (λ c. omega arith) loop-again returns)

@@ -1,4 +1,4 @@
--- `list_falls::good_ends` meets its contract. The invariant: the test of the ends that are left decides that of all. The measure
+-- `validation::falls::good_ends` meets its contract. The invariant: the test of the ends that are left decides that of all. The measure
 -- is how many ends are left.
 use mathlib.Core.Path.{_≡_, refl, sym, _∙_}
 use Prim.Native.Nat.{_-_}
@@ -18,12 +18,6 @@ abbrev μ-loop : tie.MeasureT-loop
 loop-holds : tie.Need-loop-holds Inv-loop μ-loop
 loop-holds c = refl
 
-mul-end : tie.Need-mul-end Inv-loop μ-loop
-mul-end c = omega arith
-
-shared-slice-read-end : tie.Need-shared-slice-read-end Inv-loop μ-loop
-shared-slice-read-end c = omega arith
-
 cast-end : tie.Need-cast-end Inv-loop μ-loop
 cast-end c = omega (arith, c .shared-slice-known .given (c .before .before .loop .k))
 
@@ -41,12 +35,6 @@ returns-2 c =
     sym
     (ends-long (a .longest) (a .ends .now) (at-loop .loop .k) (at-loop .loop .before) (omega arith) (omega arith) (c .if2 .taken))
     ∙ at-loop .loop .inv
-
-add-k : tie.Need-add-k Inv-loop μ-loop
-add-k c = omega arith
-
-loop-less : tie.Need-loop-less Inv-loop μ-loop
-loop-less c = omega arith
 
 loop-again : tie.Need-loop-again Inv-loop μ-loop
 loop-again c =
@@ -66,16 +54,5 @@ returns-3 c =
 pub good-ends-spec : {M : Type 1} → statement M
 good-ends-spec =
     tie.close
-    (tie.spec
-    Inv-loop
-    μ-loop
-    loop-holds
-    mul-end
-    shared-slice-read-end
-    cast-end
-    returns
-    returns-2
-    add-k
-    loop-less
-    loop-again
-    returns-3)
+    (tie.spec Inv-loop μ-loop loop-holds (λ c. omega arith) (λ c. omega arith) cast-end returns returns-2 (λ c. omega arith)
+    (λ c. omega arith) loop-again returns-3)

@@ -1,4 +1,4 @@
--- `set_tests::good_items` meets its contract: a part that is too long fails the first test of the definition, else the rest decides.
+-- `validation::one_set::good_items` meets its contract: a part that is too long fails the first test of the definition, else the rest decides.
 use Prim.Native.Nat.{_-_}
 use native.Mathlib.Omega.{arith}
 use borrow.Author.Needs.{needs}
@@ -8,9 +8,6 @@ use Rattle.sets.proofs.Between.{length-between}
 use Rattle.validation.proofs.one_set.good_items.Statement.{statement}
 use Rattle.validation.proofs.one_set.good_items.Tie as tie
 
-sub-if1 : tie.Need-sub-if1
-sub-if1 c = search needs
-
 returns : tie.Need-returns
 returns c =
     let a = c .before .before .args in
@@ -18,9 +15,6 @@ returns c =
       length-between (a .start) (a .end) (a .items .now) (omega arith),
       lt-leb (a .end - a .start) maxSetLength (omega arith),
     )
-
-rises-below-requires : tie.Need-rises-below-requires
-rises-below-requires c κs = search needs
 
 returns-2 : tie.Need-returns-2
 returns-2 c =
@@ -31,4 +25,4 @@ returns-2 c =
     ) (c .rises-below .ensures)
 
 pub good-items-spec : {M : Type 1} → statement M
-good-items-spec = tie.close (tie.spec sub-if1 returns rises-below-requires returns-2)
+good-items-spec = tie.close (tie.spec (λ c. search needs) returns (λ c κs. search needs) returns-2)

@@ -1,4 +1,4 @@
--- `set_tests::good_set` meets its contract: each early return is a test of the definition that fails.
+-- `validation::one_set::good_set` meets its contract: each early return is a test of the definition that fails.
 use native.Mathlib.Omega.{arith}
 use borrow.Author.Needs.{needs}
 use borrow.Author.Tests.{lt-leb, le-leb}
@@ -24,9 +24,6 @@ returns-3 c =
       lt-leb (a .end) (length (a .items .now)) (omega arith),
     )
 
-good-items-requires : tie.Need-good-items-requires
-good-items-requires c κs = search needs
-
 returns-4 : tie.Need-returns-4
 returns-4 c =
     let a = c .before .before .before .before .before .args in
@@ -37,5 +34,4 @@ returns-4 c =
     ) (c .good-items .ensures)
 
 pub good-set-spec : {M : Type 1} → statement M
-good-set-spec =
-    tie.close (tie.spec returns returns-2 returns-3 good-items-requires returns-4)
+good-set-spec = tie.close (tie.spec returns returns-2 returns-3 (λ c κs. search needs) returns-4)

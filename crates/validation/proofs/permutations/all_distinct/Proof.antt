@@ -1,4 +1,4 @@
--- `rank_tests::all_distinct` meets its contract. The invariant: what was met twice so far and the pass over the ranks that are left,
+-- `validation::permutations::all_distinct` meets its contract. The invariant: what was met twice so far and the pass over the ranks that are left,
 -- with the marks made so far, decide the pass over all. The measure is how many ranks are left.
 use mathlib.Core.Path.{_≡_, refl, sym, _∙_}
 use mathlib.Core.List.{List}
@@ -42,12 +42,6 @@ marked c =
 loop-holds : tie.Need-loop-holds Inv-loop μ-loop
 loop-holds c = record { low = omega arith; left = refl; same = refl }
 
-mul-x : tie.Need-mul-x Inv-loop μ-loop
-mul-x c = omega arith
-
-shared-slice-read-x : tie.Need-shared-slice-read-x Inv-loop μ-loop
-shared-slice-read-x c = omega arith
-
 cast-x : tie.Need-cast-x Inv-loop μ-loop
 cast-x c = omega (arith, c .shared-slice-known .given (c .before .before .loop .i))
 
@@ -56,12 +50,6 @@ slice-read-again c = marked c
 
 slice-write-seen : tie.Need-slice-write-seen Inv-loop μ-loop
 slice-write-seen c = marked c
-
-add-i : tie.Need-add-i Inv-loop μ-loop
-add-i c = omega arith
-
-loop-less : tie.Need-loop-less Inv-loop μ-loop
-loop-less c = omega arith
 
 loop-again : tie.Need-loop-again Inv-loop μ-loop
 loop-again c =
@@ -86,17 +74,5 @@ returns c =
 pub all-distinct-spec : {M : Type 1} → statement M
 all-distinct-spec =
     tie.close
-    (tie.spec
-    Inv-loop
-    μ-loop
-    loop-holds
-    mul-x
-    shared-slice-read-x
-    cast-x
-    slice-read-again
-    slice-write-seen
-    add-i
-    loop-less
-    loop-again
-    same-length
-    returns)
+    (tie.spec Inv-loop μ-loop loop-holds (λ c. omega arith) (λ c. omega arith) cast-x slice-read-again slice-write-seen
+    (λ c. omega arith) (λ c. omega arith) loop-again same-length returns)

@@ -1,4 +1,4 @@
--- `rank_tests::is_permutation` meets its contract: the length, then that no rank is too high, then the pass with a table of marks.
+-- `validation::permutations::is_permutation` meets its contract: the length, then that no rank is too high, then the pass with a table of marks.
 use mathlib.Core.Path.{_≡_, sym, ap, _∙_}
 use mathlib.Core.List.{List}
 use mathlib.Core.Bool.{Bool, true, false}
@@ -36,12 +36,6 @@ returns : tie.Need-returns
 unfolding isPermutation
 returns c = rw (ne-eqb (length (c .before .before .args .ranks .now)) (c .before .before .args .t) (c .if1 .taken))
 
-cast-count-high : tie.Need-cast-count-high
-cast-count-high c = search needs
-
-count-high-requires : tie.Need-count-high-requires
-count-high-requires c κs = search needs
-
 returns-2 : tie.Need-returns-2
 unfolding isPermutation
 returns-2 c =
@@ -68,9 +62,6 @@ decided c r is =
     let a = c .before .before .before .before .args in
     rw (eq-eqb (length (a .ranks .now)) (a .t) (omega arith), below c) is
 
-slice-aggregate-all-distinct : tie.Need-slice-aggregate-all-distinct
-slice-aggregate-all-distinct c = search needs
-
 all-distinct-requires : tie.Need-all-distinct-requires
 all-distinct-requires c κs =
     let few = c .before .before in
@@ -79,9 +70,6 @@ all-distinct-requires c κs =
 
 returns-3 : tie.Need-returns-3
 returns-3 c = decided (c .before .before .before .before) (c .before .all-distinct .result) (c .before .all-distinct .ensures)
-
-slice-aggregate-all-distinct-2 : tie.Need-slice-aggregate-all-distinct-2
-slice-aggregate-all-distinct-2 c = search needs
 
 all-distinct-requires-2 : tie.Need-all-distinct-requires-2
 all-distinct-requires-2 c κs =
@@ -95,14 +83,5 @@ returns-4 c = decided (c .before .before .before .before) (c .before .all-distin
 pub is-permutation-spec : {M : Type 1} → statement M
 is-permutation-spec =
     tie.close
-    (tie.spec
-    returns
-    cast-count-high
-    count-high-requires
-    returns-2
-    slice-aggregate-all-distinct
-    all-distinct-requires
-    returns-3
-    slice-aggregate-all-distinct-2
-    all-distinct-requires-2
-    returns-4)
+    (tie.spec returns (λ c. search needs) (λ c κs. search needs) returns-2 (λ c. search needs) all-distinct-requires returns-3
+    (λ c. search needs) all-distinct-requires-2 returns-4)

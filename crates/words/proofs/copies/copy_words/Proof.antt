@@ -1,4 +1,4 @@
--- `word_copies::copy_words` meets its contract. The invariant: what was written, with the rest of the part, is the part. The
+-- `words::copies::copy_words` meets its contract. The invariant: what was written, with the rest of the part, is the part. The
 -- measure is what remains of it.
 use Prim.Native.Nat.{_+_, _-_}
 use mathlib.Core.Path.{_≡_, refl}
@@ -98,17 +98,5 @@ returns c = copying-end (c .before .loop .inv .0) (c .before .loop .inv .1) (c .
 pub copy-words-spec : {M : Type 1} → statement M
 copy-words-spec =
     tie.close
-    (tie.spec
-    Inv-loop
-    μ-loop
-    loop-holds
-    mul-s
-    slice-read-s
-    mul-work
-    slice-write-work
-    add-n
-    add-i
-    loop-less
-    loop-again
-    same-length
-    returns)
+    (tie.spec Inv-loop μ-loop loop-holds mul-s slice-read-s mul-work slice-write-work add-n add-i loop-less loop-again
+    same-length returns)

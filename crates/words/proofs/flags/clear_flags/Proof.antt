@@ -1,4 +1,4 @@
--- `word_flags::clear_flags` meets its contract.
+-- `words::flags::clear_flags` meets its contract.
 use Rattle.words.proofs.flags.Flagging.{clear-none}
 use Rattle.words.proofs.flags.clear_flags.Statement.{statement}
 use Rattle.words.proofs.flags.clear_flags.Tie as tie

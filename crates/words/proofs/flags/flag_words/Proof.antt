@@ -1,4 +1,4 @@
--- `word_flags::flag_words` meets its contract. The invariant is `Flagging`: the words up to place i are flagged. The
+-- `words::flags::flag_words` meets its contract. The invariant is `Flagging`: the words up to place i are flagged. The
 -- measure is what remains of the part.
 use Prim.Native.Nat.{_-_}
 use native.Mathlib.Omega.{arith}
@@ -43,14 +43,4 @@ returns c = flagging-end (c .before .before .before .before .pre .0) (c .before 
 pub flag-words-spec : {M : Type 1} → statement M
 flag-words-spec =
     tie.close
-    (tie.spec
-    Inv-loop
-    μ-loop
-    loop-holds
-    word-at-requires
-    slice-write-flags
-    add-i
-    loop-less
-    loop-again
-    same-length
-    returns)
+    (tie.spec Inv-loop μ-loop loop-holds word-at-requires slice-write-flags add-i loop-less loop-again same-length returns)

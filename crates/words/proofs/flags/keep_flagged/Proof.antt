@@ -1,4 +1,4 @@
--- `word_flags::keep_flagged` meets its contract. The invariant is `Keeping`: what was written, with the flagged words of
+-- `words::flags::keep_flagged` meets its contract. The invariant is `Keeping`: what was written, with the flagged words of
 -- the rest, are the flagged words. The measure is what remains of the part.
 use Prim.Native.Nat.{_-_, _≤_, _<_}
 use native.Mathlib.Omega.{arith}
@@ -83,20 +83,5 @@ returns c = keeping-end (c .before .loop .inv) (c .loop-test .left)
 pub keep-flagged-spec : {M : Type 1} → statement M
 keep-flagged-spec =
     tie.close
-    (tie.spec
-    Inv-loop
-    μ-loop
-    loop-holds
-    mul-x
-    slice-read-x
-    mul-work
-    slice-write-work
-    cast-n
-    shared-slice-read-n
-    cast-n-2
-    add-n
-    add-j
-    loop-less
-    loop-again
-    same-length
-    returns)
+    (tie.spec Inv-loop μ-loop loop-holds mul-x slice-read-x mul-work slice-write-work cast-n shared-slice-read-n cast-n-2
+    add-n add-j loop-less loop-again same-length returns)

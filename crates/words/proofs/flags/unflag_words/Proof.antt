@@ -1,4 +1,4 @@
--- `word_flags::unflag_words` meets its contract. The invariant is `Unflagging`: of the words that were
+-- `words::flags::unflag_words` meets its contract. The invariant is `Unflagging`: of the words that were
 -- flagged only those from place i on may still be. The measure is what remains of the part.
 use Prim.Native.Nat.{_-_}
 use native.Mathlib.Omega.{arith}
@@ -43,14 +43,4 @@ returns c = unflagging-end (c .before .before .before .before .pre .0) (c .befor
 pub unflag-words-spec : {M : Type 1} → statement M
 unflag-words-spec =
     tie.close
-    (tie.spec
-    Inv-loop
-    μ-loop
-    loop-holds
-    word-at-requires
-    slice-write-flags
-    add-i
-    loop-less
-    loop-again
-    same-length
-    returns)
+    (tie.spec Inv-loop μ-loop loop-holds word-at-requires slice-write-flags add-i loop-less loop-again same-length returns)

@@ -1,4 +1,4 @@
--- `found_words::is_among` meets its contract: a word is among others just where it stands at the place where it goes.
+-- `words::found::is_among` meets its contract: a word is among others just where it stands at the place where it goes.
 use mathlib.Core.Path.{ap, _∙_}
 use native.Mathlib.Omega.{arith}
 use Prim.Native.Nat.{ℕ}

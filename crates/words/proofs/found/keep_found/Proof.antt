@@ -1,4 +1,4 @@
--- `found_words::keep_found` meets its contract. The invariant is `Keeping`: what was written, with what is among the first part of
+-- `words::found::keep_found` meets its contract. The invariant is `Keeping`: what was written, with what is among the first part of
 -- the rest, is what is among it of the second. The first part lies below what is written, and stays. The measure is what remains of
 -- the second part.
 use Prim.Native.Nat.{ℕ, _-_, _≤_}
@@ -66,9 +66,6 @@ slice-write-work c =
     let l = t .before in
     omega (arith, t .loop-test .taken, start l .pre .1 .1 .1, l .loop .inv)
 
-number-requires : tie.Need-number-requires Inv-loop μ-loop
-number-requires c κs = search needs
-
 add-n : tie.Need-add-n Inv-loop μ-loop
 add-n c =
     let l = c .before .before .before .before .before .before in
@@ -103,19 +100,5 @@ returns c = keeping-end (c .before .loop .inv) (c .loop-test .left)
 pub keep-found-spec : {M : Type 1} → statement M
 keep-found-spec =
     tie.close
-    (tie.spec
-    Inv-loop
-    μ-loop
-    loop-holds
-    word-at-requires
-    is-among-requires
-    cast-work
-    mul-work
-    slice-write-work
-    number-requires
-    add-n
-    add-j
-    loop-less
-    loop-again
-    same-length
-    returns)
+    (tie.spec Inv-loop μ-loop loop-holds word-at-requires is-among-requires cast-work mul-work slice-write-work
+    (λ c κs. search needs) add-n add-j loop-less loop-again same-length returns)

@@ -1,4 +1,4 @@
--- `found_words::lower` meets its contract. The invariant: x goes between lo and hi. The measure is their distance.
+-- `words::found::lower` meets its contract. The invariant: x goes between lo and hi. The measure is their distance.
 use Prim.Native.Nat.{ℕ, _+_, _-_, _/_, _<_, _≤_}
 use mathlib.Core.Path.{_≡_, ap}
 use native.Mathlib.Omega.{arith}
@@ -23,9 +23,6 @@ inside c = omega (arith, c .before .loop .inv .high, start c .pre .1 .within)
 loop-holds : tie.Need-loop-holds Inv-loop μ-loop
 loop-holds c =
     let s = c .before in halving-start (s .args .a) (s .args .b) (s .args .x) (s .args .work .now) (s .pre .0)
-
-sub-mid : tie.Need-sub-mid Inv-loop μ-loop
-sub-mid c = omega arith
 
 add-mid : tie.Need-add-mid Inv-loop μ-loop
 add-mid c = omega (arith, inside c, start c .good)
@@ -60,16 +57,5 @@ returns c = halving-end (c .before .loop .inv) (c .loop-test .left)
 pub lower-spec : {M : Type 1} → statement M
 lower-spec =
     tie.close
-    (tie.spec
-    Inv-loop
-    μ-loop
-    loop-holds
-    sub-mid
-    add-mid
-    word-at-requires
-    add-lo
-    loop-less
-    loop-again
-    loop-less-2
-    loop-again-2
-    returns)
+    (tie.spec Inv-loop μ-loop loop-holds (λ c. omega arith) add-mid word-at-requires add-lo loop-less loop-again loop-less-2
+    loop-again-2 returns)

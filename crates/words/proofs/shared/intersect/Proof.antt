@@ -1,4 +1,4 @@
--- `shared_words::intersect` meets its contract: what is found of the second part in the first is what they share, and so is what the
+-- `words::shared::intersect` meets its contract: what is found of the second part in the first is what they share, and so is what the
 -- flags of the first part keep of the second; the first part lies below what was written, so that its flags are found again and taken
 -- away.
 use Prim.Native.Nat.{ℕ}
@@ -18,17 +18,11 @@ sub-is-far-shorter c = let start = c .before .before in omega (arith, start .pre
 sub-is-far-shorter-2 : tie.Need-sub-is-far-shorter-2
 sub-is-far-shorter-2 c = let start = c .before .before in omega (arith, start .pre .1 .1 .1 .0 .order)
 
-is-far-shorter-requires : tie.Need-is-far-shorter-requires
-is-far-shorter-requires c κs = search needs
-
 keep-found-requires : tie.Need-keep-found-requires
 keep-found-requires c κs =
     let asked = c .before .before .before .before .before .pre in
     let apart = asked .1 .1 .0 in
     (asked .1 .1 .1 .0 .order, (asked .0, (apart .first, record { low = apart .second; room = apart .room })))
-
-same-length : tie.Need-same-length
-same-length c = search needs
 
 returns : tie.Need-returns
 returns c =
@@ -67,12 +61,6 @@ unflag-words-requires c κs =
       flagged-changed (start .args .a) (apart .first) changed (flagged .flag-words .ensures),
     )
 
-same-length-2 : tie.Need-same-length-2
-same-length-2 c = search needs
-
-same-length-3 : tie.Need-same-length-3
-same-length-3 c = search needs
-
 returns-2 : tie.Need-returns-2
 returns-2 c =
     let cleared = c .before .before in
@@ -91,16 +79,5 @@ returns-2 c =
 pub intersect-spec : {M : Type 1} → statement M
 intersect-spec =
     tie.close
-    (tie.spec
-    sub-is-far-shorter
-    sub-is-far-shorter-2
-    is-far-shorter-requires
-    keep-found-requires
-    same-length
-    returns
-    flag-words-requires
-    keep-flagged-requires
-    unflag-words-requires
-    same-length-2
-    same-length-3
-    returns-2)
+    (tie.spec sub-is-far-shorter sub-is-far-shorter-2 (λ c κs. search needs) keep-found-requires (λ c. search needs) returns
+    flag-words-requires keep-flagged-requires unflag-words-requires (λ c. search needs) (λ c. search needs) returns-2)

@@ -1,4 +1,4 @@
--- `word_lists::subsets::search_down` meets its contract. The invariant is `Trimming`; the measure is what remains of the first part.
+-- `words::subsets::search_down` meets its contract. The invariant is `Trimming`; the measure is what remains of the first part.
 use mathlib.Core.Path.{refl}
 use Prim.Native.Nat.{_-_}
 use native.Mathlib.Omega.{arith}
@@ -36,24 +36,6 @@ returns c =
     trimming-stop (at-loop .loop .inv) (skip .skip-higher .ensures) (asked .0) (asked .1) (skip .before .loop-test .taken)
     (c .if1 .taken)
 
-sub-if2 : tie.Need-sub-if2 Inv-loop μ-loop
-sub-if2 c = omega arith
-
-mul-if2 : tie.Need-mul-if2 Inv-loop μ-loop
-mul-if2 c = omega arith
-
-shared-slice-read-if2 : tie.Need-shared-slice-read-if2 Inv-loop μ-loop
-shared-slice-read-if2 c = omega arith
-
-sub-if2-2 : tie.Need-sub-if2-2 Inv-loop μ-loop
-sub-if2-2 c = omega arith
-
-mul-if2-2 : tie.Need-mul-if2-2 Inv-loop μ-loop
-mul-if2-2 c = omega arith
-
-shared-slice-read-if2-2 : tie.Need-shared-slice-read-if2-2 Inv-loop μ-loop
-shared-slice-read-if2-2 c = omega arith
-
 returns-2 : tie.Need-returns-2 Inv-loop μ-loop
 returns-2 c =
     let skip = c .before .before .before .before in
@@ -61,15 +43,6 @@ returns-2 c =
     let asked = at-loop .before .before .pre in
     trimming-other (at-loop .loop .inv) (skip .skip-higher .ensures) (asked .0) (asked .1) (skip .before .loop-test .taken)
     (omega (arith, c .before .before .before .if1 .left)) (c .if2 .taken)
-
-sub-i : tie.Need-sub-i Inv-loop μ-loop
-sub-i c = omega arith
-
-sub-j : tie.Need-sub-j Inv-loop μ-loop
-sub-j c = omega arith
-
-loop-less : tie.Need-loop-less Inv-loop μ-loop
-loop-less c = omega arith
 
 loop-again : tie.Need-loop-again Inv-loop μ-loop
 loop-again c =
@@ -85,21 +58,6 @@ returns-3 c = trimming-end (c .before .loop .inv) (c .loop-test .left)
 pub search-down-spec : {M : Type 1} → statement M
 search-down-spec =
     tie.close
-    (tie.spec
-    Inv-loop
-    μ-loop
-    loop-holds
-    skip-higher-requires
-    returns
-    sub-if2
-    mul-if2
-    shared-slice-read-if2
-    sub-if2-2
-    mul-if2-2
-    shared-slice-read-if2-2
-    returns-2
-    sub-i
-    sub-j
-    loop-less
-    loop-again
-    returns-3)
+    (tie.spec Inv-loop μ-loop loop-holds skip-higher-requires returns (λ c. omega arith) (λ c. omega arith) (λ c. omega arith)
+    (λ c. omega arith) (λ c. omega arith) (λ c. omega arith) returns-2 (λ c. omega arith) (λ c. omega arith)
+    (λ c. omega arith) loop-again returns-3)

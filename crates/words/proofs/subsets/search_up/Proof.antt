@@ -1,4 +1,4 @@
--- `word_lists::subsets::search_up` meets its contract. The invariant is `Advancing`; the measure is what remains of the first part.
+-- `words::subsets::search_up` meets its contract. The invariant is `Advancing`; the measure is what remains of the first part.
 use mathlib.Core.Path.{refl}
 use Prim.Native.Nat.{_-_}
 use native.Mathlib.Omega.{arith}
@@ -36,18 +36,6 @@ returns c =
     advancing-stop (at-loop .loop .inv) (skip .skip-lower .ensures) (asked .0) (asked .1) (skip .before .loop-test .taken)
     (c .if1 .taken)
 
-mul-if2 : tie.Need-mul-if2 Inv-loop μ-loop
-mul-if2 c = omega arith
-
-shared-slice-read-if2 : tie.Need-shared-slice-read-if2 Inv-loop μ-loop
-shared-slice-read-if2 c = omega arith
-
-mul-if2-2 : tie.Need-mul-if2-2 Inv-loop μ-loop
-mul-if2-2 c = omega arith
-
-shared-slice-read-if2-2 : tie.Need-shared-slice-read-if2-2 Inv-loop μ-loop
-shared-slice-read-if2-2 c = omega arith
-
 returns-2 : tie.Need-returns-2 Inv-loop μ-loop
 returns-2 c =
     let skip = c .before .before .before .before in
@@ -55,15 +43,6 @@ returns-2 c =
     let asked = at-loop .before .before .pre in
     advancing-other (at-loop .loop .inv) (skip .skip-lower .ensures) (asked .0) (asked .1) (skip .before .loop-test .taken)
     (c .before .before .before .if1 .left) (c .if2 .taken)
-
-add-i : tie.Need-add-i Inv-loop μ-loop
-add-i c = omega arith
-
-add-j : tie.Need-add-j Inv-loop μ-loop
-add-j c = omega arith
-
-loop-less : tie.Need-loop-less Inv-loop μ-loop
-loop-less c = omega arith
 
 loop-again : tie.Need-loop-again Inv-loop μ-loop
 loop-again c =
@@ -79,19 +58,5 @@ returns-3 c = advancing-end (c .before .loop .inv) (c .loop-test .left)
 pub search-up-spec : {M : Type 1} → statement M
 search-up-spec =
     tie.close
-    (tie.spec
-    Inv-loop
-    μ-loop
-    loop-holds
-    skip-lower-requires
-    returns
-    mul-if2
-    shared-slice-read-if2
-    mul-if2-2
-    shared-slice-read-if2-2
-    returns-2
-    add-i
-    add-j
-    loop-less
-    loop-again
-    returns-3)
+    (tie.spec Inv-loop μ-loop loop-holds skip-lower-requires returns (λ c. omega arith) (λ c. omega arith) (λ c. omega arith)
+    (λ c. omega arith) returns-2 (λ c. omega arith) (λ c. omega arith) (λ c. omega arith) loop-again returns-3)

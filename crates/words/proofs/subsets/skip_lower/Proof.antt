@@ -1,4 +1,4 @@
--- `word_lists::subsets::skip_lower` meets its contract. The invariant: what remains of the second part rises, and decides containment of
+-- `words::subsets::skip_lower` meets its contract. The invariant: what remains of the second part rises, and decides containment of
 -- the first. The measure is what remains of the second part.
 use mathlib.Core.Path.{refl}
 use Prim.Native.Nat.{_-_}
@@ -13,29 +13,11 @@ Inv-loop work a b c e x j₀ j = Passing work a b c e x j
 abbrev μ-loop : tie.MeasureT-loop
 μ-loop work a b c e x j₀ j = e - j
 
-mul-x : tie.Need-mul-x Inv-loop μ-loop
-mul-x c = omega arith
-
-shared-slice-read-x : tie.Need-shared-slice-read-x Inv-loop μ-loop
-shared-slice-read-x c = omega arith
-
 loop-holds : tie.Need-loop-holds Inv-loop μ-loop
 loop-holds c = record { word = refl; rise = c .before .pre .1 .1 .rise; same = refl }
 
-mul-if1 : tie.Need-mul-if1 Inv-loop μ-loop
-mul-if1 c = omega arith
-
-shared-slice-read-if1 : tie.Need-shared-slice-read-if1 Inv-loop μ-loop
-shared-slice-read-if1 c = omega arith
-
 returns : tie.Need-returns Inv-loop μ-loop
 returns c = passed (c .before .before .before .loop .inv) (λ h. c .if1 .taken)
-
-add-j : tie.Need-add-j Inv-loop μ-loop
-add-j c = omega arith
-
-loop-less : tie.Need-loop-less Inv-loop μ-loop
-loop-less c = omega arith
 
 loop-again : tie.Need-loop-again Inv-loop μ-loop
 loop-again c =
@@ -50,16 +32,5 @@ returns-2 c = passed (c .before .loop .inv) (λ h. absurd (omega (arith, h, c .l
 pub skip-lower-spec : {M : Type 1} → statement M
 skip-lower-spec =
     tie.close
-    (tie.spec
-    Inv-loop
-    μ-loop
-    mul-x
-    shared-slice-read-x
-    loop-holds
-    mul-if1
-    shared-slice-read-if1
-    returns
-    add-j
-    loop-less
-    loop-again
-    returns-2)
+    (tie.spec Inv-loop μ-loop (λ c. omega arith) (λ c. omega arith) loop-holds (λ c. omega arith) (λ c. omega arith) returns
+    (λ c. omega arith) (λ c. omega arith) loop-again returns-2)

@@ -1,11 +1,11 @@
--- `join_keys::keys::run_end` meets its contract. The invariant is `Reaching`; the measure is how many left sets are still to be
+-- `join_check::keys::range_end` meets its contract. The invariant is `Reaching`; the measure is how many left sets are still to be
 -- looked at.
 use Prim.Native.Nat.{_-_}
 use native.Mathlib.Omega.{arith}
-use Rattle.join_index.proofs.Orders.{run-left, run-within}
-use Rattle.join_check.proofs.keys.RunEnds.{Reaching, reaching-start, reaching-stop, reaching-step, reaching-end}
-use Rattle.join_check.proofs.keys.run_end.Statement.{statement}
-use Rattle.join_check.proofs.keys.run_end.Tie as tie
+use Rattle.join_index.proofs.Orders.{range-left, range-within}
+use Rattle.join_check.proofs.keys.RangeEnds.{Reaching, reaching-start, reaching-stop, reaching-step, reaching-end}
+use Rattle.join_check.proofs.keys.range_end.Statement.{statement}
+use Rattle.join_check.proofs.keys.range_end.Tie as tie
 
 abbrev Inv-loop : tie.InvT-loop
 Inv-loop work lay d i hi order first key j₀ j =
@@ -16,16 +16,16 @@ abbrev μ-loop : tie.MeasureT-loop
     hi - j
 
 add-word-at : tie.Need-add-word-at Inv-loop μ-loop
-add-word-at c = omega (arith, run-within (c .before .pre .holds))
+add-word-at c = omega (arith, range-within (c .before .pre .holds))
 
 word-at-requires : tie.Need-word-at-requires Inv-loop μ-loop
-word-at-requires c κs = omega (arith, run-within (c .before .pre .holds), c .before .pre .holds .some)
+word-at-requires c κs = omega (arith, range-within (c .before .pre .holds), c .before .pre .holds .some)
 
 key-at-requires : tie.Need-key-at-requires Inv-loop μ-loop
 key-at-requires c κs =
     let start = c .before .before in
     let there = start .pre .holds in
-    record { query = start .pre .query; holds = run-left there (start .args .i) (there .some) (c .word-at .ensures) }
+    record { query = start .pre .query; holds = range-left there (start .args .i) (there .some) (c .word-at .ensures) }
 
 add-j : tie.Need-add-j Inv-loop μ-loop
 add-j c = omega (arith, c .before .before .before .pre .holds .some)
@@ -34,10 +34,10 @@ loop-holds : tie.Need-loop-holds Inv-loop μ-loop
 loop-holds c = reaching-start (c .before .before .before .pre .holds .some)
 
 add-word-at-2 : tie.Need-add-word-at-2 Inv-loop μ-loop
-add-word-at-2 c = omega (arith, run-within (c .before .before .before .before .before .pre .holds))
+add-word-at-2 c = omega (arith, range-within (c .before .before .before .before .before .pre .holds))
 
 word-at-requires-2 : tie.Need-word-at-requires-2 Inv-loop μ-loop
-word-at-requires-2 c κs = omega (arith, run-within (c .before .before .before .before .before .pre .holds))
+word-at-requires-2 c κs = omega (arith, range-within (c .before .before .before .before .before .pre .holds))
 
 key-at-requires-2 : tie.Need-key-at-requires-2 Inv-loop μ-loop
 key-at-requires-2 c κs =
@@ -45,7 +45,7 @@ key-at-requires-2 c κs =
     let some = at-loop .before .before .before .before .pre in
     record {
       query = some .query;
-      holds = run-left (some .holds) (at-loop .loop .j) (c .before .loop-test .taken) (c .word-at2 .ensures);
+      holds = range-left (some .holds) (at-loop .loop .j) (c .before .loop-test .taken) (c .word-at2 .ensures);
     }
 
 returns : tie.Need-returns Inv-loop μ-loop
@@ -55,14 +55,6 @@ returns c =
     let first = at-loop .before in
     reaching-stop (at-loop .loop .inv) (first .before .word-at .ensures) (first .key-at .ensures) (word .before .loop-test .taken)
     (word .word-at2 .ensures) (c .before .key-at2 .ensures) (c .if1 .taken)
-
-add-j-2 : tie.Need-add-j-2 Inv-loop μ-loop
-add-j-2 c =
-    omega arith
-
-loop-less : tie.Need-loop-less Inv-loop μ-loop
-loop-less c =
-    omega arith
 
 loop-again : tie.Need-loop-again Inv-loop μ-loop
 loop-again c =
@@ -75,22 +67,8 @@ loop-again c =
 returns-2 : tie.Need-returns-2 Inv-loop μ-loop
 returns-2 c = reaching-end (c .before .loop .inv) (c .loop-test .left)
 
-pub run-end-spec : {M : Type 1} → statement M
-run-end-spec =
+pub range-end-spec : {M : Type 1} → statement M
+range-end-spec =
     tie.close
-    (tie.spec
-    Inv-loop
-    μ-loop
-    add-word-at
-    word-at-requires
-    key-at-requires
-    add-j
-    loop-holds
-    add-word-at-2
-    word-at-requires-2
-    key-at-requires-2
-    returns
-    add-j-2
-    loop-less
-    loop-again
-    returns-2)
+    (tie.spec Inv-loop μ-loop add-word-at word-at-requires key-at-requires add-j loop-holds add-word-at-2 word-at-requires-2
+    key-at-requires-2 returns (λ c. omega arith) (λ c. omega arith) loop-again returns-2)

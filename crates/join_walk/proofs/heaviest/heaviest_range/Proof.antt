@@ -1,15 +1,15 @@
--- `heaviest_runs::heaviest_run` meets its contract. The invariant: a run begins at place i, and one of the runs, or none, is
+-- `join_walk::heaviest::heaviest_range` meets its contract. The invariant: a range begins at place i, and one of the ranges, or none, is
 -- chosen. The measure is how many left sets are still to be looked at.
 use Prim.Native.Nat.{_-_}
 use native.Mathlib.Omega.{arith}
 use lib.Dec.{ltb}
-use Rattle.join_walk.specs.heaviest.Heaviest.{RunBegins, RunChosen}
-use Rattle.join_walk.proofs.heaviest.RunParts.{begins-start, begins-step, chosen-only, chosen-none, chosen-step}
-use Rattle.join_walk.proofs.heaviest.heaviest_run.Statement.{statement}
-use Rattle.join_walk.proofs.heaviest.heaviest_run.Tie as tie
+use Rattle.join_walk.specs.heaviest.Heaviest.{RangeBegins, RangeChosen}
+use Rattle.join_walk.proofs.heaviest.RangeParts.{begins-start, begins-step, chosen-only, chosen-none, chosen-step}
+use Rattle.join_walk.proofs.heaviest.heaviest_range.Statement.{statement}
+use Rattle.join_walk.proofs.heaviest.heaviest_range.Tie as tie
 
 abbrev Inv-loop : tie.InvT-loop
-Inv-loop work lay d lo hi best₀ i₀ best i = RunBegins lay work d lo hi i × RunChosen lay work d lo hi best
+Inv-loop work lay d lo hi best₀ i₀ best i = RangeBegins lay work d lo hi i × RangeChosen lay work d lo hi best
 
 abbrev μ-loop : tie.MeasureT-loop
 μ-loop work lay d lo hi best₀ i₀ best i = hi - i
@@ -27,8 +27,8 @@ loop-holds : tie.Need-loop-holds Inv-loop μ-loop
 loop-holds c =
     let some = c .before .before .before .pre .holds .some in (begins-start (omega (arith, some)), chosen-none (omega (arith, some)))
 
-run-end-requires : tie.Need-run-end-requires Inv-loop μ-loop
-run-end-requires c κs =
+range-end-requires : tie.Need-range-end-requires Inv-loop μ-loop
+range-end-requires c κs =
     let asked = c .before .before .before .before .before .pre in
     record {
       query = asked .query;
@@ -37,12 +37,12 @@ run-end-requires c κs =
 
 longer-requires : tie.Need-longer-requires Inv-loop μ-loop
 longer-requires c κs =
-    (c .before .before .loop .inv .1 .rise, omega (arith, c .run-end .ensures .more))
+    (c .before .before .loop .inv .1 .rise, omega (arith, c .range-end .ensures .more))
 
 loop-less : tie.Need-loop-less Inv-loop μ-loop
 loop-less c =
     let end = c .before in
-    omega (arith, end .before .loop-test .taken, end .run-end .ensures .more, end .run-end .ensures .within)
+    omega (arith, end .before .loop-test .taken, end .range-end .ensures .more, end .range-end .ensures .within)
 
 loop-again : tie.Need-loop-again Inv-loop μ-loop
 loop-again c =
@@ -50,25 +50,15 @@ loop-again c =
     let test = end .before in
     let best = test .before .loop .best in
     let inv = test .before .loop .inv in (
-      begins-step (inv .0) (test .loop-test .taken) (end .run-end .ensures),
-      chosen-step (ltb (best .hi - best .lo) (end .run-end .result - test .before .loop .i)) (inv .0) (end .run-end .ensures) (inv .1) (c .longer .ensures),
+      begins-step (inv .0) (test .loop-test .taken) (end .range-end .ensures),
+      chosen-step (ltb (best .hi - best .lo) (end .range-end .result - test .before .loop .i)) (inv .0) (end .range-end .ensures) (inv .1) (c .longer .ensures),
     )
 
 returns-3 : tie.Need-returns-3 Inv-loop μ-loop
 returns-3 c = c .before .loop .inv .1
 
-pub heaviest-run-spec : {M : Type 1} → statement M
-heaviest-run-spec =
+pub heaviest-range-spec : {M : Type 1} → statement M
+heaviest-range-spec =
     tie.close
-    (tie.spec
-    Inv-loop
-    μ-loop
-    sub-if1
-    returns
-    returns-2
-    loop-holds
-    run-end-requires
-    longer-requires
-    loop-less
-    loop-again
+    (tie.spec Inv-loop μ-loop sub-if1 returns returns-2 loop-holds range-end-requires longer-requires loop-less loop-again
     returns-3)

@@ -9,7 +9,7 @@ use Rattle.lists.specs.Lists.{slice}
 use Rattle.join_spec.specs.Query.{Query}
 use Rattle.join_index.specs.Grouping.{keyAt}
 use Rattle.join_index.specs.declared.Layout.{Layout}
-use Rattle.join_index.specs.Asking.{RunThere}
+use Rattle.join_index.specs.Asking.{RangeThere}
 
 -- one more where the test holds, else none
 abbrev pub further : Bool → ℕ → ℕ
@@ -23,16 +23,16 @@ lead p (x ∷ xs) = further (p x) (lead p xs)
 
 -- the left set at a place of the order
 abbrev pub leftIn : Layout → List ℕ → ℕ → ℕ
-leftIn lay w i = getD w (lay .order + i) 0
+leftIn lay w i = getD w (lay .«left_order» + i) 0
 
 -- the left sets at the places i up to hi of the order
-abbrev pub run : Layout → List ℕ → ℕ → ℕ → List ℕ
-run lay w i hi = slice (lay .order + i) (lay .order + hi) w
+abbrev pub range : Layout → List ℕ → ℕ → ℕ → List ℕ
+range lay w i hi = slice (lay .«left_order» + i) (lay .«left_order» + hi) w
 
--- r is where the run ends, from place i and up to hi, of the left sets with the same key at depth d
-pub record RunEnd (lay : Layout) (w : List ℕ) (d i hi r : ℕ) : Type 0 where
+-- r is where the range ends, from place i and up to hi, of the left sets with the same key at depth d
+pub record RangeEnd (lay : Layout) (w : List ℕ) (d i hi r : ℕ) : Type 0 where
   pub more : i < r
   pub within : r ≤ hi
   pub maximal :
-      (q : Query) → RunThere lay q w i hi
-      → r ≡ i + lead (λ k. eqb (keyAt q d k) (keyAt q d (leftIn lay w i))) (run lay w i hi)
+      (q : Query) → RangeThere lay q w i hi
+      → r ≡ i + lead (λ k. eqb (keyAt q d k) (keyAt q d (leftIn lay w i))) (range lay w i hi)

@@ -1,5 +1,5 @@
--- Left sets that stand by their keys at a depth are parted wherever a run with the same key begins: at the first place, at the end
--- of a run, and at the last place.
+-- Left sets that stand by their keys at a depth are parted wherever a range with the same key begins: at the first place, at the end
+-- of a range, and at the last place.
 use Prim.Native.Nat.{ℕ, zero, suc, _+_, _-_, _≤_, _<_}
 use mathlib.Core.Path.{_≡_, refl, sym, ap, ap₂, subst, _∙_}
 use mathlib.Core.List.{List, [], _++_, append-assoc}
@@ -16,14 +16,14 @@ use Rattle.join_spec.specs.Query.{Query}
 use Rattle.counting_sort.specs.Groups.{groupsFrom}
 use Rattle.join_index.specs.Grouping.{keyAt}
 use Rattle.join_index.specs.declared.Layout.{Layout}
-use Rattle.join_index.specs.Asking.{RunThere}
-use Rattle.join_index.specs.Runs.{leftIn, RunEnd}
-use Rattle.join_index.proofs.Orders.{run-none}
-use Rattle.join_check.proofs.keys.RunEnds.{reaching-start, reaching-end}
+use Rattle.join_index.specs.Asking.{RangeThere}
+use Rattle.join_index.specs.Ranges.{leftIn, RangeEnd}
+use Rattle.join_index.proofs.Orders.{range-none}
+use Rattle.join_check.proofs.keys.RangeEnds.{reaching-start, reaching-end}
 use Rattle.join_nodes.proofs.Groups.{FirstGroup}
-use Rattle.join_nodes.proofs.RunLaws.{Cut, run-split}
+use Rattle.join_nodes.proofs.RangeLaws.{Cut, range-split}
 use Rattle.join_nodes.proofs.blocks.GroupSteps.{group-first, group-cut}
-use Rattle.join_walk.specs.heaviest.Heaviest.{PartedAt, RunBegins, RunChosen}
+use Rattle.join_walk.specs.heaviest.Heaviest.{PartedAt, RangeBegins, RangeChosen}
 use Rattle.join_walk.specs.declared.heaviest.Span.{Span}
 
 -- lists that are the same with the same list behind them
@@ -69,7 +69,7 @@ module _ (key : ℕ → ℕ) where
 
 module _ {lay : Layout} {w : List ℕ} {d lo hi : ℕ} where
   -- the first place
-  pub begins-start : lo ≤ hi → RunBegins lay w d lo hi lo
+  pub begins-start : lo ≤ hi → RangeBegins lay w d lo hi lo
   begins-start upto =
       record {
         low = omega arith;
@@ -80,13 +80,13 @@ module _ {lay : Layout} {w : List ℕ} {d lo hi : ℕ} where
               key = x;
               low = omega arith;
               high = omega arith;
-              front = run-none lay w lo lo (omega arith) ∙ sym (groups-none (keyAt q d) x (x - x) rest (omega arith));
+              front = range-none lay w lo lo (omega arith) ∙ sym (groups-none (keyAt q d) x (x - x) rest (omega arith));
               back = grouped ∙ ap (λ (m : ℕ). groupsFrom (keyAt q d) x m rest) all;
             };
       }
 
   -- the last place
-  begins-end : lo ≤ hi → RunBegins lay w d lo hi hi
+  begins-end : lo ≤ hi → RangeBegins lay w d lo hi hi
   begins-end upto =
       record {
         low = upto;
@@ -99,13 +99,13 @@ module _ {lay : Layout} {w : List ℕ} {d lo hi : ℕ} where
               high = omega arith;
               front = grouped ∙ ap (λ (m : ℕ). groupsFrom (keyAt q d) x m rest) all;
               back =
-                  run-none lay w hi hi (omega arith)
+                  range-none lay w hi hi (omega arith)
                   ∙ sym (groups-none (keyAt q d) (x + n) (x + n - (x + n)) rest (omega arith));
             };
       }
 
-  -- the end of a run
-  pub begins-step : {i j : ℕ} → RunBegins lay w d lo hi i → i < hi → RunEnd lay w d i hi j → RunBegins lay w d lo hi j
+  -- the end of a range
+  pub begins-step : {i j : ℕ} → RangeBegins lay w d lo hi i → i < hi → RangeEnd lay w d i hi j → RangeBegins lay w d lo hi j
   begins-step {i} {j} begins more end =
       record {
         low = omega (arith, begins .low, end .more);
@@ -113,10 +113,10 @@ module _ {lay : Layout} {w : List ℕ} {d lo hi : ℕ} where
         parted = λ q there x n rest grouped. next q there x n rest (begins .parted q there x n rest grouped);
       }
     where
-      next : (q : Query) → RunThere lay q w lo hi → (x n : ℕ) (rest : List ℕ) → PartedAt lay q w d x n rest lo i hi
+      next : (q : Query) → RangeThere lay q w lo hi → (x n : ℕ) (rest : List ℕ) → PartedAt lay q w d x n rest lo i hi
           → PartedAt lay q w d x n rest lo j hi
       next q there x n rest at =
-          let here : RunThere lay q w i hi = record { index = there .index; some = more; within = there .within } in
+          let here : RangeThere lay q w i hi = record { index = there .index; some = more; within = there .within } in
           let own = keyAt q d (leftIn lay w i) in
           let first : FirstGroup (keyAt q d) (at .key) (x + n - at .key) rest (leftIn lay w i) =
           group-first d (at .key) (x + n - at .key) rest here (at .back) in
@@ -130,7 +130,7 @@ module _ {lay : Layout} {w : List ℕ} {d lo hi : ℕ} where
             low = omega (arith, at .low, first .low);
             high = omega (arith, first .high, at .high);
             front =
-                run-split lay q w lo i j (there .index) (begins .low) (omega (arith, end .more)) (omega (arith, end .within, there .within))
+                range-split lay q w lo i j (there .index) (begins .low) (omega (arith, end .more)) (omega (arith, end .within, there .within))
                 ∙ ap₂ (λ (s t : List ℕ). s ++ t) (at .front)
                 (parts .front ∙ groups-upto (keyAt q d) (at .key) (x + n - at .key) rest (leftIn lay w i) first
                 ∙ ap (λ (m : ℕ). groupsFrom (keyAt q d) (at .key) m rest) mid)
@@ -139,39 +139,39 @@ module _ {lay : Layout} {w : List ℕ} {d lo hi : ℕ} where
           }
 
   -- an only left set
-  pub chosen-only : lo < hi → hi - lo ≡ 1 → RunChosen lay w d lo hi (record { lo = lo; hi = hi })
+  pub chosen-only : lo < hi → hi - lo ≡ 1 → RangeChosen lay w d lo hi (record { lo = lo; hi = hi })
   chosen-only some one =
       let next : lo + 1 ≡ hi = omega (arith, some, one) in
       record {
         begins = begins-start (omega (arith, some));
         rise = omega (arith, some);
         within = omega arith;
-        end = λ more. subst (λ (j : ℕ). RunEnd lay w d lo hi j) next (reaching-end (reaching-start some) (omega (arith, next)));
+        end = λ more. subst (λ (j : ℕ). RangeEnd lay w d lo hi j) next (reaching-end (reaching-start some) (omega (arith, next)));
       }
 
-  -- no run at all
-  pub chosen-none : lo ≤ hi → RunChosen lay w d lo hi (record { lo = hi; hi = hi })
+  -- no range at all
+  pub chosen-none : lo ≤ hi → RangeChosen lay w d lo hi (record { lo = hi; hi = hi })
   chosen-none upto =
       record { begins = begins-end upto; rise = omega arith; within = omega arith; end = λ more. absurd (omega (arith, more)) }
 
-  -- a run, or the one chosen so far
-  pub chosen-step : {i j : ℕ} {best r : Span} (b : Bool) → RunBegins lay w d lo hi i → RunEnd lay w d i hi j
-      → RunChosen lay w d lo hi best → r ≡ cond b (record { lo = i; hi = j }) best → RunChosen lay w d lo hi r
+  -- a range, or the one chosen so far
+  pub chosen-step : {i j : ℕ} {best r : Span} (b : Bool) → RangeBegins lay w d lo hi i → RangeEnd lay w d i hi j
+      → RangeChosen lay w d lo hi best → r ≡ cond b (record { lo = i; hi = j }) best → RangeChosen lay w d lo hi r
   chosen-step {i} {j} {best} true begins end chosen is =
-      subst (λ (s : Span). RunChosen lay w d lo hi s) (sym is)
+      subst (λ (s : Span). RangeChosen lay w d lo hi s) (sym is)
       (record { begins = begins; rise = omega (arith, end .more); within = end .within; end = λ more. end })
-  chosen-step false begins end chosen is = subst (λ (s : Span). RunChosen lay w d lo hi s) (sym is) chosen
+  chosen-step false begins end chosen is = subst (λ (s : Span). RangeChosen lay w d lo hi s) (sym is) chosen
 
   -- the place after the chosen one
-  pub chosen-begins : {r : Span} → RunChosen lay w d lo hi r → RunBegins lay w d lo hi (r .hi)
+  pub chosen-begins : {r : Span} → RangeChosen lay w d lo hi r → RangeBegins lay w d lo hi (r .hi)
   chosen-begins {r} chosen = by-test (ltb (r .lo) (r .hi)) some none
     where
-      some : ltb (r .lo) (r .hi) ≡ true → RunBegins lay w d lo hi (r .hi)
+      some : ltb (r .lo) (r .hi) ≡ true → RangeBegins lay w d lo hi (r .hi)
       some test =
           let more : r .lo < r .hi = ltb-true (r .lo) (r .hi) test in
           begins-step (chosen .begins) (omega (arith, chosen .within)) (chosen .end more)
 
-      none : ltb (r .lo) (r .hi) ≡ false → RunBegins lay w d lo hi (r .hi)
+      none : ltb (r .lo) (r .hi) ≡ false → RangeBegins lay w d lo hi (r .hi)
       none test =
           let same : r .lo ≡ r .hi = omega (arith, chosen .rise, ltb-false (r .lo) (r .hi) test) in
-          subst (λ (i : ℕ). RunBegins lay w d lo hi i) same (chosen .begins)
+          subst (λ (i : ℕ). RangeBegins lay w d lo hi i) same (chosen .begins)
