@@ -1,6 +1,7 @@
 -- What goes into an operation over both collections, as it is lent. Document 01, "Sets and settings".
 use Prim.Native.Nat.{ℕ}
 use mathlib.Core.List.{List}
+use Rattle.lists.specs.Lent.{Lent, atCall}
 use Rattle.sets.specs.Collections.{Collection, setsIn}
 
 -- the count of items and both collections
@@ -17,6 +18,11 @@ inputOf T leftEnds leftItems rightEnds rightItems =
       left = record { ends = leftEnds; items = leftItems };
       right = record { ends = rightEnds; items = rightItems };
     }
+
+-- the input that a call finds in the lists lent to it
+abbrev pub lentInput : ℕ → Lent → Lent → Lent → Lent → Input
+lentInput T leftEnds leftItems rightEnds rightItems =
+    inputOf T (atCall leftEnds) (atCall leftItems) (atCall rightEnds) (atCall rightItems)
 
 -- the sets of each side, by place
 abbrev pub leftSets : Input → List (List ℕ)

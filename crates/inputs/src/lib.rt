@@ -12,7 +12,7 @@ ghost use mathlib.Core.Path.{_≡_};
 ghost use mathlib.Core.Bool.{true};
 ghost use Rattle.lists.specs.Lists.{rising};
 ghost use Rattle.sets.specs.Collections.{contained};
-ghost use Rattle.inputs.specs.Input.{inputOf};
+ghost use Rattle.inputs.specs.Input.{lentInput};
 ghost use Rattle.inputs.specs.Tests.{itemsTest, sideTest, setsTest, loneTest, wordsNeeded, workTest};
 ghost use Rattle.inputs.specs.Inner.{Sized};
 
@@ -45,8 +45,7 @@ pub fn test_sets(
     right_ends: &[u32],
     right_items: &[u16],
 ) -> Tested
-    ensures { λ r. ⌜ r ≡ setsTest (inputOf t (now («left_ends» .entry)) (now («left_items» .entry))
-        (now («right_ends» .entry)) (now («right_items» .entry))) ⌝ }
+    ensures { λ r. ⌜ r ≡ setsTest (lentInput t «left_ends» «left_items» «right_ends» «right_items») ⌝ }
 {
     let left = test_side(t, Side::Left, left_ends, left_items);
     match left {
@@ -75,8 +74,7 @@ pub fn words_needed(
     right_items: &[u16],
 ) -> usize
     requires { ⌜ Sized t (now «left_ends») (now «right_ends») ⌝ }
-    ensures { λ r. ⌜ r ≡ wordsNeeded (inputOf t (now («left_ends» .entry)) (now («left_items» .entry))
-        (now («right_ends» .entry)) (now («right_items» .entry))) ⌝ }
+    ensures { λ r. ⌜ r ≡ wordsNeeded (lentInput t «left_ends» «left_items» «right_ends» «right_items») ⌝ }
 {
     let sets = left_ends.len() + right_ends.len();
     let entries = count_entries(left_ends) + count_entries(right_ends);
@@ -93,8 +91,7 @@ pub fn test_work(
     words: usize,
 ) -> Tested
     requires { ⌜ Sized t (now «left_ends») (now «right_ends») ⌝ }
-    ensures { λ r. ⌜ r ≡ workTest (inputOf t (now («left_ends» .entry)) (now («left_items» .entry))
-        (now («right_ends» .entry)) (now («right_items» .entry))) words ⌝ }
+    ensures { λ r. ⌜ r ≡ workTest (lentInput t «left_ends» «left_items» «right_ends» «right_items») words ⌝ }
 {
     if words < words_needed(t, left_ends, left_items, right_ends, right_items) {
         return Tested::Failed(Refusal::ShortWork);

@@ -17,7 +17,7 @@ ghost use mathlib.Core.Path.{_≡_};
 ghost use lib.ListN.{length};
 ghost use Rattle.sets.specs.Collections.{setsOf};
 ghost use Rattle.join_spec.specs.PairList.{pairList};
-ghost use Rattle.inputs.specs.Input.{inputOf};
+ghost use Rattle.inputs.specs.Input.{inputOf, lentInput};
 ghost use Rattle.join_spec.specs.Query.{settingsOf, queryOf};
 ghost use Rattle.join_spec.specs.Answer.{roomOf, walkAnswer, pairsAfter, JoinCall, RunCall};
 ghost use Rattle.join.specs.Ready.{Accepted};
@@ -44,8 +44,7 @@ fn join_ready(
     requires { ⌜ Accepted (inputOf t (now «left_ends») (now «left_items») (now «right_ends») (now «right_items»))
         limit (now ranks) (now work) ⌝ }
     ensures answer { λ r. ⌜ r ≡ walkAnswer
-        (queryOf (inputOf t (now («left_ends» .entry)) (now («left_items» .entry))
-        (now («right_ends» .entry)) (now («right_items» .entry)))
+        (queryOf (lentInput t «left_ends» «left_items» «right_ends» «right_items»)
         (settingsOf limit (now (ranks .entry)) budget rule)) budget (length (now (pairs .entry))) ⌝ }
     ensures pairs { λ r. ⌜ now (pairs .exit) ≡ pairsAfter r
         (pairList (setsOf (now («left_ends» .entry)) (now («left_items» .entry)))
@@ -91,7 +90,7 @@ pub fn run(
     pairs: &mut [u16],
 ) -> JoinAnswer
     ensures { λ r. ⌜ RunCall
-        (inputOf t (now («left_ends» .entry)) (now («left_items» .entry)) (now («right_ends» .entry)) (now («right_items» .entry)))
+        (lentInput t «left_ends» «left_items» «right_ends» «right_items»)
         (settingsOf limit (now (ranks .entry)) budget rule)
         (now (work .entry)) (now (pairs .entry)) (now (work .exit)) (now (pairs .exit)) r ⌝ }
 {
@@ -153,9 +152,9 @@ pub fn run_numbered(
     pairs: &mut [u16],
 ) -> JoinAnswer
     ensures { λ r. ⌜ JoinCall (numberedAnswer
-        (inputOf t (now («left_ends» .entry)) (now («left_items» .entry)) (now («right_ends» .entry)) (now («right_items» .entry)))
+        (lentInput t «left_ends» «left_items» «right_ends» «right_items»)
         limit (now (ranks .entry)) budget number weights (roomOf (now (work .entry)) (now (pairs .entry))))
-        (inputOf t (now («left_ends» .entry)) (now («left_items» .entry)) (now («right_ends» .entry)) (now («right_items» .entry)))
+        (lentInput t «left_ends» «left_items» «right_ends» «right_items»)
         (now (work .entry)) (now (pairs .entry)) (now (work .exit)) (now (pairs .exit)) r ⌝ }
 {
     let tested = test_rule(number);

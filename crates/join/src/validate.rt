@@ -11,7 +11,7 @@ ghost use mathlib.Core.Path.{_≡_};
 ghost use lib.Dec.{ltb};
 ghost use Rattle.sets.specs.Refusals.{refuseIf};
 ghost use Rattle.sets.specs.declared.Refusal.the-variants.{BadSettings};
-ghost use Rattle.inputs.specs.Input.{inputOf};
+ghost use Rattle.inputs.specs.Input.{lentInput};
 ghost use Rattle.join_spec.specs.Answer.{badSettings, joinTests};
 
 // Whether T, a limit or a rank table is refused.
@@ -41,8 +41,8 @@ pub fn test_join(
     ranks: &[u16],
     words: usize,
 ) -> Tested
-    ensures { λ r. ⌜ r ≡ joinTests (inputOf t (now («left_ends» .entry)) (now («left_items» .entry))
-        (now («right_ends» .entry)) (now («right_items» .entry))) limit (now (ranks .entry)) words ⌝ }
+    ensures { λ r. ⌜ r ≡ joinTests (lentInput t «left_ends» «left_items» «right_ends» «right_items») limit
+        (now (ranks .entry)) words ⌝ }
 {
     if bad_settings(t, limit, ranks) {
         return Tested::Failed(Refusal::BadSettings);

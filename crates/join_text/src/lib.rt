@@ -8,7 +8,7 @@ use text::answer_text::put_answer;
 use text::number_lines::put_refusal;
 ghost use mathlib.Core.Path.{_≡_};
 ghost use lib.ListN.{length};
-ghost use Rattle.inputs.specs.Input.{inputOf};
+ghost use Rattle.inputs.specs.Input.{lentInput};
 ghost use Rattle.join_text.specs.JoinText.{workWords, pairPlaces, settingsUnder, programSettings, joinText, FillsText};
 ghost use Rattle.join_text.specs.Inner.{Numbered};
 
@@ -50,7 +50,7 @@ fn list_ordered(
 ) -> usize
     requires { ⌜ Numbered (now «left_numbers») (now «left_ends») (now «right_numbers») (now «right_ends») (now text) ⌝ }
     ensures { λ r. ⌜ FillsText (joinText repeats (now («left_numbers» .entry)) (now («right_numbers» .entry))
-        (inputOf t (now («left_ends» .entry)) (now («left_items» .entry)) (now («right_ends» .entry)) (now («right_items» .entry)))
+        (lentInput t «left_ends» «left_items» «right_ends» «right_items»)
         (settingsUnder (now (ranks .entry)))) (now (text .entry)) r (now (text .exit)) ⌝ }
 {
     let mut work = new_work();
@@ -87,9 +87,8 @@ pub fn list_loaded(
     requires { ⌜ Numbered (now «left_numbers») (now «left_ends») (now «right_numbers») (now «right_ends») (now text) ⌝ }
     requires { ⌜ length (now ranks) ≡ t ⌝ }
     ensures { λ r. ⌜ FillsText (joinText repeats (now («left_numbers» .entry)) (now («right_numbers» .entry))
-        (inputOf t (now («left_ends» .entry)) (now («left_items» .entry)) (now («right_ends» .entry)) (now («right_items» .entry)))
-        (programSettings (inputOf t (now («left_ends» .entry)) (now («left_items» .entry))
-        (now («right_ends» .entry)) (now («right_items» .entry))))) (now (text .entry)) r (now (text .exit)) ⌝ }
+        (lentInput t «left_ends» «left_items» «right_ends» «right_items»)
+        (programSettings (lentInput t «left_ends» «left_items» «right_ends» «right_items»))) (now (text .entry)) r (now (text .exit)) ⌝ }
 {
     let answer = item_order::order(
         t,

@@ -8,7 +8,7 @@ ghost use lib.ListN.{length};
 ghost use Rattle.tag_file.specs.Repeats.{recordRead};
 ghost use Rattle.tag_file.specs.answers.Words.{readWords, loadWords};
 ghost use Rattle.join_spec.specs.Answer.{roomOf, joinWords, JoinCall};
-ghost use Rattle.inputs.specs.Input.{inputOf};
+ghost use Rattle.inputs.specs.Input.{lentInput};
 ghost use Rattle.join.specs.Numbered.{weightsOf, numberedAnswer};
 ghost use Rattle.first_search_spec.specs.First.{firstAnswer, firstWords};
 ghost use Rattle.item_order_spec.specs.Order.{orderAnswer, orderRanks, orderWords};
@@ -37,15 +37,15 @@ pub extern "C" fn kitfinder_join(
     answer: &mut [u64; 9],
 )
     ensures answer { λ _. ⌜ now (answer .exit) ≡ joinWords (numberedAnswer
-        (inputOf t (now («left_ends» .entry)) (now («left_items» .entry)) (now («right_ends» .entry)) (now («right_items» .entry)))
+        (lentInput t «left_ends» «left_items» «right_ends» «right_items»)
         limit (now (ranks .entry)) budget number (weightsOf a b g h) (roomOf (now (work .entry)) (now (pairs .entry)))) ⌝ }
     ensures lists { λ _. ⌜ JoinCall (numberedAnswer
-        (inputOf t (now («left_ends» .entry)) (now («left_items» .entry)) (now («right_ends» .entry)) (now («right_items» .entry)))
+        (lentInput t «left_ends» «left_items» «right_ends» «right_items»)
         limit (now (ranks .entry)) budget number (weightsOf a b g h) (roomOf (now (work .entry)) (now (pairs .entry))))
-        (inputOf t (now («left_ends» .entry)) (now («left_items» .entry)) (now («right_ends» .entry)) (now («right_items» .entry)))
+        (lentInput t «left_ends» «left_items» «right_ends» «right_items»)
         (now (work .entry)) (now (pairs .entry)) (now (work .exit)) (now (pairs .exit))
         (numberedAnswer
-        (inputOf t (now («left_ends» .entry)) (now («left_items» .entry)) (now («right_ends» .entry)) (now («right_items» .entry)))
+        (lentInput t «left_ends» «left_items» «right_ends» «right_items»)
         limit (now (ranks .entry)) budget number (weightsOf a b g h) (roomOf (now (work .entry)) (now (pairs .entry)))) ⌝ }
 {
     let weights = Weights { a, b, g, h };
@@ -106,10 +106,10 @@ pub extern "C" fn kitfinder_order(
     answer: &mut [u64; 3],
 )
     ensures answer { λ _. ⌜ now (answer .exit) ≡ orderWords (orderAnswer
-        (inputOf t (now («left_ends» .entry)) (now («left_items» .entry)) (now («right_ends» .entry)) (now («right_items» .entry)))
+        (lentInput t «left_ends» «left_items» «right_ends» «right_items»)
         (length (now (ranks .entry)))) ⌝ }
     ensures ranks { λ _. ⌜ now (ranks .exit) ≡ orderRanks
-        (inputOf t (now («left_ends» .entry)) (now («left_items» .entry)) (now («right_ends» .entry)) (now («right_items» .entry)))
+        (lentInput t «left_ends» «left_items» «right_ends» «right_items»)
         (not (eqb falling 0)) (now (ranks .entry)) ⌝ }
 {
     *answer = item_order_spec::order_words(item_order::order(

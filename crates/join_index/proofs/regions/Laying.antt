@@ -38,7 +38,7 @@ module _ (T lefts rights nl nr words end : ℕ) where
         «left_ranks» = left-starts + lefts + 1;
         «least_offsets» = least-offsets;
         «by_least» = by-least;
-        order = order;
+        «left_order» = order;
         «right_signatures» = order + lefts;
         «left_signatures» = order + lefts + 2 * rights;
         slots = slots;
