@@ -4,7 +4,7 @@ use bench::measure::{contest, Contestant};
 use bench::peers::{BitRows, FreshJoin, Limit, NestedLoop, Peer, Pretti};
 use bench::plot::{self, Line};
 use bench::table::{rows, table, time};
-use bench::workloads::{self, growth, kinds, Workload, FULL};
+use bench::workloads::{self, growth, kinds, thin_kinds, Workload, FULL};
 use kitfinder::{Query, Rule, Weights};
 use std::cell::RefCell;
 use std::hint::black_box;
@@ -63,7 +63,7 @@ fn methods() -> Vec<Method> {
         Method::new("PRETTI", Pretti::default()).published().plotted(),
         Method::new("LIMIT, limit 2", Limit::new(2)).published(),
         Method::new("LIMIT+, limit 255", Limit::adaptive(255)).published().plotted(),
-        Method::new("FreshJoin", FreshJoin::default()).published(),
+        Method::new("FreshJoin", FreshJoin::default()).published().plotted(),
         Method::new("nested loop with marks", NestedLoop::default()),
         Method::new("bit rows", BitRows::default()).plotted(),
     ]
@@ -111,14 +111,20 @@ fn behind(settings: usize, kinds: &[Workload], methods: &[Method], times: &[Vec<
     }
 }
 
+/// The times on kinds of workload, with their pairs.
+fn time_table(title: &str, kinds: &[Workload], methods: &[Method], times: &[Vec<f64>], found: &[usize]) -> String {
+    let heads: Vec<String> = kinds.iter().map(|w| w.name.clone()).collect();
+    let mut lines = rows(&names(methods), times, |column, k| time(column[k]));
+    lines.push(("pairs", found.iter().map(usize::to_string).collect()));
+    table(title, &heads, &lines)
+}
+
 /// Times and ratios on every kind of workload.
 fn kind_tables(kinds: &[Workload], methods: &[Method], times: &[Vec<f64>], found: &[usize]) -> String {
     let names = names(methods);
     let heads: Vec<String> = kinds.iter().map(|w| w.name.clone()).collect();
-    let mut lines = rows(&names, times, |column, k| time(column[k]));
-    lines.push(("pairs", found.iter().map(usize::to_string).collect()));
     let ratios = rows(&names, times, |column, k| format!("{:.2}", column[k] / column[0]));
-    table("time of one join", &heads, &lines)
+    time_table("time of one join", kinds, methods, times, found)
         + &table(&format!("ratio to {}", names[0]), &heads, &ratios)
         + &format!("Merge with limit 2 is behind a published method on: {}.\n", behind(1, kinds, methods, times))
         + &format!("The better of the limits 2 and 255 is behind one on: {}.\n\n", behind(2, kinds, methods, times))
@@ -143,19 +149,21 @@ fn growth_report(sizes: &[usize], methods: &[Method], times: &[Vec<f64>]) -> Rep
 }
 
 pub fn measure(rounds: usize) -> Report {
-    let (kinds, growth, methods) = (kinds(), growth(), methods());
+    let (kinds, thin, growth, methods) = (kinds(), thin_kinds(), growth(), methods());
     let mut pairs = vec![[0; 2]; 1 << 22];
     let small: Vec<Workload> = (0..400).map(workloads::small).collect();
     compare(&small.iter().collect::<Vec<&Workload>>(), &methods, &mut pairs[..1 << 16]);
-    let all: Vec<&Workload> = kinds.iter().chain(&growth).collect();
+    let all: Vec<&Workload> = kinds.iter().chain(&thin).chain(&growth).collect();
     let found = compare(&all, &methods, &mut pairs);
     let mut times = time_all(&all, &methods, &mut pairs, rounds);
 
     let full = kinds.iter().position(|w| w.name == FULL).expect("there is a full workload");
-    let mut growth_times = times.split_off(kinds.len());
+    let mut growth_times = times.split_off(kinds.len() + thin.len());
+    let thin_times = times.split_off(kinds.len());
     growth_times.push(times[full].clone());
     let sizes: Vec<usize> = growth.iter().chain([&kinds[full]]).map(|w| w.left.len()).collect();
     let Report { tables, plot } = growth_report(&sizes, &methods, &growth_times);
     let title = format!("The kind `{FULL}` as its sets and items double; its last column is the one above.\n\n");
-    Report { tables: kind_tables(&kinds, &methods, &times, &found[..kinds.len()]) + &title + &tables, plot }
+    let thin_table = time_table("time of one join over many tags", &thin, &methods, &thin_times, &found[kinds.len()..kinds.len() + thin.len()]);
+    Report { tables: kind_tables(&kinds, &methods, &times, &found[..kinds.len()]) + &thin_table + &title + &tables, plot }
 }

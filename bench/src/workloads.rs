@@ -1,5 +1,5 @@
-//! The inputs that are measured: eight kinds of join, the growth of one of them, waiting screens, and tag files. All follow from their
-//! seeds.
+//! The inputs that are measured: eight kinds of join, two more with many tags and few entries, the growth of one kind, waiting screens, and
+//! tag files. All follow from their seeds.
 
 use crate::peers::is_within;
 use crate::random::Random;
@@ -240,6 +240,23 @@ pub fn kinds() -> Vec<Workload> {
         long(),
         equal(),
         deep(),
+    ]
+}
+
+/// Sets of one or two of the most popular 64 of many items: every item that is held at all is held by many.
+fn popular() -> Workload {
+    let random = &mut Random(10);
+    let popular: Vec<u16> = random.shuffled(4096)[..64].to_vec();
+    let right: Vec<Vec<u16>> = (0..4096).map(|_| part(&popular, 1, random)).collect();
+    let left: Vec<Vec<u16>> = (0..4096).map(|_| part(&popular, 2, random)).collect();
+    Workload::new("popular", 4096, &left, &right)
+}
+
+/// Two kinds with so few entries for their tags and stacks that a bit for each tag and stack does not fit a work list of 16n + 64 words.
+pub fn thin_kinds() -> Vec<Workload> {
+    vec![
+        plain("sparse", 9, &Kind { t: 4096, zipf: 0.5, left: (1000, (1, 6)), right: (4096, (1, 6)), around: 5 }),
+        popular(),
     ]
 }
 
