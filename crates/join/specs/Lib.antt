@@ -1,4 +1,5 @@
--- Contents: the rule as a number; then what an input has that passed the tests before the walk.
+-- Contents: the rule as a number; then, inner, an input that passed the tests before the walk, the answer by the walk's counters, and
+-- the pair list by the answer.
 pub mod Numbered
 pub mod Ready
 pub mod tally_answer

@@ -1,2 +1,2 @@
--- Contents: what the function of this crate asks.
+-- Contents: what the function of this module asks.
 pub mod Output

@@ -1,2 +1,2 @@
--- Contents: what the function of this crate asks and answers.
+-- Contents: what the function of this module asks and answers.
 pub mod Answering

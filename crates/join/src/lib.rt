@@ -1,4 +1,5 @@
-// The set containment join: its tests, the walk, and the pair list. Document 01 calls it the run.
+// The set containment join, which document 01 calls the run: its tests (`validate`), the index, the walk, its answer (`tally_answer`)
+// and the pair list (`output`). The same with the rule as a number is for the C boundary.
 use crate::output::write_answer;
 use crate::tally_answer::answer_tally;
 use crate::validate::test_join;

@@ -1,4 +1,4 @@
--- Contents: what the functions of this crate ask and answer.
+-- Contents: the counters of a walk, checks of left sets, and one check.
 pub mod Counters
 pub mod Checks
 pub mod Probes

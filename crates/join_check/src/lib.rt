@@ -1,4 +1,5 @@
-// The checks of left sets against right sets, and the counters that they raise. The work list is read by its layout.
+// The checks of left sets against right sets, and the counters that they raise. `keys` reads what parts the left sets off the index;
+// `gather` checks a whole subtree. The work list is read by its layout.
 use join_index::Layout;
 use signatures::double_at;
 use words::subsets::subset_words;

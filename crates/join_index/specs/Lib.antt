@@ -1,5 +1,5 @@
--- Contents: the order of the left sets, what the regions of the work list hold during the walk, and what the functions that read
--- them ask.
+-- Contents: the order of the left sets, what the regions of the work list hold during the walk, and what their readers ask; then where
+-- the regions lie, and what the stages and the build need and leave.
 pub mod Grouping
 pub mod Ground
 pub mod Asking

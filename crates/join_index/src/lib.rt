@@ -1,6 +1,7 @@
-// The index of a join: everything the walk reads, laid out once in the lent work list. Both collections as ranks, their
-// signatures, the inverted index of the right sets, and the left sets in the order of their paths. Here is what its regions are and
-// hold, and what those who read it may ask; it is built by join_build.
+// The index of a join: everything the walk reads, laid out once in the lent work list. Both collections as ranks, their signatures,
+// the inverted index of the right sets, and the left sets in the order of their paths. Here is what its regions are and hold, and what
+// its readers may ask. `regions` says where they lie, `stages` sorts the right sets by least rank and the left sets, `build` builds it
+// all.
 
 ghost use mathlib.Core.Path.{_≡_};
 ghost use Rattle.join_index.specs.Ground.{asksSeen};

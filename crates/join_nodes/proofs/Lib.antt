@@ -1,5 +1,6 @@
 -- Laws of a node, without code: what a row is where a walk ends or goes on, the ranges of left sets in the order, the decision and the
--- candidates at a node, and how visits of one part after another make one.
+-- candidates at a node, and how visits of one part after another make one. Those of one module alone are on the pages blocks, lone and
+-- enter.
 pub mod Asked
 pub mod PathLaws
 pub mod RowLaws

@@ -1,3 +1,3 @@
--- Contents: what the functions of this crate ask and answer.
+-- Contents: what the functions of this module ask and answer.
 pub mod Containing
 pub mod Writing

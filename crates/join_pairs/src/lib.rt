@@ -1,5 +1,6 @@
-// The pair list of a join: left set by left set, and for each the right sets that contain it, by place. Rows that the walk kept
-// are copied, and the others are found in the index; which of them the walk kept has no bearing on the list.
+// The pair list of a join: left set by left set, and for each the right sets that contain it, by place. Rows that the walk kept are
+// copied (`row_pairs`); the others are looked for in the index (`left_search`, from the candidates of `shortlists`). Which rows were
+// kept has no bearing on the list.
 use crate::left_search::search_left;
 use crate::row_pairs::write_kept;
 use join_index::Layout;

@@ -1,5 +1,5 @@
-// What the join means: its settings and its answer, with their definitions in specs/, and in proofs/ the laws about them that
-// need no code. The code that meets them stands in the crates above.
+// What the join means: its settings and its answer, defined in specs/, with laws in proofs/ that need no code. `answers` gives the
+// answer as words at the C boundary. The code that meets all this is in the crates above.
 use sets::Refusal;
 
 pub mod answers;

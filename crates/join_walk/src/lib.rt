@@ -1,4 +1,5 @@
-// The whole walk: partition by partition in rank order, each with the right sets seen at its rank.
+// The whole walk: partition by partition in rank order, each with the right sets seen at its rank. `partition` visits one, `visit`
+// visits a node and all below it, and `heaviest` finds the child with most left sets.
 use crate::partition::visit_partition;
 use join_check::Tally;
 use join_check::keys::range_end;

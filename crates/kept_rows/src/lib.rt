@@ -1,4 +1,5 @@
-// Rows that are kept as they stand: no row at first, and then one shared row for left sets that the same right sets contain.
+// Rows: the right sets that contain a left set, kept in the work list for the pair list. At first no row is kept; then one shared row
+// for left sets that the same right sets contain. `checked` keeps a row while its left set is checked.
 use join_index::Layout;
 use words::copies::copy_words;
 use words::word_at;

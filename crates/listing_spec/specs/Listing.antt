@@ -1,6 +1,6 @@
 -- The text that the program kitlist prints for a file, from the file's bytes on. Document 01, "The program kitlist"; document 02,
 -- C-15. Kits are left sets here and stacks right sets. The text of a join is defined in `join_text`, the line of a refusal in
--- `text_lines`; the first record at fault, what records fill and their repeats are those of the operations.
+-- `text`; the first record at fault, what records fill and their repeats are those of the operations.
 use Prim.Native.Nat.{ℕ}
 use mathlib.Core.List.{List}
 use lib.Dec.{ltb}

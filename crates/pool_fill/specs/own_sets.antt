@@ -1,2 +1,2 @@
--- Contents: what the functions of this crate ask and promise.
+-- Contents: what the functions of this module ask and promise.
 pub mod Own

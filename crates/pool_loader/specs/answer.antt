@@ -1,2 +1,2 @@
--- Contents: what the function of this crate asks and promises.
+-- Contents: what the function of this module asks and promises.
 pub mod Deciding

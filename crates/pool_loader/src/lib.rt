@@ -1,5 +1,5 @@
 // The pooled load of two tag files into seven lent lists, over one tag table: the first passes over both files, the room, and the
-// second passes. It allocates nothing beyond its own arrays.
+// second passes. `second_file` has all that follows the first file, `answer` the answer. It allocates nothing beyond its own arrays.
 use crate::second_file::pool_second;
 use tag_file::LoadAnswer;
 use tag_index::HINT_SLOTS;

@@ -1,4 +1,4 @@
--- Laws of the pass over the second file.
+-- Laws of the pass over the second file; slots, unions and counts are on the pages right_slots, union and counting.
 -- the words of the slots, and the sets that are too long, with one more record
 pub mod Words
 -- the counts and the index with one more right set

@@ -1,6 +1,7 @@
-// The first pass over the second of two pooled files: the first record at fault, or the counts of the pooled records, the repeats of both
-// files and the index of their tags. It goes on from the counts, the repeats and the index of the first file. The tags of a pooled set are
-// counted as a union; its repeats by the second file's record alone.
+// The first pass over the second of two pooled files: the first record at fault, or the counts of the pooled records, the repeats of
+// both files and the index of their tags. It goes on from the counts, the repeats and the index of the first file. `right_slots` finds
+// the first file's right set of a number, `union` takes in the tags of a set from both files, `counting` has what is counted. A pooled
+// set counts as a union; its repeats are the second file's record's alone.
 use crate::counting::Second;
 use crate::counting::accepted;
 use crate::counting::count_from;

@@ -1,4 +1,5 @@
-// The signatures of the sets (marks), two words each in the work list, low then high, straight from the items.
+// The signatures of the sets (marks in document 01), two words each in the work list, low then high, straight from the items.
+// `item_bits` has the bit of each item.
 
 use crate::item_bits::position_of;
 use crate::item_bits::position_table;

@@ -1,5 +1,5 @@
-// A record of the tag file, read. What a record is, and what the loader fills, is defined in specs/; the record reader that counts
-// repeats and the loader have crates of their own.
+// A record of the tag file, read. What a record is, and what the loader fills and answers, is defined in specs/; `answers` gives the
+// answers as words at the C boundary. The record reader that counts repeats and the loader have crates of their own.
 use sets::Refusal;
 use sets::Side;
 

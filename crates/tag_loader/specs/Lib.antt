@@ -1,4 +1,4 @@
--- Contents: what the loader's inner functions ask and promise. What the loader itself promises is defined in tag_file.
+-- Contents: what the loader's second pass and its modules ask and promise. What the loader itself promises is defined in `tag_file`.
 pub mod Passes
 pub mod record_items
 pub mod fill

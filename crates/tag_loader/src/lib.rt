@@ -1,5 +1,6 @@
-// The loader of tag files: a first pass finds the first record at fault, or the counts and the index of the distinct tags; a
-// second pass fills the seven lent lists. It allocates nothing beyond its own arrays.
+// The loader of tag files. A first pass finds the first record at fault, or the counts and the index of the distinct tags (tag_scan).
+// Then `lent_lists` tests the room, `tag_table` writes the tags, and `fill` goes through the file again for each side, record by
+// record (`record_items`). It allocates nothing beyond its own arrays.
 use crate::fill::fill_side;
 use crate::lent_lists::clear_lists;
 use crate::lent_lists::has_room;

@@ -1,4 +1,4 @@
--- Contents: what the loader's first pass asks and promises.
+-- Contents: what the loader's first pass asks and promises; then where a used number is noted, and the totals of a load.
 pub mod Scan
 pub mod used_numbers
 pub mod totals

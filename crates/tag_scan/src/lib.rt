@@ -1,5 +1,6 @@
 // The loader's first pass over a tag file: the first record at fault, or the counts and the repeats of the file and the index of its
-// tags. The index tells how many distinct tags a record has, and so how many are repeats.
+// tags. The index tells how many distinct tags a record has, and so how many are repeats. `used_numbers` notes the numbers, `totals`
+// has the counts with one more record and the limits.
 use crate::totals::grown;
 use crate::totals::is_over;
 use crate::totals::repeated;

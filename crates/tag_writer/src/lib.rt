@@ -1,5 +1,5 @@
-// The writer of a tag file (document 01, "Tag file"): a record for each left set (kit), then for each right set (stack). What
-// it answers and leaves in the lent output is defined in `writer_spec`.
+// The writer of a tag file (document 01, "Tag file"): a record for each left set (kit), then for each right set (stack), by
+// `record_writer`. What it answers and leaves in the lent output is defined in `tag_writer_spec`.
 use crate::record_writer::TAG_LENGTH;
 use crate::record_writer::put_side;
 use crate::record_writer::side_length;

@@ -1,4 +1,4 @@
-// The line of the six counts of a join, written into a lent list of bytes. What it is is defined in `text_lines`. Each function
+// The line of the six counts of a join, written into a lent list of bytes. What it is is defined in Lines. Each function
 // returns the place after what it wrote.
 use crate::put_labelled;
 use crate::put_word;

@@ -1,6 +1,6 @@
-// The lines of the program kitlist: what each is is defined in specs/. Here the words and the numbers in decimal that they are made
-// of are written into a lent list of bytes; the lines are written by the crates above. Each function returns the place after what
-// it wrote.
+// The lines of the program kitlist, defined in specs/. Here words and decimal numbers are written into a lent list of bytes; the
+// modules write the lines: `counts_line`, `pair_lines`, `number_lines` (a refusal, the repeats), and `answer_text` the whole text of a
+// join's answer. Each function returns the place after what it wrote.
 ghost use Prim.Native.Nat.{_+_, _≤_};
 ghost use lib.ListN.{length};
 ghost use Rattle.lists.specs.Writing.{RoomFor, Put};

@@ -1,4 +1,4 @@
-// The lines of pairs of record numbers, written into a lent list of bytes. What a line is is defined in `text_lines`. Each function
+// The lines of pairs of record numbers, written into a lent list of bytes. What a line is is defined in Lines. Each function
 // returns the place after what it wrote.
 use crate::put_labelled;
 use crate::put_number;

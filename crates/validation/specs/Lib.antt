@@ -1,3 +1,3 @@
--- Contents: Whether the input is valid: the falls of a list, one set, a collection, a rank table.
+-- Contents: the falls of a list, and a collection tested as one list. What is valid is defined in `sets`.
 pub mod falls
 pub mod collections

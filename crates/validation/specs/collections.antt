@@ -1,2 +1,2 @@
--- Contents: what the functions of this crate promise each other.
+-- Contents: what the functions of this module promise each other.
 pub mod WholeList

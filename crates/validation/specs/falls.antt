@@ -1,2 +1,2 @@
--- Contents: what the functions of this crate ask and answer.
+-- Contents: what the functions of this module ask and answer.
 pub mod Falls

@@ -1,4 +1,5 @@
--- Laws on parts of a list of words, by topic; each function that needs a proof file has its folder beside them.
+-- Laws on rising parts of a list of words, for `subsets`; the other modules have pages of their own (flags, found, shared, copies).
+-- Each function that needs a proof file has its folder beside them.
 pub mod Lasts
 pub mod Trimming
 pub mod Advancing

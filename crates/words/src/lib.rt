@@ -1,4 +1,6 @@
-// Words of a list as numbers, and tests as numbers.
+// Parts of a list of words, for any caller. Here are words and tests as numbers. `subsets`: whether one rising part has every word of
+// another. `flags`: tables of flags over words. `found`: words found in another part, by halving. `shared`: what two rising parts
+// share. `copies`: parts copied to words above them.
 ghost use Prim.Native.Nat.{_<_};
 ghost use lib.ListN.{length};
 ghost use Rattle.words.specs.Words.{Word, OneWhere};

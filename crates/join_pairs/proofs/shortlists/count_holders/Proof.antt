@@ -1,4 +1,4 @@
--- `join_shortlists::ranks::holders` meets its contract: offsets rise.
+-- `count_holders` meets its contract: offsets rise.
 use native.Mathlib.Omega.{arith}
 use Rattle.join_pairs.proofs.shortlists.Inverted.{inverted-stored}
 use borrow.Author.Needs.{needs}
