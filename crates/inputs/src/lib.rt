@@ -1,5 +1,5 @@
-// The tests of what is lent, shared by the operations over both collections: each answers `Tested`, and an operation makes those
-// that it has in the order of the refusal table. And containment of one set of items in another.
+// The tests of what is lent, shared by the operations over both collections. Each answers `Tested`; an operation makes the ones it
+// needs, in the order of the refusal table. And containment of one set of items in another.
 use sets::MAX_ITEMS;
 use sets::Refusal;
 use sets::Side;
@@ -54,7 +54,7 @@ pub fn test_sets(
     }
 }
 
-// A lone right set, lent as its items alone, is not bad; the place is the one that it would have.
+// A lone right set, lent as its items alone, is not bad; it is refused with the place given.
 pub fn test_lone(t: u32, place: usize, set: &[u16]) -> Tested
     ensures { λ r. ⌜ r ≡ loneTest t place (now (set .entry)) ⌝ }
 {
@@ -99,7 +99,7 @@ pub fn test_work(
     Tested::Passed
 }
 
-// Whether one set of items is contained in another: both strictly rise, and one pass over them decides. An empty one is in none.
+// Whether one set of items is contained in another. Both strictly rise, so one pass decides. An empty one is in none.
 pub fn is_contained(left: &[u16], right: &[u16]) -> bool
     requires { ⌜ (rising (now left) ≡ true) × (rising (now right) ≡ true) ⌝ }
     ensures { λ r. ⌜ r ≡ contained (now (left .entry)) (now (right .entry)) ⌝ }

@@ -28,7 +28,7 @@ pub mod output;
 pub mod tally_answer;
 pub mod validate;
 
-// The join of an input that passed the tests before the walk: the index, the walk, the answer by its counters, and the pair list.
+// The join of an input that passed its tests: the index, the walk, the answer by its counters, and the pair list.
 fn join_ready(
     t: u32,
     left_ends: &[u32],
@@ -137,7 +137,7 @@ fn rule_of(number: u32, weights: Weights) -> Rule
     Rule::Weighed(weights)
 }
 
-// The join with its rule as a number: one above 2 is refused as a bad setting.
+// The join with its rule as a number; one above 2 is refused as a bad setting.
 pub fn run_numbered(
     t: u32,
     left_ends: &[u32],

@@ -1,5 +1,5 @@
-// The answer of a join after its walk, made of the walk's counters: 8 where it was spent, 9 where the pair list is too short, or
-// the six counts.
+// The answer of a join after its walk, by the walk's counters: 8 if the budget was spent, 9 if the pair list is too short, else the
+// six counts.
 use join_check::Tally;
 use join_spec::Counts;
 use join_spec::JoinAnswer;

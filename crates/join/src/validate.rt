@@ -1,5 +1,4 @@
-// The tests of a join before its walk, in the table's order: settings, sets of each side, work list; and of a rule that is a
-// number.
+// The tests of a join before its walk, in the table's order: settings, sets of each side, work list. And the test of a rule's number.
 use inputs::test_sets;
 use inputs::test_work;
 use sets::MAX_ITEMS;

@@ -1,4 +1,4 @@
--- Inner: the candidates of a node, the right sets that are seen and hold the ranks of its path but the last, as a part of the
+-- Inner: the candidates of a node: the right sets that are seen and hold all ranks of its path but the last, listed in a part of the
 -- work list.
 use Prim.Native.Nat.{ℕ, suc, _+_, _-_, _≤_, _<_}
 use mathlib.Core.Path.{_≡_}
@@ -29,8 +29,8 @@ candidateList q path e = keep (λ s. isCandidate e path (rightAt q s)) (upto (le
 abbrev pub slotOf : Layout → List ℕ → ℕ → ℕ
 slotOf lay w r = lay .slots + offsetOf lay w r
 
--- the words from lo up to hi are the candidates of a node at depth d, all below the slot of its last rank; in rising order but
--- for the first depth, where they are those that are seen, if the rule asks for these
+-- work[lo..hi] lists the candidates of a node at depth d, below the slot of its last rank. They rise, except at depth 1: there they
+-- are the right sets seen, if the rule asks for these
 pub record Candidates (lay : Layout) (q : Query) (path w : List ℕ) (d lo hi : ℕ) : Type 0 where
   pub index : Index lay q w
   pub depth : length path ≡ d

@@ -1,5 +1,5 @@
--- Inner: what is known at a node when it is visited, and what a visit answers: the counters with the rows of the node's left sets
--- added, and the rows that are kept, or that the checks would pass the budget.
+-- Inner: what is known at a node when it is visited, and what a visit answers: the counters with the rows of its left sets added, and
+-- the kept rows; or that the checks would exceed the budget.
 use Prim.Native.Nat.{ℕ, suc, _+_, _-_, _*_, _≤_, _<_}
 use mathlib.Core.Path.{_≡_}
 use mathlib.Core.List.{List}
@@ -24,7 +24,7 @@ use Rattle.join_nodes.specs.declared.Progress.{Progress}
 use Rattle.join_nodes.specs.declared.WalkSettings.{WalkSettings}
 use Rattle.join_nodes.specs.declared.Walked.{Walked}
 
--- the settings are the query's, the checks so far are within the budget, and there is room to count n further left sets
+-- the settings are the query's, the checks so far are within the budget, and there is room to count n more left sets
 pub record Underway (st : WalkSettings) (q : Query) (tally : Tally) (n : ℕ) : Type 0 where
   pub limit : st .limit ≡ q .limit
   pub shallow : q .limit ≤ maxLimit
@@ -32,18 +32,18 @@ pub record Underway (st : WalkSettings) (q : Query) (tally : Tally) (n : ℕ) : 
   pub budget : checksIn tally ≤ st .budget
   pub bounded : pairsIn tally + n * length (q .rights) ≤ maxPairs
 
--- the left sets that begin with a path, in the order that their further ranks give
+-- the left sets that begin with a path, ordered by their further ranks
 abbrev pub beginners : Query → List ℕ → ℕ → List ℕ
 beginners q path d = keep (λ k. prefix path (leftAt q k)) (orderFrom q (q .limit - d) d)
 
--- the left set at place lo of the order begins with the path, which has a rank at place i
+-- the left set at left_order[lo] begins with the path, which has a rank at place i
 pub record OnPath (lay : Layout) (q : Query) (path w : List ℕ) (lo i : ℕ) : Type 0 where
   pub index : Index lay q w
   pub few : lo < length (q .lefts)
   pub begins : prefix path (leftAt q (leftIn lay w lo)) ≡ true
   pub deep : i < length path
 
--- a node: its path, its left sets at the places lo up to hi of the order, and its candidates
+-- a node: its path, its left sets in left_order[lo..hi], and its candidates
 pub record NodeAt (lay : Layout) (q : Query) (path w : List ℕ) (d lo hi from to : ℕ) : Type 0 where
   pub candidates : Candidates lay q path w d from to
   pub within : d ≤ q .limit
@@ -57,8 +57,8 @@ pub record Node (lay : Layout) (st : WalkSettings) (q : Query) (path w : List �
   pub underway : Underway st q (p .tally) (hi - lo)
   pub rows : RowsKept lay q w (p .top)
 
--- the left sets at the places lo up to hi go on after a path of d ranks and stand by their next rank: all that have one of some keys
--- in a row there; the partitions are the children of the path without ranks
+-- left_order[lo..hi] has the left sets that go on after a path of d ranks with one of some keys in a row, ordered by their next rank.
+-- The partitions are the children of the path without ranks
 pub record Children (lay : Layout) (st : WalkSettings) (q : Query) (path w : List ℕ) (d lo hi : ℕ) (p : Progress) : Type 0 where
   pub index : Index lay q w
   pub underway : Underway st q (p .tally) (hi - lo)
@@ -73,7 +73,7 @@ pub record Children (lay : Layout) (st : WalkSettings) (q : Query) (path w : Lis
   pub further : 0 < least
   pub lefts : range lay w lo hi ≡ groupsFrom (keyAt q d) least span (beginners q path (suc d))
 
--- the words from..to are the candidates after a path of d ranks, below the slots of all ranks beyond its last
+-- work[from..to] lists the candidates after a path of d ranks, below the slots of all ranks beyond its last
 pub record After (lay : Layout) (q : Query) (path w : List ℕ) (d from to : ℕ) : Type 0 where
   pub deep : 0 < d
   pub last : lastOf path < q .T
@@ -87,15 +87,15 @@ pub record ChildrenAt (lay : Layout) (st : WalkSettings) (q : Query) (path w : L
   pub kids : Children lay st q path w d lo hi p
   pub after : After lay q path w d from to
 
--- the counters became r with the rows of the left sets, their walk being at depth d
+-- the counters became r: the rows of the left sets were added, with the walk at depth d
 pub record Added (q : Query) (d : ℕ) (lefts : List ℕ) (tally r : Tally) : Type 0 where
   pub tallied : Tallied (λ is. sum (row is q d) lefts) tally r
 
--- the counters became r with the pairs of m left sets that end at a node with the c candidates after it
+-- the counters became r: the pairs of m left sets that end at a node with the c candidates after it were added
 pub record Merged (m c : ℕ) (tally r : Tally) : Type 0 where
   pub tallied : Tallied (pathPairs m c) tally r
 
--- the answer of a visit of these left sets: all their rows were added within the budget, or their checks pass it
+-- the answer of a visit of these left sets: all their rows were added within the budget, or their checks exceed it
 pub record Visited (q : Query) (budget d : ℕ) (lefts : List ℕ) (tally : Tally) (r : Walked) : Type 0 where
   pub added : r .spent ≡ false → Added q d lefts tally (r .at .tally)
   pub within : r .spent ≡ false → checksIn (r .at .tally) ≤ budget
@@ -106,8 +106,8 @@ pub record Framed (slot : ℕ) (w w′ : List ℕ) : Type 0 where
   pub size : length w′ ≡ length w
   pub frame : take slot w′ ≡ take slot w
 
--- the left sets at the places lo up to hi were visited at depth d: only words from a slot on changed, their rows were added, and the
--- rows that are kept end at the new top
+-- the left sets in left_order[lo..hi] were visited at depth d: only words from a slot on changed, their rows were added, and the kept
+-- rows end at the new top
 pub record RangeVisited (lay : Layout) (q : Query) (budget slot d : ℕ) (w w′ : List ℕ) (lo hi : ℕ) (tally : Tally)
     (r : Walked) : Type 0 where
   pub framed : Framed slot w w′

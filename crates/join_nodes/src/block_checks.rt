@@ -1,4 +1,4 @@
-// The checks of a block of left sets against every right set of a list, made only where the budget covers all of them.
+// The checks of a block of left sets against every right set of a list, made only if the budget covers all of them.
 use crate::Progress;
 use crate::WalkSettings;
 use crate::Walked;
@@ -11,7 +11,7 @@ ghost use Rattle.join_check.specs.Checks.{RangesThere};
 ghost use Rattle.join_check.specs.Counters.{checksIn};
 ghost use Rattle.join_nodes.specs.block_checks.BlockChecks.{Covered, Small, Blocked};
 
-// Whether the budget covers so many checks more.
+// Whether the budget covers so many more checks.
 pub fn covers(budget: u32, tally: Tally, checks: usize) -> bool
     requires { ⌜ checksIn tally ≤ budget ⌝ }
     ensures { λ r. ⌜ Covered budget tally checks r ⌝ }
@@ -21,8 +21,8 @@ pub fn covers(budget: u32, tally: Tally, checks: usize) -> bool
     checks <= (spare as usize)
 }
 
-// Checks the left sets at the places lo up to hi, which share their first d ranks, after e ranks against every candidate. No
-// check is made where all of them would pass the budget.
+// Checks the left sets in left_order[lo..hi], which share their first d ranks, after e ranks against every candidate. No check is made
+// if all of them together exceed the budget.
 pub fn check_block(
     work: &[u32],
     lay: Layout,

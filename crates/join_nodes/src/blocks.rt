@@ -1,4 +1,4 @@
-// What becomes of the left sets of a node that have no child to visit: checks, and pairs by path, with the rows that are kept.
+// What becomes of a node's left sets that have no child to visit: they are checked or paired by path, and their rows are kept.
 use crate::Progress;
 use crate::WalkSettings;
 use crate::Walked;
@@ -25,13 +25,13 @@ ghost use Rattle.join_nodes.specs.Narrowing.{SomePath};
 ghost use Rattle.join_nodes.specs.Visiting.{RangeVisited, Merged};
 ghost use Rattle.join_nodes.specs.blocks.Blocks.{MergedEnd, PairsKept, RowFinished, Going, AtLimit, Settles};
 
-// The left sets up to place mid were paired by path.
+// The left sets before mid were paired by path.
 pub struct Settled {
     pub mid: usize,
     pub at: Progress,
 }
 
-// Where the left sets end that have no rank after depth d; they stand first.
+// Where the left sets end that have no rank after depth d; they come first.
 pub fn merged_end(work: &[u32], lay: Layout, d: usize, lo: usize, hi: usize) -> usize
     requires { ⌜ SomeQuery (λ q. RangeThere lay q (now work) lo hi) ⌝ }
     ensures { λ r. ⌜ MergedEnd lay (now (work .entry)) d lo hi r ⌝ }
@@ -58,7 +58,7 @@ pub fn add_paths(tally: Tally, m: usize, c: usize) -> Tally
     }
 }
 
-// Pairs the left sets at the places lo up to hi by path with the words from..to, and keeps these as their row.
+// Pairs the left sets in left_order[lo..hi] by path with the right sets listed in work[from..to], which become their row.
 fn pair_ended(
     work: &mut [u32],
     lay: Layout,
@@ -81,7 +81,7 @@ fn pair_ended(
     }
 }
 
-// Pairs the left sets of a node that end there; they stand first.
+// Pairs the left sets that end at a node; they come first.
 pub fn settle(
     work: &mut [u32],
     lay: Layout,
@@ -102,8 +102,8 @@ pub fn settle(
     Settled { mid: mid, at: at }
 }
 
-// Checks the left set k, after e ranks, against the words from..to and keeps its row. No check is made where all of them would pass
-// the budget.
+// Checks the left set k, after e ranks, against the right sets listed in work[from..to] and keeps its row. No check is made if all of
+// them together exceed the budget.
 fn finish_row(
     work: &mut [u32],
     lay: Layout,
@@ -133,7 +133,7 @@ fn finish_row(
     }
 }
 
-// One left set at the limit: by path where it ends there, else checked, and its row is kept where there is room for it.
+// One left set at the limit: paired by path if it ends there, else checked; its row is kept if there is room.
 fn finish_one(
     work: &mut [u32],
     lay: Layout,
@@ -163,7 +163,7 @@ fn finish_one(
     finish_row(work, lay, st, k, d, from, to, p)
 }
 
-// The left sets at the limit, one by one, up to the first whose checks would pass the budget.
+// The left sets at the limit, one by one, up to the first whose checks would exceed the budget.
 pub fn finish(
     work: &mut [u32],
     lay: Layout,

@@ -17,7 +17,7 @@ ghost use Rattle.join_spec.specs.Walk.{goes};
 ghost use Rattle.join_nodes.specs.Narrowing.{SomePath};
 ghost use Rattle.join_nodes.specs.Visiting.{OnPath, NodeAt};
 
-// The rank at place i of the path that the left set at place lo of the order begins with.
+// The rank at place i of the path, read off the left set at left_order[lo], which begins with it.
 pub fn rank_on(work: &[u32], lay: Layout, lo: usize, i: usize) -> usize
     requires { ⌜ SomePath (λ q path. OnPath lay q path (now work) lo i) ⌝ }
     ensures { λ r. ⌜ ((q : Query) (path : List ℕ) → OnPath lay q path (now (work .entry)) lo i → r ≡ getD path i 0) ⌝ }
@@ -39,7 +39,7 @@ pub fn weigh(weights: Weights, c: u32, t: u32, m: u32) -> bool
     merging < checking
 }
 
-// The weighed rule at a node: the holders of its last rank are counted in that rank's inverted list.
+// The weighed rule at a node; the holders of its last rank are counted in that rank's inverted list.
 fn weigh_node(
     work: &[u32],
     lay: Layout,

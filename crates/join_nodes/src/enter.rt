@@ -16,8 +16,8 @@ ghost use Rattle.words.specs.flags.Flags.{Clear};
 ghost use Rattle.join_nodes.specs.Narrowing.{SomePath};
 ghost use Rattle.join_nodes.specs.enter.Entering.{GoesOn, NodeEntered};
 
-// How far the walk came at a node before its children: the left sets from place mid on go on to them, with the words from..to as
-// candidates. There are none where the visit is over.
+// How far the walk came at a node before its children: the left sets from mid on go on to them, with the candidates listed in
+// work[from..to]. There are none if the visit is over.
 pub struct Entered {
     pub at: Progress,
     pub spent: bool,
@@ -26,7 +26,7 @@ pub struct Entered {
     pub to: usize,
 }
 
-// Enters a node: narrows its candidates and settles the left sets that have no child to visit. No candidate is left, and nothing
+// Enters a node: narrows its candidates and settles the left sets that have no child to visit. Then no candidate is left, and nothing
 // pairs below; or the limit is reached; or the only left set is paired at once; or those that end here are paired by path.
 pub fn enter_node(
     work: &mut [u32],

@@ -11,13 +11,13 @@ pub struct WalkSettings {
     pub budget: u32,
 }
 
-// How far the walk has come: its counters, and where the rows end that it has kept.
+// How far the walk has come: its counters, and where the kept rows end.
 pub struct Progress {
     pub tally: Tally,
     pub top: usize,
 }
 
-// How far the walk has come after a part of it, and whether it stopped because the next checks would have passed the budget.
+// How far the walk has come after a part of it, and whether it stopped because the next checks would exceed the budget.
 pub struct Walked {
     pub at: Progress,
     pub spent: bool,

@@ -1,5 +1,5 @@
-// A left set that is alone at its node, under the rule that always goes on: it pairs by path with exactly the right sets that
-// contain it, however many of its ranks are left, so they are found at once.
+// A left set alone at its node, under Merge: it pairs by path with exactly the right sets that contain it, however many of its ranks
+// are left. So they are found at once.
 use crate::Progress;
 use crate::WalkSettings;
 use crate::blocks::add_paths;
@@ -20,8 +20,7 @@ ghost use Rattle.join_nodes.specs.Visiting.{RangeVisited};
 ghost use Rattle.join_nodes.specs.blocks.Blocks.{Going};
 ghost use Rattle.join_nodes.specs.lone.Lone.{Lone};
 
-// Whether there is one left set at the places lo up to hi, it ends within the limit, the rule always goes on, and there is room for
-// its row.
+// Whether left_order[lo..hi] has one left set, it ends within the limit, the rule is Merge, and there is room for its row.
 pub fn is_lone(
     work: &[u32],
     lay: Layout,
@@ -56,7 +55,7 @@ pub fn is_lone(
     }
 }
 
-// Pairs a lone left set, which is at place lo of the order, with those of the words from..to that contain it, and keeps its row.
+// Pairs a lone left set, left_order[lo], with those right sets listed in work[from..to] that contain it, and keeps its row.
 pub fn pair_lone(
     work: &mut [u32],
     lay: Layout,

@@ -16,8 +16,8 @@ pub struct Part {
     pub to: usize,
 }
 
-// The candidates that hold the last rank of the path too. At depth 1 they are that rank's inverted list as it stands; deeper
-// they are put into the rank's slot.
+// The candidates that hold the last rank of the path too. At depth 1 they are that rank's inverted list; deeper they are put into the
+// rank's slot.
 pub fn narrow(
     work: &mut [u32],
     flags: &mut [u8],

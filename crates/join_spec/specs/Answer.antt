@@ -51,7 +51,7 @@ unfoldable pub joinAnswer : Input → Settings → Room → JoinAnswer
 joinAnswer i s room =
     unless Refused (joinTests i (s .limit) (s .ranks) (room .words)) (walkAnswer (queryOf i s) (s .budget) (room .places))
 
--- the pair list afterwards: filled and beyond that as before; zeros after 8 and 9; as before after the others
+-- the pair list afterwards: filled, and beyond that as before; zeros after 8 and 9; as before after any other refusal
 abbrev pub pairsAfter : JoinAnswer → List ℕ → List ℕ → List ℕ
 pairsAfter (Joined counts) pairs before = filledOver pairs before
 pairsAfter (Refused why) pairs before = afterRefusal why before
@@ -61,8 +61,8 @@ abbrev pub workKept : JoinAnswer → Bool
 workKept (Joined counts) = false
 workKept (Refused why) = not (clears why)
 
--- a call of a join that should answer so: its answer, and its lent lists before and after. The work list is the sole undecided
--- result: its length stays, and its content where `workKept` says so
+-- a call of a join that should answer so: its answer, and its lent lists before and after. The work list is the only undecided result:
+-- its length stays, and its content if `workKept` says so
 pub record JoinCall (right : JoinAnswer) (i : Input) (work before work′ after : List ℕ) (r : JoinAnswer) : Type 0 where
   pub answer : r ≡ right
   pub pairs : after ≡ pairsAfter r (pairList (leftSets i) (rightSets i)) before

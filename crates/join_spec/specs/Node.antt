@@ -1,5 +1,5 @@
--- A node of the prefix tree stands for a path, a non-empty prefix of a left set in rank order. Here are the three numbers that
--- the merge rule sees at a node, and the rule. All sets are lists of rising ranks.
+-- A node of the prefix tree stands for a path: a non-empty prefix of a left set in rank order. Here are the three numbers that the
+-- merge rule sees at a node, and the rule. All sets are lists of rising ranks.
 use Prim.Native.Nat.{ℕ, _-_, _*_}
 use mathlib.Core.List.{List, [], _∷_}
 use mathlib.Core.Bool.{Bool, true, false, _&&_}
@@ -42,8 +42,8 @@ holders rights path = count (λ right. seen (firstOf path) right && memb (lastOf
 abbrev pub whole : ℕ → Float
 whole n = ofInt binary64 (pos n)
 
--- whether the walk goes on at a node with these c, t and m: each operation rounds once, in this order; a comparison with
--- not-a-number is false
+-- whether the walk goes on at a node with these c, t and m. Each operation rounds once, in this order; a comparison with not-a-number
+-- is false
 unfoldable pub goesOn : Rule → ℕ → ℕ → ℕ → Bool
 goesOn Merge c t m = true
 goesOn Check c t m = false

@@ -1,13 +1,13 @@
--- The result of a join in plain words: every pair of a left set's place and a right set's place where the left set is contained
--- in the right one, by left place and then right place. No setting occurs here. The lists and sums of pairs are over elements of
--- any kind and any test of two of them, so that a set may come to carry more than its items.
+-- The result of a join in plain words: every pair of a left place and a right place whose left set is contained in the right one, by
+-- left place, then right place. No setting occurs here. The pairs are over elements of any kind and any test of two of them, so that a
+-- set may come to carry more than its items.
 use Prim.Native.Nat.{ℕ, suc}
 use mathlib.Core.List.{List, [], _∷_, _++_}
 use mathlib.Core.Bool.{Bool, true, false}
 use Rattle.lists.specs.Lists.{sum, count}
 use Rattle.sets.specs.Collections.{contained}
 
--- the pair (l, r) in front of the pairs where the test holds
+-- the pairs, with (l, r) in front if the test holds
 abbrev pub ontoPair : Bool → ℕ → ℕ → List ℕ → List ℕ
 ontoPair true l r pairs = l ∷ r ∷ pairs
 ontoPair false l r pairs = pairs

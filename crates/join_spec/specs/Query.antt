@@ -1,4 +1,4 @@
--- The settings of a join; and what the walk sees of an accepted input: the items' count and ranks, the settings that bear on the
+-- The settings of a join; and what the walk sees of an accepted input: the count of items, their ranks, the settings that bear on the
 -- walk, and both collections as sets.
 use Prim.Native.Nat.{ℕ}
 use mathlib.Core.List.{List}

@@ -1,5 +1,5 @@
--- The walk of one left set along its own prefixes, and what becomes of it with each right set. No tree occurs: where a left set's
--- walk ends depends on its prefixes and on the rule's three numbers alone. Sets are in rank order where they are called ranks.
+-- The walk of one left set along its own prefixes, and what becomes of it with each right set. There is no tree: where a left set's
+-- walk ends depends only on its prefixes and the rule's three numbers. Sets called ranks are in rank order.
 use Prim.Native.Nat.{ℕ, zero, suc, _-_}
 use mathlib.Core.List.{List, [], _∷_, map}
 use mathlib.Core.Bool.{Bool, false, cond, _&&_}
@@ -11,12 +11,12 @@ use Rattle.sets.specs.Signatures.{signature, drops}
 use Rattle.join_spec.specs.Query.{Query, inOrder}
 use Rattle.join_spec.specs.Node.{seen, goesOnAt}
 
--- how the walk of a left set ends: every rank of it was on the path, or it is checked after so many ranks
+-- how the walk of a left set ends: all its ranks were on the path, or it is checked after so many ranks
 pub data Ending : Type 0 where
   merged : Ending
   checkedAfter : ℕ → Ending
 
--- the ending from the node of depth d on, with n further levels within the limit
+-- the ending from the node of depth d on, with n more levels within the limit
 unfoldable pub endingFrom : (List ℕ → Bool) → ℕ → ℕ → List ℕ → Ending
 endingFrom goes zero d ranks =
     cond (goes (take d ranks)) (cond (eqb d (length ranks)) merged (checkedAfter d)) (checkedAfter (d - 1))
@@ -29,7 +29,7 @@ unfoldable pub ending : (List ℕ → Bool) → ℕ → List ℕ → Ending
 ending goes limit [] = merged
 ending goes limit (r ∷ ranks) = endingFrom goes (limit - 1) 1 (r ∷ ranks)
 
--- whether a right set is a candidate after the first d ranks of a left set: seen, and holding them; an empty left set has none
+-- whether a right set is a candidate after the first d ranks of a left set: it is seen and holds them; an empty left set has none
 unfoldable pub isCandidate : ℕ → List ℕ → List ℕ → Bool
 isCandidate d [] right = false
 isCandidate d (r ∷ ranks) right = seen r right && subset (take d (r ∷ ranks)) right
@@ -46,8 +46,8 @@ pub data Outcome : Type 0 where
 abbrev pub check : List ℕ → List ℕ → Outcome
 check left right = cond (drops (signature left) (signature right)) dropped (cond (contained left right) confirmed falseDrop)
 
--- the outcome after an ending, given both sets by rank, what a pair by path is and what a check would find: the walk itself sees
--- nothing but ranks
+-- the outcome after an ending. It takes both sets by rank, what a pair by path is and what a check would find: the walk sees only
+-- ranks
 abbrev pub outcomeAfter : Ending → List ℕ → List ℕ → Outcome → Outcome → Outcome
 outcomeAfter merged leftRanks rightRanks paired checked =
     cond (isCandidate (length leftRanks) leftRanks rightRanks) paired notMet

@@ -1,4 +1,4 @@
--- Inner: the whole walk, left sets by first rank, each partition with the right sets seen at it. What is known before it, and what it
+-- Inner: the whole walk: left sets by first rank, each partition with the right sets seen at it. What is known before it, and what it
 -- answers.
 use Prim.Native.Nat.{ℕ, _≤_, _<_}
 use mathlib.Core.Path.{_≡_}
@@ -31,7 +31,7 @@ pub record WalkReady (lay : Layout) (st : WalkSettings) (q : Query) (w : List �
   pub some : 0 < q .limit
   pub leftCount : length (q .lefts) ≡ lefts
 
--- the counter of each kind is the query's count, within the budget; or the checks of the whole walk pass it
+-- the counter of each kind is the query's count, within the budget; or the checks of the whole walk exceed it
 pub record QueryCounted (q : Query) (budget : ℕ) (r : Walked) : Type 0 where
   pub counts : r .spent ≡ false → (kind : Kind) → counter kind (r .at .tally) ≡ total (isOf kind) q
   pub within : r .spent ≡ false → total isCheck q ≤ budget

@@ -8,17 +8,17 @@ ghost use lib.Dec.{ltb};
 ghost use Rattle.join_index.specs.Asking.{SomeQuery, RangeThere};
 ghost use Rattle.join_walk.specs.heaviest.Heaviest.{RangeChosen};
 
-// At a depth below this no child is preferred to another. Visits lie above each other at most so often there, whatever the limit,
-// and the nodes with many children, whose ranges would be looked for twice, stand there.
+// Below this depth no child is preferred. Visits nest at most this often there, whatever the limit; and there are the nodes with many
+// children, whose ranges would be looked for twice.
 const SHALLOW: usize = 16;
 
-// Places lo up to hi of the order.
+// The range left_order[lo..hi].
 pub struct Span {
     pub lo: usize,
     pub hi: usize,
 }
 
-// The longer of two, the first where they are alike.
+// The longer of two, the first if they are alike.
 fn longer(best: Span, other: Span) -> Span
     requires { ⌜ (best .lo ≤ best .hi) × (other .lo ≤ other .hi) ⌝ }
     ensures { λ r. ⌜ r ≡ cond (ltb (best .hi - best .lo) (other .hi - other .lo)) other best ⌝ }
@@ -29,8 +29,8 @@ fn longer(best: Span, other: Span) -> Span
     best
 }
 
-// The longest of the ranges with the same key at depth d, among the left sets at the places lo up to hi; none at a shallow depth, but
-// for an only left set, which most nodes have and which costs no search.
+// The longest range of left_order[lo..hi] with the same key at depth d. At a shallow depth none, except an only left set: most nodes
+// have one, and it costs no search.
 pub fn heaviest_range(work: &[u32], lay: Layout, d: usize, lo: usize, hi: usize) -> Span
     requires { ⌜ SomeQuery (λ q. RangeThere lay q (now work) lo hi) ⌝ }
     ensures { λ r. ⌜ RangeChosen lay (now (work .entry)) d lo hi r ⌝ }

@@ -19,7 +19,7 @@ pub mod heaviest;
 pub mod partition;
 pub mod visit;
 
-// Visits the partitions of the left sets at the places lo up to hi of the order.
+// Visits the partitions of the left sets in left_order[lo..hi].
 fn visit_partitions(
     work: &mut [u32],
     flags: &mut [u8],
@@ -52,7 +52,7 @@ fn visit_partitions(
     }
 }
 
-// The whole walk over the index of a query. Empty left sets stand first in the order, are in no partition and pair with nothing: they
+// The whole walk over the index of a query. Empty left sets come first in the order, are in no partition and pair with nothing: they
 // are passed over.
 pub fn walk(
     work: &mut [u32],

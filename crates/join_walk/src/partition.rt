@@ -1,5 +1,5 @@
-// One partition of the walk: the left sets with the same first rank, a node of depth 1 that begins with the right sets seen at that
-// rank.
+// One partition of the walk: the left sets with the same first rank. It is a node of depth 1 that begins with the right sets seen at
+// that rank.
 use crate::visit::visit_node;
 use join_check::keys::is_held;
 use join_check::keys::key_at;
@@ -15,9 +15,8 @@ ghost use Rattle.join_spec.specs.Query.{Query};
 ghost use Rattle.words.specs.flags.Flags.{Clear};
 ghost use Rattle.join_walk.specs.partition.Partition.{SomeRank, Partition, PartVisited};
 
-// Visits the partition of the left sets at the places lo up to hi of the order. The right sets with a least rank up to theirs
-// have been added to the seen ones by now: they stand first by least rank. The rule that always goes on doesn't ask for them, and
-// where no right set holds the rank of the partition it has nothing to visit.
+// Visits the partition left_order[lo..hi]. The right sets with a least rank up to its rank are seen by now: they are first by least
+// rank. Merge doesn't ask for them, and if no right set holds the rank of the partition it has nothing to visit.
 pub fn visit_partition(
     work: &mut [u32],
     flags: &mut [u8],

@@ -1,7 +1,6 @@
-// The visit of a node and of its children: node visit calls the child loop, which calls node visit, and the limit less the
-// depth falls. The child with most left sets is left out of these calls: the visit goes on with it in place of the node. Each of the
-// others has at most half of the node's left sets, so that calls lie above each other only as often as these can be halved,
-// whatever the limit.
+// The visit of a node and of its children: node visit calls the child loop, which calls node visit, and the limit less the depth
+// falls. The child with most left sets is left out of these calls: the visit goes on with it in place of the node. Each of the others
+// has at most half of the node's left sets, so calls nest only as often as these can be halved, whatever the limit.
 use crate::heaviest::heaviest_range;
 use join_check::keys::range_end;
 use join_index::Layout;
@@ -18,9 +17,9 @@ ghost use Rattle.words.specs.flags.Flags.{Clear};
 ghost use Rattle.join_nodes.specs.Narrowing.{SomePath};
 ghost use Rattle.join_nodes.specs.Visiting.{Node, NodeVisited, ChildrenAt, ChildrenVisited};
 
-// Visits a node: the left sets at the places lo up to hi of the order begin with its path of d ranks, and the words from..to
-// are its candidates. A child's slot lies beyond everything that its node still needs, and when the other children are done the
-// node needs nothing more. Where the heaviest child is the only one, no call is made.
+// Visits a node: the left sets in left_order[lo..hi] begin with its path of d ranks, and its candidates are listed in work[from..to].
+// A child's slot is above everything that its node still needs, and once the other children are done the node needs nothing more. If
+// the heaviest child is the only one, no call is made.
 pub fn visit_node(
     work: &mut [u32],
     flags: &mut [u8],
@@ -84,8 +83,8 @@ pub fn visit_node(
     }
 }
 
-// Visits the children of a node of d ranks: the left sets at the places lo up to hi go on after its path, and the words
-// from..to are the candidates after it.
+// Visits the children of a node of d ranks: the left sets in left_order[lo..hi] go on after its path, and the candidates after it are
+// listed in work[from..to].
 pub fn visit_children(
     work: &mut [u32],
     flags: &mut [u8],

@@ -1,5 +1,5 @@
--- Collections: a list of ends and a list of items. Which set is bad, and where the first bad one stands.
--- Document 01, "Sets and settings", first paragraph. A left set is a kit there, and a right set a stack.
+-- Collections: a list of ends and a list of items. Which set is bad, and where the first bad one is. Document 01, "Sets and settings",
+-- first paragraph. A left set is a kit there, and a right set a stack.
 use Prim.Native.Nat.{ℕ, suc, _-_}
 use mathlib.Core.List.{List, [], _∷_}
 use mathlib.Core.Bool.{Bool, not, cond, _&&_, _||_}
@@ -54,12 +54,12 @@ firstBadFrom T k start (end ∷ ends) items =
 abbrev pub firstBad : ℕ → List ℕ → List ℕ → Verdict
 firstBad T ends items = firstBadFrom T 0 0 ends items
 
--- the last of the ends, or start where there is none
+-- the last of the ends, or start if there is none
 unfoldable pub lastEnd : ℕ → List ℕ → ℕ
 lastEnd start [] = start
 lastEnd start (end ∷ ends) = lastEnd end ends
 
--- how many item entries a collection has: its last end, or 0 where it has no set
+-- how many item entries a collection has: its last end, or 0 without sets
 abbrev pub entries : List ℕ → ℕ
 entries ends = lastEnd 0 ends
 
@@ -67,7 +67,7 @@ entries ends = lastEnd 0 ends
 abbrev pub hasItem : List ℕ → Bool
 hasItem set = ltb 0 (length set)
 
--- a left set is contained in a right set when it has an item, as document 02, C-14, asks, and every item of it is there; closed, so
--- that callers use its laws
+-- a left set is contained in a right set if it has an item (document 02, C-14) and all its items are there. Closed, so that callers
+-- use its laws
 unfoldable pub contained : List ℕ → List ℕ → Bool
 contained left right = hasItem left && subset left right

@@ -1,5 +1,5 @@
--- The refusal table of document 01, "When no list is made", a row a refusal; the words that every answer begins with; and how
--- tests follow each other: the first that refuses decides.
+-- The refusal table of document 01, "When no list is made", a row a refusal; the words that every answer begins with; and tests in a
+-- row: the first that refuses decides.
 use Prim.Native.Nat.{ℕ}
 use mathlib.Core.List.{List, [], _∷_}
 use mathlib.Core.Bool.{Bool, true, false, cond}
@@ -49,7 +49,7 @@ rowOf (Overlong place) = clearing 10 place
 abbrev pub clears : Refusal → Bool
 clears why = rowOf why .clears
 
--- the words of an answer that refuses where an accepted input has so many values: number, what returns with it, and zeros
+-- the words of an answer that refuses: number, what returns with it, and a zero for each value that an accepted one would have
 abbrev pub refusedWords : Refusal → ℕ → List ℕ
 refusedWords why values = rowOf why .number ∷ rowOf why .first ∷ rowOf why .second ∷ replicate values 0
 
@@ -57,7 +57,7 @@ refusedWords why values = rowOf why .number ∷ rowOf why .first ∷ rowOf why .
 abbrev pub acceptedWords : List ℕ → List ℕ
 acceptedWords values = 0 ∷ 0 ∷ 0 ∷ values
 
--- a test that fails with this refusal where something is wrong
+-- a test that fails with this refusal if something is wrong
 abbrev pub refuseIf : Bool → Refusal → Tested
 refuseIf wrong why = cond wrong (Failed why) Passed
 

@@ -1,4 +1,4 @@
--- Signatures of sets (marks in document 01): a 64-bit word with a bit for each item, to tell most pairs apart that are not
+-- Signatures of sets (marks in document 01): a 64-bit word with a bit for each item. They tell apart most pairs that are not
 -- contained. Document 01, "The run", the paragraph on marks.
 use Prim.Native.Nat.{ℕ, _%_, _^_}
 use mathlib.Core.List.{List, [], _∷_}
@@ -10,7 +10,7 @@ use lib.Bits.{bitAnd, bitOr}
 unfoldable pub position : ℕ → ℕ
 position k = 3 ^ k % 257 % 64
 
--- the word m with the bits of the items set besides
+-- the word m with the bits of the items set too
 unfoldable pub signatureFrom : ℕ → List ℕ → ℕ
 signatureFrom m [] = m
 signatureFrom m (k ∷ ks) = signatureFrom (bitOr m (2 ^ position k)) ks

@@ -18,7 +18,7 @@ pub enum Side {
     Right,
 }
 
-// Why an operation gave no result: a row of the refusal table each. A `usize` is the byte place of the record at fault,
+// Why an operation gave no result: one variant for each row of the refusal table. A `usize` is the byte place of the record at fault,
 // or the place of the bad set.
 pub enum Refusal {
     Malformed(usize),
@@ -66,7 +66,7 @@ pub fn side_word(side: Side) -> u64
     }
 }
 
-// The number of a refusal, and what returns with it: the refusal table.
+// The refusal table: the number of a refusal, and what returns with it.
 pub fn head_of(why: Refusal) -> Head
     ensures { λ r. ⌜ (r .number ≡ rowOf why .number) × (r .first ≡ rowOf why .first) × (r .second ≡ rowOf why .second) ⌝ }
 {

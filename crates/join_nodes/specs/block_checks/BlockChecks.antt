@@ -1,4 +1,4 @@
--- Inner: the checks of a block of left sets against a list of candidates, made only where the budget covers them all.
+-- Inner: the checks of a block of left sets against a list of candidates, made only if the budget covers them all.
 use Prim.Native.Nat.{ℕ, _+_, _-_, _*_, _≤_, _<_}
 use mathlib.Core.Path.{_≡_}
 use mathlib.Core.List.{List}
@@ -27,7 +27,7 @@ pub record Small (budget lo hi from to : ℕ) (tally : Tally) : Type 0 where
   pub part : from ≤ to
   pub covered : checksIn tally ≤ budget
 
--- every left set was checked against every candidate, or that would have passed the budget; no row is kept
+-- every left set was checked against every candidate, or that would have exceeded the budget; no row is kept
 pub record Blocked (lay : Layout) (w : List ℕ) (budget e lo hi from to : ℕ) (p : Progress) (r : Walked) : Type 0 where
   pub tallied :
       r .spent ≡ false → (q : Query) → RangesThere lay q w e lo hi from to

@@ -1,5 +1,5 @@
--- Inner: left sets that are paired by path or checked, with the rows that are kept of them; and the left sets of a node where the
--- walk goes on, those that end there, and those at the limit.
+-- Inner: left sets that are paired by path or checked, and their kept rows. And the left sets of a node where the walk goes on: those
+-- that end there, and those at the limit.
 use Prim.Native.Nat.{ℕ, _+_, _-_, _≤_, _<_}
 use mathlib.Core.Path.{_≡_}
 use mathlib.Core.List.{List}
@@ -25,18 +25,19 @@ use Rattle.join_nodes.specs.declared.WalkSettings.{WalkSettings}
 use Rattle.join_nodes.specs.declared.Walked.{Walked}
 use Rattle.join_nodes.specs.declared.blocks.Settled.{Settled}
 
--- r is where the left sets end that stand first from place lo and have no rank after depth d
+-- r is where the left sets end that come first from lo and have no rank after depth d
 pub record MergedEnd (lay : Layout) (w : List ℕ) (d lo hi r : ℕ) : Type 0 where
   pub low : lo ≤ r
   pub high : r ≤ hi
   pub maximal : (q : Query) → RangeThere lay q w lo hi → r ≡ lo + lead (λ k. eqb (keyAt q d k) 0) (range lay w lo hi)
 
--- the left sets at the places lo up to hi were paired by path with the words from..to, which are kept as their row
+-- the left sets in left_order[lo..hi] were paired by path with the right sets listed in work[from..to], which are kept as their row
 pub record PairsKept (lay : Layout) (w : List ℕ) (lo hi from to : ℕ) (p : Progress) (w′ : List ℕ) (r : Progress) : Type 0 where
   pub kept : ListKept lay w lo hi from to (p .top) w′ (r .top)
   pub merged : Merged (hi - lo) (to - from) (p .tally) (r .tally)
 
--- the left set k was checked against the words from..to and its row is kept, or that would have passed the budget
+-- the left set k was checked against the right sets listed in work[from..to] and its row is kept; or that would have exceeded the
+-- budget
 pub record RowFinished (lay : Layout) (w : List ℕ) (budget k e from to : ℕ) (p : Progress) (w′ : List ℕ) (r : Walked) : Type 0 where
   pub framed : Framed (lay .«row_starts») w w′
   pub rows : r .spent ≡ false → (q : Query) → RowRecordable lay q w k e from to (p .top) → RowsKept lay q w′ (r .at .top)
@@ -46,7 +47,7 @@ pub record RowFinished (lay : Layout) (w : List ℕ) (budget k e from to : ℕ) 
   pub within : r .spent ≡ false → checksIn (r .at .tally) ≤ budget
   pub beyond : r .spent ≡ true → budget < checksIn (p .tally) + (to - from)
 
--- left sets at the places lo up to hi where the walk goes on: they begin with the path, and the words from..to are the candidates
+-- a node where the walk goes on: the left sets in left_order[lo..hi] begin with the path, and work[from..to] lists the candidates
 -- after it
 pub record Going (lay : Layout) (st : WalkSettings) (q : Query) (path w : List ℕ) (d lo hi from to : ℕ) (p : Progress) : Type 0 where
   pub index : Index lay q w
@@ -67,7 +68,7 @@ pub record AtLimit (lay : Layout) (st : WalkSettings) (q : Query) (path w : List
   pub going : Going lay st q path w d lo hi from to p
   pub limit : q .limit ≡ d
 
--- those of the left sets that end with the path pair by path and their row is kept: w became w′
+-- the left sets that end with the path are paired by path and their row is kept: w became w′
 pub record Settles (lay : Layout) (st : WalkSettings) (w : List ℕ) (d lo hi from to : ℕ) (p : Progress) (w′ : List ℕ)
     (r : Settled) : Type 0 where
   pub end : MergedEnd lay w d lo hi (r .mid)

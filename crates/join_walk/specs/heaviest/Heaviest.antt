@@ -1,4 +1,4 @@
--- Inner: left sets that stand by their keys at a depth, parted where a range with the same key begins; and one of these ranges.
+-- Inner: left sets in the order of their keys at a depth, split where a range with the same key begins; and one of these ranges.
 use Prim.Native.Nat.{ℕ, _+_, _-_, _≤_, _<_}
 use mathlib.Core.Path.{_≡_}
 use mathlib.Core.List.{List}
@@ -10,7 +10,7 @@ use Rattle.join_index.specs.Asking.{RangeThere}
 use Rattle.join_index.specs.Ranges.{range, RangeEnd}
 use Rattle.join_walk.specs.declared.heaviest.Span.{Span}
 
--- the groups of n keys from x on, at the places lo up to hi, are parted at place i: those of lesser keys stand before it
+-- the groups of n keys from x on, in left_order[lo..hi], are split at i: those with lesser keys are before it
 pub record PartedAt (lay : Layout) (q : Query) (w : List ℕ) (d x n : ℕ) (rest : List ℕ) (lo i hi : ℕ) : Type 0 where
   pub key : ℕ
   pub low : x ≤ key
@@ -18,7 +18,7 @@ pub record PartedAt (lay : Layout) (q : Query) (w : List ℕ) (d x n : ℕ) (res
   pub front : range lay w lo i ≡ groupsFrom (keyAt q d) x (key - x) rest
   pub back : range lay w i hi ≡ groupsFrom (keyAt q d) key (x + n - key) rest
 
--- a range begins at place i, or all have ended: the left sets are parted there, whichever groups they are
+-- a range begins at i, or all left sets have ended: they are split there, whichever groups they are
 pub record RangeBegins (lay : Layout) (w : List ℕ) (d lo hi i : ℕ) : Type 0 where
   pub low : lo ≤ i
   pub high : i ≤ hi

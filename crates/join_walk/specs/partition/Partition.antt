@@ -1,5 +1,5 @@
--- Inner: one partition of the walk, the left sets with the same first rank: what is known before its visit, and what its visit, or
--- that of partitions in a row, answers.
+-- Inner: one partition of the walk, the left sets with the same first rank: what is known before its visit, and what the visit of one
+-- or of several in a row answers.
 use Prim.Native.Nat.{ℕ}
 use mathlib.Core.List.{List, [], _∷_}
 use Rattle.join_spec.specs.Query.{Query}
@@ -11,7 +11,7 @@ use Rattle.join_nodes.specs.declared.WalkSettings.{WalkSettings}
 use Rattle.join_nodes.specs.declared.Walked.{Walked}
 use Rattle.join_walk.specs.visit.Child.{Child}
 
--- one partition: the left sets at the places lo up to hi of the order are those with a first rank r
+-- one partition: left_order[lo..hi] has the left sets with first rank r
 abbrev pub Partition : Layout → WalkSettings → Query → List ℕ → ℕ → ℕ → Progress → ℕ → Type 0
 Partition lay st q w lo hi p r = Child lay st q (r ∷ []) w 1 lo hi p
 

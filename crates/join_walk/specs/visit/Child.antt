@@ -13,7 +13,7 @@ use Rattle.join_nodes.specs.Visiting.{Underway, beginners}
 use Rattle.join_nodes.specs.declared.Progress.{Progress}
 use Rattle.join_nodes.specs.declared.WalkSettings.{WalkSettings}
 
--- the left sets at the places lo up to hi begin with a path of d ranks: those of a child, or of a partition
+-- the left sets in left_order[lo..hi] begin with a path of d ranks: those of a child, or of a partition
 pub record Child (lay : Layout) (st : WalkSettings) (q : Query) (path w : List ℕ) (d lo hi : ℕ) (p : Progress) : Type 0 where
   pub index : Index lay q w
   pub underway : Underway st q (p .tally) (hi - lo)
