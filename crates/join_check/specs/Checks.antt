@@ -1,5 +1,5 @@
--- Inner: checks of left sets against right sets, and the counters that they raise. Document 01, "The run": where the walk doesn't
--- go on at a node, all kits below it are checked against each of the candidate stacks.
+-- Inner: checks of left sets against right sets, and the counters that they raise. Document 01, "The run": if the walk doesn't go on
+-- at a node, all kits below it are checked against each of the candidate stacks.
 use Prim.Native.Nat.{ℕ, _+_, _-_, _*_, _≤_}
 use mathlib.Core.Path.{_≡_}
 use mathlib.Core.List.{List, []}
@@ -31,13 +31,13 @@ rangeCount q is places lefts = sum (rowCount q is places) lefts
 abbrev pub areCandidates : Query → ℕ → List ℕ → ℕ → Bool
 areCandidates q e places k = all (λ s. isCandidate e (leftAt q k) (rightAt q s)) places
 
--- the left set k can be checked after e ranks against the places from one up to another
+-- the left set k can be checked after e ranks against the right sets listed in work[from..to]
 pub record RowThere (lay : Layout) (q : Query) (w : List ℕ) (k e from to : ℕ) : Type 0 where
   pub left : LeftThere lay q w k
   pub places : PlacesThere lay q w from to
   pub candidates : areCandidates q e (slice from to w) k ≡ true
 
--- the left sets at the places lo up to hi of the order can be checked so
+-- the left sets in left_order[lo..hi] can be checked so
 pub record RangesThere (lay : Layout) (q : Query) (w : List ℕ) (e lo hi from to : ℕ) : Type 0 where
   pub places : PlacesThere lay q w from to
   pub within : hi ≤ length (q .lefts)

@@ -17,12 +17,12 @@ use Rattle.join_check.specs.declared.Checked.the-variants.{Dropped, Fals
 use Rattle.join_index.specs.Asking.{LeftThere, RightThere}
 use Rattle.join_check.specs.Counters.{checksIn, Tallied}
 
--- p has the signature of the left set k, and where its ranks from e on lie
+-- p has the signature of the left set k, and where its ranks from e on are
 pub record ProbeOf (q : Query) (w : List ℕ) (k e : ℕ) (p : Probe) : Type 0 where
   pub signed : p .signature ≡ signature (getD (q .lefts) k [])
   pub rest : slice (p .from) (p .to) w ≡ drop e (leftAt q k)
 
--- and so for every query whose left set k stands in w; the ranks lie below the slots
+-- and so for every query whose left set k is in w; the ranks are below the slots
 pub record Probed (lay : Layout) (w : List ℕ) (k e : ℕ) (p : Probe) : Type 0 where
   pub within : p .to ≤ lay .slots
   pub is : (q : Query) → LeftThere lay q w k → ProbeOf q w k e p

@@ -12,8 +12,7 @@ ghost use Rattle.join_index.specs.Asking.{SomeQuery};
 ghost use Rattle.join_check.specs.Checks.{RangesThere, RangesChecked};
 ghost use Rattle.join_check.specs.Counters.{checksIn};
 
-// Checks the left sets at the places lo up to hi of the order, after their first e ranks, against each right set whose place
-// stands from one place of the work list up to another.
+// Checks the left sets in left_order[lo..hi], after their first e ranks, against each right set listed in work[from..to].
 pub fn check_range(
     work: &[u32],
     lay: Layout,
@@ -39,8 +38,8 @@ pub fn check_range(
     r
 }
 
-// The same by the tree: the left sets at those places share their first d ranks. Those that end there are checked, and each range
-// with the same next rank is a child, gathered in turn; at the limit all are checked.
+// The same by the tree: the left sets share their first d ranks. Those that end there are checked; each range with the same next rank
+// is a child, gathered in turn; at the limit all are checked.
 pub fn gather(
     work: &[u32],
     lay: Layout,

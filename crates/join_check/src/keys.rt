@@ -1,4 +1,4 @@
-// What the walk reads off the index to part the left sets and to weigh a node: the key of a left set at a depth, where a range with
+// What the walk reads off the index to split the left sets and to weigh a node: the key of a left set at a depth, where a range with
 // the same key ends, how many right sets are seen, and whether any holds a rank. The work list is read by its layout.
 use join_index::Layout;
 use words::number;
@@ -23,7 +23,7 @@ pub fn is_held(work: &[u32], lay: Layout, r: usize) -> bool
     word_at(work, offsets + r) < word_at(work, offsets + r + 1)
 }
 
-// The key of the left set k at depth d: 0 where it has no further rank, else one more than the rank.
+// The key of the left set k at depth d: 0 if it has no further rank, else one more than the rank.
 pub fn key_at(work: &[u32], lay: Layout, k: usize, d: usize) -> usize
     requires { ⌜ SomeQuery (λ q. LeftThere lay q (now work) k) ⌝ }
     ensures { λ r. ⌜ ((q : Query) → LeftThere lay q (now (work .entry)) k → r ≡ keyAt q d k) ⌝ }
@@ -38,7 +38,7 @@ pub fn key_at(work: &[u32], lay: Layout, k: usize, d: usize) -> usize
     word_at(work, ranks + from + d) + 1
 }
 
-// Where the range of left sets with the same key at depth d ends that begins at place i of the order.
+// Where the range of the left order ends that begins at i, of left sets with the same key at depth d.
 pub fn range_end(work: &[u32], lay: Layout, d: usize, i: usize, hi: usize) -> usize
     requires { ⌜ SomeQuery (λ q. RangeThere lay q (now work) i hi) ⌝ }
     ensures { λ r. ⌜ RangeEnd lay (now (work .entry)) d i hi r ⌝ }
@@ -73,7 +73,7 @@ fn is_seen(work: &[u32], lay: Layout, s: usize, r: usize) -> bool
     least <= r
 }
 
-// How many of the right sets whose places stand from one place of the work list up to another are seen.
+// How many of the right sets listed in work[from..to] are seen.
 pub fn count_seen(work: &[u32], lay: Layout, from: usize, to: usize, r: usize) -> usize
     requires { ⌜ SomeQuery (λ q. PlacesThere lay q (now work) from to) ⌝ }
     ensures { λ n. ⌜ ((q : Query) → PlacesThere lay q (now (work .entry)) from to

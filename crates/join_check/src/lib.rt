@@ -25,11 +25,11 @@ pub struct Tally {
     pub false_drops: u32,
 }
 
-// From so many ranks on, a left set of which none is on the merged path is compared from its lowest rank on.
+// From so many ranks on, a left set with none on the merged path is compared from its lowest rank up.
 const MANY_RANKS: usize = 16;
 
-// What remains of a left set to be checked: its signature, and where its ranks that are not on the merged path lie. The lowest of them
-// or the highest are compared first.
+// What remains of a left set to be checked: its signature, and where its ranks off the merged path are. They are compared from the
+// lowest up, or from the highest down.
 pub struct Probe {
     pub signature: u64,
     pub from: usize,
@@ -44,8 +44,8 @@ pub enum Checked {
     Confirmed,
 }
 
-// Whether a left set with so many ranks is compared from the lowest of them on, after its first e. Where a right set is known to
-// hold the first ones, which fewest hold, it mostly holds the next too; the highest then tell it sooner.
+// Whether a left set with so many ranks is compared from the lowest up, after its first e. A right set that is known to hold the first
+// ranks, which fewest hold, mostly holds the next too; then the highest tell sooner.
 fn is_upward(e: usize, ranks: usize) -> bool {
     if e == 0 {
         return MANY_RANKS <= ranks;
@@ -53,7 +53,7 @@ fn is_upward(e: usize, ranks: usize) -> bool {
     false
 }
 
-// What remains of the left set k after its first e ranks; no rank where it has fewer.
+// What remains of the left set k after its first e ranks; no rank if it has fewer.
 pub fn probe_left(work: &[u32], lay: Layout, k: usize, e: usize) -> Probe
     requires { ⌜ SomeQuery (λ q. LeftThere lay q (now work) k) ⌝ }
     ensures { λ p. ⌜ Probed lay (now (work .entry)) k e p ⌝ }
@@ -135,8 +135,7 @@ pub fn check_one(work: &[u32], lay: Layout, p: Probe, s: usize, tally: Tally) ->
     }
 }
 
-// Checks the left set k, after its first e ranks, against each right set whose place stands from one place of the work list up to
-// another.
+// Checks the left set k, after its first e ranks, against each right set listed in work[from..to].
 pub fn check_row(
     work: &[u32],
     lay: Layout,

@@ -1,5 +1,5 @@
--- Inner: what the functions that read the index ask, that the work list holds the index of some query. What they answer is said
--- of every query whose index it holds.
+-- Inner: what the functions that read the index ask: that the work list holds the index of some query. Their answer is said of every
+-- query whose index it holds.
 use Prim.Native.Nat.{ℕ, _≤_, _<_}
 use mathlib.Core.Path.{_≡_}
 use mathlib.Core.List.{List}
@@ -26,7 +26,7 @@ pub record LeftThere (lay : Layout) (q : Query) (w : List ℕ) (k : ℕ) : Type 
   pub index : Index lay q w
   pub below : k < length (q .lefts)
 
--- the places i up to hi of the order are there, and are not none
+-- left_order[i..hi] is there, and not empty
 pub record RangeThere (lay : Layout) (q : Query) (w : List ℕ) (i hi : ℕ) : Type 0 where
   pub index : Index lay q w
   pub some : i < hi
@@ -42,7 +42,7 @@ pub record RankThere (lay : Layout) (q : Query) (w : List ℕ) (r : ℕ) : Type 
   pub index : Index lay q w
   pub below : r < q .T
 
--- the words from one place up to another are places of right sets
+-- work[from..to] lists places of right sets
 pub record PlacesThere (lay : Layout) (q : Query) (w : List ℕ) (from to : ℕ) : Type 0 where
   pub index : Index lay q w
   pub within : to ≤ length w

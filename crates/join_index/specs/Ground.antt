@@ -1,5 +1,5 @@
--- Inner: what the regions of the work list hold while the walk goes on, the facts that every step of the walk may use. All of it
--- lies below the candidate slots: only these and the kept rows above them change.
+-- Inner: what the regions of the work list hold during the walk: the facts that every step of the walk may use. All of it is below the
+-- candidate slots; only these and the kept rows above them change.
 use Prim.Native.Nat.{ℕ, suc, _+_, _*_, _≤_, _<_}
 use mathlib.Core.Path.{_≡_}
 use mathlib.Core.List.{List, []}
@@ -23,7 +23,7 @@ use Rattle.join_index.specs.declared.Layout.{Layout}
 abbrev pub Listing : ℕ → (ℕ → Bool) → List ℕ → Type 0
 Listing n test list = (p : ℕ → Bool) → count p list ≡ count (λ s. test s && p s) (upto n)
 
--- the places of the right sets holding rank r, rising
+-- the places of the right sets that hold rank r, rising
 abbrev pub invertedList : Query → ℕ → List ℕ
 invertedList q r = keep (λ s. memb r (rightAt q s)) (upto (length (q .rights)))
 
@@ -31,7 +31,7 @@ invertedList q r = keep (λ s. memb r (rightAt q s)) (upto (length (q .rights)))
 abbrev pub offsetOf : Layout → List ℕ → ℕ → ℕ
 offsetOf lay w r = getD w (lay .offsets + r) 0
 
--- how many right sets, first in the list by least rank, are seen at first rank r
+-- how many right sets are seen at first rank r; they come first in the list by least rank
 abbrev pub seenCount : Layout → List ℕ → ℕ → ℕ
 seenCount lay w r = getD w (lay .«least_offsets» + suc r) 0
 
@@ -41,7 +41,7 @@ asksSeen Merge = false
 asksSeen Check = true
 asksSeen (Weighed w) = true
 
--- w holds each region of the layout for the query; the right sets by least rank where its rule asks which are seen
+-- w holds each region of the layout for the query; the right sets by least rank only if its rule asks which are seen
 pub record Ground (lay : Layout) (q : Query) (w : List ℕ) : Type 0 where
   pub left :
       (k : ℕ) → k < length (q .lefts)
@@ -70,7 +70,7 @@ pub record Ground (lay : Layout) (q : Query) (w : List ℕ) : Type 0 where
   pub offsetsWithin : lay .offsets + suc (q .T) ≤ lay .slots
   pub leastOffsetsWithin : lay .«least_offsets» + suc (q .T) ≤ lay .slots
   pub seenWithin : asksSeen (q .rule) ≡ true → (r : ℕ) → r < q .T → lay .«by_least» + seenCount lay w r ≤ lay .slots
-  -- every slot lies below the kept rows, and these lie within the work list, where a place fits a word
+  -- every slot is below the kept rows, and these are within the work list, where a place fits a word
   pub slotsBelow : lay .slots ≤ lay .«row_starts»
   pub slotWithin : (r : ℕ) → r < q .T → lay .slots + offsetOf lay w (suc r) ≤ lay .«row_starts»
   pub rowStartsWithin : lay .«row_starts» + length (q .lefts) ≤ lay .«row_ends»

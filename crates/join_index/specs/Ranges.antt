@@ -1,4 +1,4 @@
--- Inner: the left sets that stand together in the order.
+-- Inner: the left sets that are together in the order.
 use Prim.Native.Nat.{ℕ, suc, _+_, _≤_, _<_}
 use mathlib.Core.Path.{_≡_}
 use mathlib.Core.List.{List, [], _∷_}
@@ -11,7 +11,7 @@ use Rattle.join_index.specs.Grouping.{keyAt}
 use Rattle.join_index.specs.declared.Layout.{Layout}
 use Rattle.join_index.specs.Asking.{RangeThere}
 
--- one more where the test holds, else none
+-- one more if the test holds, else none
 abbrev pub further : Bool → ℕ → ℕ
 further true n = suc n
 further false n = 0
@@ -25,11 +25,11 @@ lead p (x ∷ xs) = further (p x) (lead p xs)
 abbrev pub leftIn : Layout → List ℕ → ℕ → ℕ
 leftIn lay w i = getD w (lay .«left_order» + i) 0
 
--- the left sets at the places i up to hi of the order
+-- the left sets in left_order[i..hi]
 abbrev pub range : Layout → List ℕ → ℕ → ℕ → List ℕ
 range lay w i hi = slice (lay .«left_order» + i) (lay .«left_order» + hi) w
 
--- r is where the range ends, from place i and up to hi, of the left sets with the same key at depth d
+-- r is where the range of left_order[i..hi] ends that begins at i, of left sets with the same key at depth d
 pub record RangeEnd (lay : Layout) (w : List ℕ) (d i hi r : ℕ) : Type 0 where
   pub more : i < r
   pub within : r ≤ hi

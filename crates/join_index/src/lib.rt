@@ -11,12 +11,12 @@ pub mod build;
 pub mod regions;
 pub mod stages;
 
-// Where each region of the work list begins. None below the slots changes during the walk. Each pair of an offsets region and the
-// region it counts from is what one counting sort leaves behind.
+// Where each region of the work list begins. Nothing below the slots changes during the walk. An offsets region and the region that it
+// counts from are what one counting sort leaves behind.
 pub struct Layout {
     // Where a rank's inverted list begins, counted from index (and from slots): one word a rank and one more.
     pub offsets: usize,
-    // The inverted lists: for each rank the places of the right sets holding it, rising.
+    // The inverted lists: for each rank the places of the right sets that hold it, rising.
     pub index: usize,
     // Where a right set's ranks begin, counted from right_ranks: one word a set and one more.
     pub right_starts: usize,
@@ -25,19 +25,19 @@ pub struct Layout {
     // The same of the left sets.
     pub left_starts: usize,
     pub left_ranks: usize,
-    // How many right sets have a least rank below a rank, an empty set counting as one with the rank after the last: one word a
-    // rank and two more.
+    // How many right sets have a least rank below a rank; an empty set counts as one with the rank after the last. One word a rank and
+    // two more.
     pub least_offsets: usize,
-    // The right sets by least rank, and then the empty ones. Both are filled only where the rule asks which right sets are seen.
+    // The right sets by least rank, then the empty ones. Both are filled only if the rule asks which right sets are seen.
     pub by_least: usize,
-    // The left sets, so that those with a common prefix stand together.
+    // The left sets by their first ranks: those with a common prefix are together.
     pub left_order: usize,
     // Two words a set, low then high.
     pub right_signatures: usize,
     pub left_signatures: usize,
     // A slot for each rank, as long as its inverted list: the candidates of the paths that end in it.
     pub slots: usize,
-    // The kept row of each left set: where it begins in the work list, 0 where none is kept, and where it ends.
+    // The kept row of each left set: where it begins in the work list (0 if none is kept), and where it ends.
     pub row_starts: usize,
     pub row_ends: usize,
     // The kept rows, up to end: the places of right sets. A place below end fits a word.

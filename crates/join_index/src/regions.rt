@@ -1,4 +1,4 @@
-// Where the regions of a join's index lie in the work list, one above the other, for the sizes of its input.
+// Where the regions of a join's index lie in the work list, one above the other, by the sizes of its input.
 
 ghost use Rattle.join_index.specs.regions.Regions.{LaidOut, PlacedWords, Sizes};
 use crate::Layout;

@@ -1,5 +1,5 @@
-// The pairs of one left set, looked for: in the index its candidates are found, and those that contain it are written from a place of
-// the pair list on.
+// The pairs of one left set, looked for: its candidates are found in the index, and those that contain it are written into the pair
+// list.
 use crate::row_pairs::write_row;
 use crate::shortlists::find_candidates;
 use crate::shortlists::pivot;

@@ -35,8 +35,8 @@ pub fn write_pairs(work: &mut [u32], flags: &mut [u8], lay: Layout, lefts: usize
     }
 }
 
-// Writes the pairs of the left set k with all right sets that contain it: those of its row where one is kept, else they are looked
-// for. Returns where they end.
+// Writes the pairs of the left set k with all right sets that contain it: those of its row if one is kept, else they are looked for.
+// Returns where they end.
 pub fn write_left(
     work: &mut [u32],
     flags: &mut [u8],

@@ -1,5 +1,5 @@
-// The pairs of one left set with right sets whose places stand in the work list, written one after the other from a place of the
-// pair list on: with all of them, or with those that contain it. Each function returns where they end.
+// The pairs of one left set with right sets listed in the work list, written one after the other into the pair list: with all of them,
+// or with those that contain it. Each function returns where they end.
 use join_check::Checked;
 use join_check::Probe;
 use join_check::check_probe;
@@ -18,7 +18,7 @@ ghost use Prim.Native.Nat.{ℕ};
 ghost use Rattle.words.specs.Merges.{Rising};
 ghost use Rattle.kept_rows.specs.Kept.{containedAt};
 
-// Writes the pair of left place k and right place s where it is one.
+// Writes the pair of left place k and right place s, if it is one.
 fn push(pairs: &mut [u16], at: usize, k: usize, s: usize, paired: bool) -> usize
     requires { ⌜ PushRoom at k s paired (now pairs) ⌝ }
     ensures { λ r. ⌜ Put (now (pairs .entry)) at (ontoPair paired k s []) r (now (pairs .exit)) ⌝ }
@@ -31,8 +31,7 @@ fn push(pairs: &mut [u16], at: usize, k: usize, s: usize, paired: bool) -> usize
     at
 }
 
-// Writes the pairs of the left set k with the right sets of a kept row: those whose places stand from one place of the work list
-// up to another.
+// Writes the pairs of the left set k with the right sets of a kept row, work[from..to].
 pub fn write_kept(
     work: &[u32],
     from: usize,
@@ -54,8 +53,8 @@ pub fn write_kept(
     n
 }
 
-// Writes the pairs of the left set k with those right sets that contain it, of the ones whose places stand from one place of
-// the work list up to another; p is the rest of it, which is to be looked for.
+// Writes the pairs of the left set k with those right sets listed in work[from..to] that contain it; p is the rest of k, which is
+// looked for.
 pub fn write_row(
     work: &[u32],
     lay: Layout,
@@ -81,8 +80,7 @@ pub fn write_row(
     n
 }
 
-// Whether the right set s contains the left set of which p is the rest to be looked for: it does where there is no rank in the
-// rest, else it is checked.
+// Whether the right set s contains the left set of which p is the rest to look for: yes if the rest has no rank, else it is checked.
 pub fn is_contained(work: &[u32], lay: Layout, p: Probe, s: usize) -> bool
     requires { ⌜ SomeQuery (λ q. RightThere lay q (now work) s) ⌝ }
     requires { ⌜ Rising (p .from) (p .to) (now work) ⌝ }

@@ -1,5 +1,5 @@
-// The right sets that may contain a left set, found in the index: the rank of it that fewest right sets hold, and the candidates
-// that come from there. The work list is read by its layout, and candidates go into its slots.
+// The right sets that may contain a left set, found in the index: first its rank that fewest right sets hold, then the candidates from
+// there. The work list is read by its layout, and candidates go into its slots.
 use join_index::Layout;
 use words::shared::intersect;
 use words::word_at;
@@ -18,7 +18,7 @@ pub fn count_holders(work: &[u32], lay: Layout, r: usize) -> usize
     word_at(work, offsets + r + 1) - word_at(work, offsets + r)
 }
 
-// Of the ranks that stand from one place of the work list up to another, one that fewest right sets hold.
+// Of the ranks in work[from..to], one that fewest right sets hold.
 pub fn pivot(work: &[u32], lay: Layout, from: usize, to: usize) -> usize
     requires { ⌜ SomeQuery (λ q. RanksThere lay q (now work) from to) ⌝ }
     ensures { λ r. ⌜ memb r (slice from to (now (work .entry))) ≡ true ⌝ }
@@ -38,7 +38,7 @@ pub fn pivot(work: &[u32], lay: Layout, from: usize, to: usize) -> usize
     rank
 }
 
-// Above so many ranks a signature tells most right sets apart; below so many candidates it is not worth while to cut them down.
+// Above so many ranks a signature tells most right sets apart; below so many candidates it does not pay to cut them down.
 const FEW_RANKS: usize = 3;
 
 const FEW_CANDIDATES: usize = 16;
@@ -49,7 +49,7 @@ pub struct Span {
     pub to: usize,
 }
 
-// Candidates, as places of right sets in a part of the work list, and where the ranks begin that not all of them need hold.
+// Candidates: places of right sets in a part of the work list, and where the ranks begin that not all of them need hold.
 pub struct Shortlist {
     pub from: usize,
     pub to: usize,
@@ -68,7 +68,7 @@ fn list_of(work: &[u32], lay: Layout, r: usize) -> Span
     Span { from: from, to: to }
 }
 
-// Whether n candidates of a left set with so many ranks are better looked at than cut down by the rank r.
+// Whether n candidates of a left set with so many ranks are better checked than cut down by the rank r.
 fn stops(work: &[u32], lay: Layout, r: usize, pivot: usize, n: usize, ranks: usize) -> bool
     requires { ⌜ SomeQuery (λ q. RankThere lay q (now work) r) ⌝ }
 {
@@ -110,7 +110,7 @@ fn meet(
     Span { from: out, to: end }
 }
 
-// Candidates for the left set whose ranks stand from one place of the work list up to another, the pivot among them.
+// Candidates for the left set whose ranks are work[from..to], the pivot among them.
 pub fn find_candidates(
     work: &mut [u32],
     flags: &mut [u8],

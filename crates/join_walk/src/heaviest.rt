@@ -8,8 +8,8 @@ ghost use lib.Dec.{ltb};
 ghost use Rattle.join_index.specs.Asking.{SomeQuery, RangeThere};
 ghost use Rattle.join_walk.specs.heaviest.Heaviest.{RangeChosen};
 
-// Below this depth no child is preferred. Visits nest at most this often there, whatever the limit; and there are the nodes with many
-// children, whose ranges would be looked for twice.
+// Below this depth no child is preferred. Visits nest at most this often there, whatever the limit. And the nodes with many children
+// are there, whose ranges would be looked for twice.
 const SHALLOW: usize = 16;
 
 // The range left_order[lo..hi].

@@ -29,11 +29,11 @@ pub record WordsRoom (lay : Layout) (k from to : ℕ) (w : List ℕ) : Type 0 wh
   pub fromSmall : from < fullWords
   pub toSmall : to < fullWords
 
--- the words of the row of k say from where up to where it lies
+-- the words of the row of k say where it begins and ends
 abbrev pub rowStored : Layout → ℕ → ℕ → ℕ → List ℕ → List ℕ
 rowStored lay k from to w = set (set w (lay .«row_starts» + k) from) (lay .«row_ends» + k) to
 
--- the part of the work list, at the end of the rows, is the row of each of the left sets at the places lo up to hi of the order
+-- the part of the work list, at the end of the rows, is the row of each left set in left_order[lo..hi]
 pub record ShareThere (lay : Layout) (q : Query) (w : List ℕ) (lo hi from to : ℕ) : Type 0 where
   pub index : Index lay q w
   pub rows : RowsKept lay q w to
@@ -46,8 +46,7 @@ pub record Shared (lay : Layout) (w : List ℕ) (lo hi from to : ℕ) (w′ : Li
   pub frame : take (lay .«row_starts») w′ ≡ take (lay .«row_starts») w
   pub rows : (q : Query) → ShareThere lay q w lo hi from to → RowsKept lay q w′ to
 
--- the places of the right sets that contain each of the left sets at the places lo up to hi of the order stand from one place of the
--- work list up to another, below the rows
+-- work[from..to], below the rows, lists the right sets that contain each left set in left_order[lo..hi]
 pub record ListThere (lay : Layout) (q : Query) (w : List ℕ) (lo hi from to top : ℕ) : Type 0 where
   pub index : Index lay q w
   pub rows : RowsKept lay q w top

@@ -1,5 +1,5 @@
--- Inner: the rows that the work list keeps above its slots. A row that is kept has the places of all right sets that contain its left
--- set, rising; which left sets have one is not said.
+-- Inner: the rows that the work list keeps above its slots. A kept row has the places of all right sets that contain its left set,
+-- rising; which left sets have one is not said.
 use Prim.Native.Nat.{ℕ, _+_, _≤_, _<_}
 use mathlib.Core.Path.{_≡_}
 use mathlib.Core.List.{List, []}
@@ -18,21 +18,21 @@ containedAt q k s = contained (getD (q .lefts) k []) (getD (q .rights) s [])
 abbrev pub containing : Query → ℕ → List ℕ
 containing q k = keep (containedAt q k) (upto (length (q .rights)))
 
--- where the row of the left set k begins, 0 where none is kept, and where it ends
+-- where the row of the left set k begins (0 if none is kept), and where it ends
 abbrev pub rowStart : Layout → List ℕ → ℕ → ℕ
 rowStart lay w k = getD w (lay .«row_starts» + k) 0
 
 abbrev pub rowEnd : Layout → List ℕ → ℕ → ℕ
 rowEnd lay w k = getD w (lay .«row_ends» + k) 0
 
--- the part of the work list is the row of the left set k, and lies with the rows below top
+-- the part of the work list is the row of the left set k, with the rows below top
 pub record RowIs (lay : Layout) (q : Query) (w : List ℕ) (top k from to : ℕ) : Type 0 where
   pub low : lay .rows ≤ from
   pub order : from ≤ to
   pub high : to ≤ top
   pub is : slice from to w ≡ containing q k
 
--- each left set has a row or none, and all rows lie below top
+-- each left set has a row or none, and all rows are below top
 pub record RowsKept (lay : Layout) (q : Query) (w : List ℕ) (top : ℕ) : Type 0 where
   pub low : lay .rows ≤ top
   pub high : top ≤ lay .end

@@ -18,9 +18,8 @@ pub struct Recorded {
     pub top: usize,
 }
 
-// Checks the left set k, after its first e ranks, against each right set whose place stands from one place of the work list up to
-// another, and keeps the confirmed ones at top as its row. Every place is stored, and the end moves on only past those that were
-// confirmed.
+// Checks the left set k, after its first e ranks, against each right set listed in work[from..to], and keeps the confirmed ones at top
+// as its row. Every place is stored, and the end moves only past the confirmed ones.
 pub fn record_row(
     work: &mut [u32],
     lay: Layout,

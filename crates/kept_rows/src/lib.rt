@@ -22,7 +22,7 @@ pub fn clear_rows(work: &mut [u32], lay: Layout, lefts: usize)
     }
 }
 
-// The row of the left set k lies from one place of the work list up to another.
+// The row of the left set k is work[from..to].
 pub fn keep_row(work: &mut [u32], lay: Layout, k: usize, from: usize, to: usize)
     requires { ⌜ WordsRoom lay k from to (now work) ⌝ }
     ensures { λ _. ⌜ now (work .exit) ≡ rowStored lay k from to (now (work .entry)) ⌝ }
@@ -31,7 +31,7 @@ pub fn keep_row(work: &mut [u32], lay: Layout, k: usize, from: usize, to: usize)
     work[lay.row_ends + k] = to as u32;
 }
 
-// The left sets at the places lo up to hi of the order share one row, which lies from one place of the work list up to another.
+// The left sets in left_order[lo..hi] share one row, work[from..to].
 fn share_row(work: &mut [u32], lay: Layout, lo: usize, hi: usize, from: usize, to: usize)
     requires { ⌜ SomeQuery (λ q. ShareThere lay q (now work) lo hi from to) ⌝ }
     ensures { λ _. ⌜ Shared lay (now (work .entry)) lo hi from to (now (work .exit)) ⌝ }
@@ -45,9 +45,8 @@ fn share_row(work: &mut [u32], lay: Layout, lo: usize, hi: usize, from: usize, t
     }
 }
 
-// The left sets at the places lo up to hi of the order are contained in the right sets whose places stand from one place of the
-// work list up to another, and in no others: a copy of that part at top is kept as the row of each, if it fits. Returns the new
-// top.
+// The left sets in left_order[lo..hi] are contained in the right sets listed in work[from..to], and in no others: a copy of that part
+// at top is kept as the row of each, if it fits. Returns the new top.
 pub fn keep_list(
     work: &mut [u32],
     lay: Layout,

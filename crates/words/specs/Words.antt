@@ -11,7 +11,7 @@ pub record Word (w : List ℕ) (i r : ℕ) : Type 0 where
   pub is : r ≡ getD w i 0
   pub small : r < 4294967296
 
--- r is 1 where the test holds, else 0
+-- r is 1 if the test holds, else 0
 pub record OneWhere (b : Bool) (r : ℕ) : Type 0 where
   pub is : r ≡ one b
   pub small : r ≤ 1

@@ -1,5 +1,5 @@
-// Tables of flags, one for each number below their length: the words of a part of a list are flagged, those of a part that are
-// flagged are kept, and the flags are taken away again.
+// Tables of flags, one for each number below their length: flag the words of a part, keep the flagged words of another part, and take
+// the flags away again.
 use crate::word_at;
 ghost use mathlib.Core.Bool.{false};
 ghost use lib.ListN.{length};
@@ -30,8 +30,8 @@ pub fn flag_words(work: &[u32], a: usize, b: usize, flags: &mut [u8])
     }
 }
 
-// Writes from out on the flagged words of a part, and returns where they end. Every word is stored, and the place moves on only
-// past those that are flagged: no branch depends on the words.
+// Writes the flagged words of a part from out on, and returns where they end. Every word is stored, and the place moves on only past
+// the flagged ones: no branch depends on the words.
 pub fn keep_flagged(work: &mut [u32], c: usize, e: usize, out: usize, flags: &[u8]) -> usize
     requires { ⌜ Below (length (now flags)) c e (now work) ⌝ }
     requires { ⌜ Behind c e out (now work) ⌝ }
@@ -49,7 +49,7 @@ pub fn keep_flagged(work: &mut [u32], c: usize, e: usize, out: usize, flags: &[u
     n
 }
 
-// Takes the flags of the words of a part away. No other number is flagged before.
+// Takes away the flags of the words of a part. No other number is flagged before.
 pub fn unflag_words(work: &[u32], a: usize, b: usize, flags: &mut [u8])
     requires { ⌜ Below (length (now flags)) a b (now work) ⌝ }
     requires { ⌜ Flagged (λ s. memb s (slice a b (now work))) (now flags) ⌝ }

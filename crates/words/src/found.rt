@@ -8,7 +8,7 @@ ghost use Rattle.words.specs.Merges.{Rising};
 ghost use Rattle.words.specs.found.Halving.{Parted};
 ghost use Rattle.words.specs.flags.Flags.{Behind, Kept};
 
-// Where the first word of a rising part lies that is not below x; its end where there is none.
+// Where the first word of a rising part is that is not below x; the part's end if there is none.
 fn lower(work: &[u32], a: usize, b: usize, x: usize) -> usize
     requires { ⌜ a ≤ b ⌝ }
     requires { ⌜ Rising a b (now work) ⌝ }
@@ -40,7 +40,7 @@ fn is_among(work: &[u32], a: usize, b: usize, x: usize) -> bool
     word_at(work, at) == x
 }
 
-// Writes from out on the words of the second part that are among those of the first, and returns where they end.
+// Writes from out on the words of work[c..e] that are among work[a..b], and returns where they end.
 pub fn keep_found(work: &mut [u32], a: usize, b: usize, c: usize, e: usize, out: usize) -> usize
     requires { ⌜ a ≤ b ⌝ }
     requires { ⌜ Rising a b (now work) ⌝ }

@@ -1,5 +1,5 @@
-// The words that two rising parts of a list share, written behind them: by a table of flags, or by looking for the words of a part
-// that is far shorter. The table is lent all clear and comes back all clear.
+// The words that two rising parts of a list share, written behind them: by a table of flags, or, if one part is far shorter, by
+// looking for its words. The table is lent all clear and comes back all clear.
 use crate::flags::flag_words;
 use crate::flags::keep_flagged;
 use crate::flags::unflag_words;
@@ -8,14 +8,13 @@ ghost use Rattle.words.specs.Merges.{Rising};
 ghost use Rattle.words.specs.flags.Flags.{flagRoom, Below, Clear};
 ghost use Rattle.words.specs.shared.Sharing.{Apart, Intersected};
 
-// Whether a part of so many words is far shorter than another: to find each of its words there takes less time than to flag all.
+// Whether a part of so many words is far shorter than another: finding each of its words there takes less time than flagging all.
 fn is_far_shorter(short: usize, long: usize) -> bool {
     short < long / 32
 }
 
-// Writes from out on the words of the first part that are among those of the second, and returns where they end: the words of the
-// first part are flagged, those of the second that are flagged are written, and the flags are taken away again. Where the second part
-// is far shorter, its words are looked for in the first.
+// Writes from out on the words that both parts have, and returns where they end: flags the words of the first part, writes the flagged
+// words of the second, and takes the flags away again. If the second part is far shorter, its words are looked for in the first.
 pub fn intersect(
     work: &mut [u32],
     flags: &mut [u8],

@@ -1,11 +1,11 @@
-// Whether the second of two rising parts of a list of words has every word of the first. Each word of the first part is looked for in
-// the second, from either end, and the caller says from which: the one that ends sooner where a word is missing.
+// Whether the second of two rising parts of a list of words has every word of the first. Each word of the first is looked for in the
+// second, from the end that the caller names: the one that ends sooner if a word is missing.
 ghost use mathlib.Core.Path.{_≡_};
 ghost use Prim.Native.Nat.{_<_};
 ghost use Rattle.lists.specs.Lists.{subset, slice};
 ghost use Rattle.words.specs.Merges.{Rising, Skipped, Passed};
 
-// Goes back in the second part to the last word that is not above the last word of the first part, and returns the place after it.
+// Goes back in work[c..e] to its last word that is not above the last word of work[a..b], and returns the place after it.
 fn skip_higher(work: &[u32], a: usize, b: usize, c: usize, e: usize) -> usize
     requires { ⌜ a < b ⌝ }
     requires { ⌜ Rising a b (now work) ⌝ }
@@ -23,7 +23,7 @@ fn skip_higher(work: &[u32], a: usize, b: usize, c: usize, e: usize) -> usize
     j
 }
 
-// Whether every word of the first part is among those of the second, the last looked for first.
+// Whether every word of work[a..b] is in work[c..e]; the last is looked for first.
 fn search_down(work: &[u32], a: usize, b: usize, c: usize, e: usize) -> bool
     requires { ⌜ Rising a b (now work) ⌝ }
     requires { ⌜ Rising c e (now work) ⌝ }
@@ -45,7 +45,7 @@ fn search_down(work: &[u32], a: usize, b: usize, c: usize, e: usize) -> bool
     true
 }
 
-// Goes on in the second part to the first word that is not below the first word of the first part, and returns its place.
+// Goes on in work[c..e] to its first word that is not below the first word of work[a..b], and returns its place.
 fn skip_lower(work: &[u32], a: usize, b: usize, c: usize, e: usize) -> usize
     requires { ⌜ a < b ⌝ }
     requires { ⌜ Rising a b (now work) ⌝ }
@@ -63,7 +63,7 @@ fn skip_lower(work: &[u32], a: usize, b: usize, c: usize, e: usize) -> usize
     j
 }
 
-// The same, the first looked for first.
+// The same; the first is looked for first.
 fn search_up(work: &[u32], a: usize, b: usize, c: usize, e: usize) -> bool
     requires { ⌜ Rising a b (now work) ⌝ }
     requires { ⌜ Rising c e (now work) ⌝ }

@@ -24,14 +24,13 @@ pub record PushRoom (at k s : ℕ) (paired : Bool) (pairs : List ℕ) : Type 0 w
   pub right : s < maxSets
   pub room : at + length (ontoPair paired k s []) ≤ length pairs
 
--- room for the pairs of one left place with the right places that stand from one place up to another
+-- room for the pairs of one left place with the right places in work[from..to]
 pub record KeptRoom (w : List ℕ) (from to k at : ℕ) (pairs : List ℕ) : Type 0 where
   pub left : k < maxSets
   pub right : Below maxSets from to w
   pub room : at + length (pairsWith k (slice from to w)) ≤ length pairs
 
--- p is the rest of the left set k, to be looked for in the right sets whose places stand from one place up to another, and
--- there is room for their pairs
+-- p is the rest of the left set k, to be looked for in the right sets listed in work[from..to], and there is room for their pairs
 pub record RowRoom (lay : Layout) (q : Query) (w : List ℕ) (p : Probe) (k from to at : ℕ) (pairs : List ℕ) : Type 0 where
   pub left : LeftThere lay q w k
   pub places : PlacesThere lay q w from to

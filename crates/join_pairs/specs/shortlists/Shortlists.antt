@@ -1,5 +1,5 @@
--- Inner: candidates for a left set: right sets holding one of its ranks, cut down by its other ranks. All places are those of
--- right sets, in a part of the work list; what is cut down stands in the slots.
+-- Inner: candidates for a left set: right sets that hold one of its ranks, cut down by its other ranks. All places are those of right
+-- sets, in a part of the work list; what is cut down is in the slots.
 use Prim.Native.Nat.{ℕ, _+_, _≤_, _<_}
 use mathlib.Core.Path.{_≡_}
 use mathlib.Core.List.{List}
@@ -20,7 +20,7 @@ pub record Located (lay : Layout) (w : List ℕ) (r : ℕ) (s : Span) : Type 0 w
   pub from : s .from ≡ lay .index + getD w (lay .offsets + r) 0
   pub to : s .to ≡ lay .index + getD w (lay .offsets + r + 1) 0
 
--- rising places of right sets that hold the pivot, from one place up to another below the slot of a rank
+-- work[from..to], below the slot of a rank, lists rising places of right sets that hold the pivot
 pub record SpanThere (lay : Layout) (q : Query) (w : List ℕ) (r pivot from to : ℕ) : Type 0 where
   pub rank : RankThere lay q w r
   pub places : PlacesThere lay q w from to
@@ -38,14 +38,14 @@ pub record RankMet (lay : Layout) (w : List ℕ) (r pivot from to : ℕ) (w′ :
       (q : Query) → SpanThere lay q w r pivot from to
       → slice (s .from) (s .to) w′ ≡ keep (λ x. memb r (rightAt q x)) (slice from to w)
 
--- the words from one place up to another are ranks, and not none
+-- work[from..to] are ranks, and not none
 pub record RanksThere (lay : Layout) (q : Query) (w : List ℕ) (from to : ℕ) : Type 0 where
   pub index : Index lay q w
   pub some : from < to
   pub within : to ≤ length w
   pub below : all (λ r. ltb r (q .T)) (slice from to w) ≡ true
 
--- rising ranks, the pivot among them, from one place up to another below the slots
+-- work[from..to], below the slots, are rising ranks, the pivot among them
 pub record FindThere (lay : Layout) (q : Query) (w : List ℕ) (from to pivot : ℕ) : Type 0 where
   pub index : Index lay q w
   pub within : to ≤ lay .slots

@@ -11,8 +11,8 @@ use Rattle.join_check.specs.Checks.{RowThere, RowChecked}
 use Rattle.kept_rows.specs.Kept.{containedAt, containing, RowsKept}
 use Rattle.kept_rows.specs.declared.checked.Recorded.{Recorded}
 
--- the left set k can be checked so, no right set that contains it is missing from the places, in their order, and from top on
--- there is room for all of them
+-- the left set k can be checked so; the places, in their order, miss no right set that contains it; and from top on there is room for
+-- all of them
 pub record RowRecordable (lay : Layout) (q : Query) (w : List ℕ) (k e from to top : ℕ) : Type 0 where
   pub row : RowThere lay q w k e from to
   pub rows : RowsKept lay q w top

@@ -5,7 +5,7 @@ use mathlib.Core.List.{List}
 use Rattle.lists.specs.Lists.{slice}
 use Rattle.lists.specs.Parts.{Changed}
 
--- w became w′: from top up to r stands a copy of the part
+-- w became w′: work[top..r] is a copy of the part
 pub record Copied (from to top : ℕ) (w w′ : List ℕ) (r : ℕ) : Type 0 where
   pub changed : Changed top (top + (to - from)) w w′
   pub past : r ≡ top + (to - from)

@@ -1,5 +1,4 @@
--- Inner: tables of flags, one for each number below their length, and the words of a part that are kept by one, written behind
--- the part.
+-- Inner: tables of flags, one for each number below their length, and the words of a part that one keeps, written behind the part.
 use Prim.Native.Nat.{ℕ, _+_, _-_, _≤_, _<_}
 use mathlib.Core.Path.{_≡_}
 use mathlib.Core.List.{List}
@@ -13,13 +12,13 @@ use Rattle.lists.specs.Parts.{Changed}
 abbrev pub flagRoom : ℕ
 flagRoom = 4096
 
--- the words from lo up to hi are below a bound
+-- work[lo..hi] is below a bound
 pub record Below (bound lo hi : ℕ) (w : List ℕ) : Type 0 where
   pub order : lo ≤ hi
   pub within : hi ≤ length w
   pub below : all (λ s. ltb s bound) (slice lo hi w) ≡ true
 
--- the flag of each number that the table has one for is 1 where the test holds of it, else 0
+-- the flag of each number in the table is 1 if the test holds of it, else 0
 pub record Flagged (test : ℕ → Bool) (flags : List ℕ) : Type 0 where
   pub is : (s : ℕ) → s < length flags → getD flags s 0 ≡ one (test s)
 
@@ -32,12 +31,12 @@ pub record Clear (flags : List ℕ) : Type 0 where
   pub size : length flags ≡ flagRoom
   pub none : Flagged (λ s. false) flags
 
--- the part from c up to e lies below out, and from out on there is room for it
+-- work[c..e] is below out, and from out on there is room for it
 pub record Behind (c e out : ℕ) (w : List ℕ) : Type 0 where
   pub low : e ≤ out
   pub room : out + (e - c) ≤ length w
 
--- w became w′: from out up to r stand those words of the part from c up to e that pass the test
+-- w became w′: work[out..r] has those words of work[c..e] that pass the test
 pub record Kept (test : ℕ → Bool) (c e out : ℕ) (w w′ : List ℕ) (r : ℕ) : Type 0 where
   pub changed : Changed out (out + (e - c)) w w′
   pub low : out ≤ r

@@ -1,9 +1,9 @@
--- Inner: where a word would stand in a rising part of a list of words.
+-- Inner: where a word would be in a rising part of a list of words.
 use Prim.Native.Nat.{ℕ, _≤_, _<_}
 use mathlib.Core.List.{List}
 use lib.ListN.{getD}
 
--- the words from a up to r are below x, and those from r up to b are not
+-- work[a..r] is below x, and work[r..b] is not
 pub record Parted (a b x : ℕ) (w : List ℕ) (r : ℕ) : Type 0 where
   pub low : a ≤ r
   pub high : r ≤ b

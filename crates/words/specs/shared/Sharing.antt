@@ -6,13 +6,13 @@ use lib.ListN.{length}
 use Rattle.lists.specs.Lists.{keep, memb, slice}
 use Rattle.lists.specs.Parts.{Changed}
 
--- parts that end at b and e lie below out, and from out on there is room for the second, which begins at c
+-- parts that end at b and e are below out, and from out on there is room for the second, which begins at c
 pub record Apart (b c e out : ℕ) (w : List ℕ) : Type 0 where
   pub first : b ≤ out
   pub second : e ≤ out
   pub room : out + (e - c) ≤ length w
 
--- w became w′: from out up to r stands what the part from a up to b shares with that from c up to e
+-- w became w′: work[out..r] is what work[a..b] shares with work[c..e]
 pub record Intersected (a b c e out : ℕ) (w w′ : List ℕ) (r : ℕ) : Type 0 where
   pub changed : Changed out (out + (e - c)) w w′
   pub low : out ≤ r
