@@ -20,7 +20,7 @@ member words i = bitAt (getD words (i / 64) 0) (i % 64)
 unfoldable pub members : List ℕ → List ℕ
 members words = keep (member words) (upto (64 * length words))
 
--- the places of the digits 1 among a word's k lowest, counted from base on
+-- the places of the digits 1 among the k lowest of a word, counted from base on
 unfoldable pub digitsFrom : ℕ → ℕ → ℕ → List ℕ
 digitsFrom zero base word = []
 digitsFrom (suc k) base word = onto (eqb (word % 2) 1) base (digitsFrom k (suc base) (word / 2))

@@ -1,6 +1,6 @@
--- The first left set that is contained in one right set, and how many were compared to find it. Document 02, C-12 (a left set is a
--- kit there, and the right set a stack). The search is over elements of any kind and any test of one. In plain words it is
--- `FoundIn` and `NoneIn` of proofs/FirstLaws.antt: the element at its place passes and none before it does, or none passes at all.
+-- The first left set that is contained in one right set, and how many were compared to find it. Document 02, C-12 (a left set is a kit
+-- there, and the right set a stack). The search is over elements of any kind and any test of one. In plain words it is `FoundIn` and
+-- `NoneIn` of proofs/FirstLaws.antt: the element at its place passes and none before it does, or none passes at all.
 use Prim.Native.Nat.{ℕ, suc}
 use mathlib.Core.List.{List, [], _∷_}
 use mathlib.Core.Bool.{Bool, true, false, cond}
@@ -23,7 +23,7 @@ foundAt place = record { found = true; place = place; compared = suc place }
 abbrev pub noneOf : ℕ → Search
 noneOf many = record { found = false; place = 0; compared = many }
 
--- the first element that passes the test, the head being at place k; all up to it were compared, or k and the whole list
+-- the first element that passes the test, with the head at place k; all up to it were compared, or k and the whole list
 unfoldable pub firstFrom : {A : Type 0} → (A → Bool) → ℕ → List A → Search
 firstFrom test k [] = noneOf k
 firstFrom test k (x ∷ xs) = cond (test x) (foundAt k) (firstFrom test (suc k) xs)

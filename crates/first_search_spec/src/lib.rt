@@ -1,9 +1,9 @@
-// What the search for the first left set means: its answer, with its definition in specs/, and in proofs/ the laws about it that
-// need no code. The code that meets it stands in the crate above.
+// What the search for the first left set means: its answer, defined in specs/, and in proofs/ the laws about it that need no code. The
+// code that meets it is in `first_search`.
 use sets::Refusal;
 use sets::head_of;
 
-// What a search found: whether there is a left set, its place (0 where there is none), and how many were compared.
+// What a search found: whether there is a left set, its place (0 if none), and how many were compared.
 pub struct Search {
     pub found: bool,
     pub place: usize,

@@ -1,5 +1,5 @@
-// What the order of items means (document 01, "Order of tags"): its answer, with its definition in specs/, and in proofs/ the laws
-// about it that need no code. The code that meets it stands in the crates above.
+// What the order of items means (document 01, "Order of tags"): its answer, defined in specs/, and in proofs/ the laws about it that
+// need no code. The code that meets it is in `item_order`.
 use sets::Refusal;
 use sets::head_of;
 

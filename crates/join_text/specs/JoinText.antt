@@ -1,6 +1,6 @@
--- The text that the program kitlist prints for a join of two numbered collections, with the repeats that were read with them: how
+-- The text that the program kitlist prints for a join of two numbered collections, with the repeats that were read with them, and how
 -- it joins. Document 01, "The program kitlist"; document 02, C-15. Kits are left sets here and stacks right sets. The text of an
--- answer is defined in `answer_text`; the rank table and the join's answer are those of the operations.
+-- answer is defined in `text`; the rank table and the join's answer are those of the operations.
 use Prim.Native.Nat.{ℕ, _*_, _-_, _≤_}
 use mathlib.Core.Path.{_≡_}
 use mathlib.Core.List.{List}
@@ -40,7 +40,7 @@ unfoldable pub joinText : Repeats → List ℕ → List ℕ → Input → Settin
 joinText repeats leftNumbers rightNumbers i s =
     answerText repeats leftNumbers rightNumbers (pairList (leftSets i) (rightSets i)) (joinAnswer i s programRoom)
 
--- a text fills a lent list from its beginning, which is as before beyond; r is the text's length, and the list holds it
+-- a text fills a lent list from its beginning, which is as before beyond; r is the text's length, and the list has room for it
 pub record FillsText (text was : List ℕ) (r : ℕ) (is : List ℕ) : Type 0 where
   pub long : r ≡ length text
   pub room : r ≤ length was

@@ -1,6 +1,6 @@
 // The text of a join of two numbered collections, written into a lent list of bytes: orders their items by rising frequency, joins
-// them, and writes the counts, the repeats that were read with them and a line for each pair, or why there is no list. What the
-// text is is defined in specs/.
+// them, and writes the counts, the repeats that were read with them and a line for each pair, or why there is no list. The text is
+// defined in specs/.
 use item_order_spec::OrderAnswer;
 use join_spec::Rule;
 use tag_file::Repeats;

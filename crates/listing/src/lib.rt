@@ -1,6 +1,6 @@
-// The text that the program kitlist prints (document 01), written into a lent list of bytes: loads a tag file, and writes the text of
+// The text that the program kitlist prints (document 01), written into a lent list of bytes: loads a tag file and writes the text of
 // the join of its left sets (kits) with its right sets (stacks), with the repeats that the loader counted, or why there is no list.
-// What the text is is defined in `listing_spec`.
+// The text is defined in `listing_spec`.
 use join_text::MAX_PAIRS;
 use join_text::list_loaded;
 use sets::MAX_ITEMS;

@@ -1,4 +1,4 @@
--- The shared definitions on lists. Their laws stand in proofs/.
+-- The shared definitions on lists. Their laws are in proofs/.
 pub mod Lists
 pub mod Parts
 pub mod Writing

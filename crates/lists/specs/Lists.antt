@@ -11,7 +11,7 @@ abbrev pub one : Bool → ℕ
 one true = 1
 one false = 0
 
--- x in front of xs where the test holds, else xs
+-- x in front of xs if the test holds, else xs
 abbrev pub onto : {A : Type 0} → Bool → A → List A → List A
 onto true x xs = x ∷ xs
 onto false x xs = xs

@@ -4,7 +4,7 @@ use mathlib.Core.Path.{_≡_}
 use mathlib.Core.List.{List}
 use lib.ListN.{length, take, drop}
 
--- w became w′, and only the words from lo up to hi may differ
+-- w became w′, and only w[lo..hi] may differ
 pub record Changed (lo hi : ℕ) (w w′ : List ℕ) : Type 0 where
   pub size : length w′ ≡ length w
   pub low : take lo w′ ≡ take lo w

@@ -16,8 +16,8 @@ pub mod second_file;
 // A hint that leads to no id.
 const NO_ID: u16 = 65535;
 
-// The first pass over the first file. The numbers that it notes are in a function of their own: the compiler puts what is needed later
-// into the same place.
+// The first pass over the first file. The numbers that it notes are in a function of their own, so that the compiler can use their
+// space again later (D-78).
 fn scan_first(
     first: &[u8],
     heads: &mut [usize; INDEX_ROOM],

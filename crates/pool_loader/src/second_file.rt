@@ -20,8 +20,8 @@ ghost use Rattle.tag_scan.specs.Scan.{Scanned};
 ghost use Rattle.tag_loader.specs.Passes.{AllFilled};
 ghost use Rattle.pool_loader.specs.second_file.Judging.{JudgeReady, Judged, PoolFillable};
 
-// The answer: the first file's, or after the pass over the second that of both, by the lengths of the lists. It leaves the slots of the
-// pooled sets.
+// The answer: the first file's, or after the pass over the second that of both, by the lengths of the lists. It leaves the slots of
+// the pooled sets.
 fn judge(
     answer: LoadAnswer,
     first: &[u8],

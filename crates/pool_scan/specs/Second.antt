@@ -28,8 +28,8 @@ pub record SecondReady (first : List ℕ) (total : Loaded) (repeats : Repeats) (
   pub slottable : Slottable first
   pub slotted : Slotted first used counts slots
 
--- the second file: its first fault, or the counts of the pooled records and the repeats of both files; where it has none, they are taken in, the slots have the lengths
--- of the pooled sets, and the first record whose pooled set is too long is known
+-- the second file: its first fault, or the counts of the pooled records and the repeats of both files. Without a fault they are taken
+-- in, the slots have the lengths of the pooled sets, and the first record whose pooled set is too long is known
 pub record SecondScanned (first second heads tails order used slots : List ℕ) (r : Second) : Type 0 where
   pub answer : r .answer
       ≡ unless load.Refused (secondFault (records first) (length first) second)

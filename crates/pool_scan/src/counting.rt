@@ -103,7 +103,7 @@ pub fn count_set(before: Counted, united: United, count: usize, place: usize) ->
     }
 }
 
-// The answer where a record is at fault.
+// The answer when a record is at fault.
 pub fn refused(why: Refusal) -> Second
     ensures { λ r. ⌜ r .answer ≡ Refused why ⌝ }
 {

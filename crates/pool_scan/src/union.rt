@@ -1,5 +1,5 @@
-// The tags of one right set of the second of two pooled files, taken into the index as a union: where the first file has a set of its
-// number, the tags of that record are marked again, and then those of the second's that are new.
+// The tags of one right set of the second of two pooled files, taken into the index as a union: if the first file has a set of its
+// number, the tags of that record are marked again, and then the second's that are new.
 use crate::right_slots::POOLED_MARK;
 use crate::right_slots::slot_of;
 use bit_sets::contains;
@@ -63,7 +63,7 @@ fn add_first(
     }
 }
 
-// Takes in the tags of a right set of the second file that the first file has not.
+// Takes in the tags of a right set of the second file that is not in the first file.
 fn add_alone(
     second: &[u8],
     tags: usize,
@@ -144,8 +144,8 @@ fn add_both(
     }
 }
 
-// Takes in the tags of a right set of the second file, behind those of the first file's set of its number, where there is one; its
-// slot then has the length of the union.
+// Takes in the tags of a right set of the second file, behind those of the first file's set of its number, if there is one; its slot
+// then has the length of the union.
 pub fn unite(
     first: &[u8],
     second: &[u8],

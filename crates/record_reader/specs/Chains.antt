@@ -30,7 +30,7 @@ pub record TagThere (file : List ℕ) (start k : ℕ) : Type 0 where
   pub inside : pastTags start (k + 1) ≤ length file
   pub room : k < maxSetLength
 
--- j links to the last tag of a bucket among the first k of a record; 0 where none of them is in it
+-- j links to the last tag of a bucket among the first k of a record; 0 if none of them is in it
 pub record LastIn (file : List ℕ) (start bucket k j : ℕ) : Type 0 where
   pub within : j ≤ k
   pub here : 0 < j → bucketOf (tagOf file start (j - 1)) ≡ bucket

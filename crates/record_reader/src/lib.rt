@@ -1,6 +1,6 @@
 // The record reader: the record at a place of a tag file, and how many of its tags are repeats. A tag is looked for among those before
-// it in the file itself, and no tag is copied: the tags of a bucket are chained, each with a link to the one before it. A walk takes as
-// many steps as a bucket has tags, which are few unless they were chosen for it, and it is right wherever the tags fall.
+// it in the file itself, and no tag is copied: the tags of a bucket are chained, each with a link to the one before it. A search takes
+// as many steps as a bucket has tags, few unless they were chosen for it, and is right wherever the tags fall.
 use sets::MAX_SET_LENGTH;
 use tag_file::ReadAnswer;
 use tag_file::RecordRead;
@@ -54,7 +54,7 @@ fn link(
     last[bucket] = (k + 1) as u16;
 }
 
-// Whether the tag k of a record is among those before it: looked for along the links from it.
+// Whether the tag k of a record is among those before it; looked for along the links from it.
 fn is_repeat(file: &[u8], start: usize, k: usize, links: &[u16; MAX_SET_LENGTH]) -> bool
     requires { ⌜ TagThere (now file) start k ⌝ }
     requires { ⌜ Linked (now file) start (k + 1) (now links) ⌝ }

@@ -14,7 +14,7 @@ EndsWithin ends items = (k : ℕ) → k < length ends → getD ends k 0 ≤ leng
 abbrev pub double : List ℕ → ℕ → ℕ
 double w i = getD w i 0 + fullWords * getD w (i + 1) 0
 
--- w became w′: from at on the number stands in two words, and nothing below changed
+-- w became w′: the number is in two words from at on, and nothing below changed
 pub record DoubleStored (at number : ℕ) (w w′ : List ℕ) : Type 0 where
   pub frame : take at w′ ≡ take at w
   pub size : length w′ ≡ length w

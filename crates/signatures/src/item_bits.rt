@@ -1,4 +1,4 @@
-// The bits of the items (mark positions in document 01) from a constant table: the power rule stands in the definition alone.
+// The bits of the items (mark positions in document 01) from a constant table; the rule of powers is in the definition alone.
 
 ghost use mathlib.Core.Path.{_≡_};
 ghost use Rattle.sets.specs.Signatures.{position};

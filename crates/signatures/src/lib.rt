@@ -17,7 +17,7 @@ pub mod item_bits;
 // How many numbers a word of the work list can hold.
 const WORDS: u64 = 4294967296;
 
-// The signature of the items from start up to end.
+// The signature of items[start..end].
 fn sign_set(items: &[u16], table: &[u8; 256], start: usize, end: usize) -> u64
     requires within { ⌜ end ≤ length (now items) ⌝ }
     requires positions { ⌜ now table ≡ positionTable ⌝ }
@@ -42,7 +42,7 @@ fn store_double(work: &mut [u32], at: usize, number: u64)
     work[at + 1] = (number / WORDS) as u32;
 }
 
-// The number that stands in two words.
+// The number in two words.
 pub fn double_at(work: &[u32], at: usize) -> u64
     requires { ⌜ at + 2 ≤ length (now work) ⌝ }
     ensures { λ r. ⌜ r ≡ double (now (work .entry)) at ⌝ }

@@ -1,6 +1,6 @@
--- The bytes of a tag file: tags, and whole records. Document 01, "Tag file", first sentences. A record of a left set is a
--- kit's, and one of a right set a stack's. A tag is taken as one number, high byte first, so that the order of tags as
--- unsigned bytes is the order of numbers.
+-- The bytes of a tag file: tags, and whole records. Document 01, "Tag file", first sentences. A left set's record is a kit's there, a
+-- right set's a stack's. A tag is read as one number, high byte first: the order of tags as unsigned bytes is then the order of
+-- numbers.
 use Prim.Native.Nat.{ℕ, zero, suc, _+_, _*_, _/_, _%_}
 use mathlib.Core.List.{List, [], _∷_, _++_}
 use lib.ListN.{length, take, drop}
@@ -33,7 +33,7 @@ unfoldable pub bytesOf : ℕ → ℕ → List ℕ
 bytesOf zero v = []
 bytesOf (suc n) v = bytesOf n (v / 256) ++ (v % 256 ∷ [])
 
--- the tag that stands at a place of a list of bytes
+-- the tag at a place of a list of bytes
 abbrev pub tagAt : List ℕ → ℕ → ℕ
 tagAt bytes place = value (take tagLength (drop place bytes))
 

@@ -40,7 +40,7 @@ faultOf seen r =
     unless Failed (refuseIf (numberUsed seen r) (NumberUsed (totalLength seen)))
     (refuseIf (tooMany (r .side) (seen ++ (r ∷ []))) (TooMany (totalLength seen)))
 
--- the first fault of records that follow those seen, and else what the reading ended with
+-- the first fault of records that follow those seen, or else what the reading ended with
 unfoldable pub firstFault : List TagRecord → List TagRecord → Tested → Tested
 firstFault seen [] last = last
 firstFault seen (r ∷ rs) last = unless Failed (faultOf seen r) (firstFault (seen ++ (r ∷ [])) rs last)
@@ -51,7 +51,7 @@ refusalOf (Refused why) = Failed why
 refusalOf NoMore = Passed
 refusalOf (Record side number count place next) = Passed
 
--- the first fault of a file: of its whole records, and else at the place where they end
+-- the first fault of a file: of its whole records, or else at the place where they end
 unfoldable pub fileFault : List ℕ → Tested
 fileFault file = firstFault [] (records file) (refusalOf (readAt file (totalLength (records file))))
 

@@ -13,7 +13,7 @@ use Rattle.tag_file.specs.Format.{tagLength, headLength, tagAt, mark}
 use Rattle.tag_file.specs.declared.ReadAnswer.{ReadAnswer}
 use Rattle.tag_file.specs.declared.ReadAnswer.the-variants.{Record, NoMore, Refused}
 
--- whether a side's mark stands at a place
+-- whether a side's mark is at a place
 abbrev pub marked : Side → List ℕ → ℕ → Bool
 marked side file at = prefix (mark side) (drop at file)
 
@@ -34,22 +34,22 @@ abbrev pub wholeAt : List ℕ → ℕ → Bool
 wholeAt file at =
     leb (at + headLength) (length file) && leb (pastTags (at + headLength) (countAt file at)) (length file)
 
--- the record of a side at a place, where it is whole; else the refusal with this place
+-- the record of a side at a place, if it is whole; else the refusal with this place
 abbrev pub recordAt : Side → List ℕ → ℕ → ReadAnswer
 recordAt side file at =
     cond (wholeAt file at)
     (Record side (numberAt file at) (countAt file at) (at + headLength) (pastTags (at + headLength) (countAt file at)))
     (Refused (Malformed at))
 
--- what stands at a place: no more at the file's end, a whole record, or a refusal with this place; a place past the end counts
--- as cut short
+-- what is at a place: no more at the file's end, a whole record, or a refusal with this place; a place past the end counts as cut
+-- short
 unfoldable pub readAt : List ℕ → ℕ → ReadAnswer
 readAt file at =
     cond (eqb at (length file)) NoMore
     (cond (marked Left file at) (recordAt Left file at)
     (cond (marked Right file at) (recordAt Right file at) (Refused (Malformed at))))
 
--- n tags that stand one after the other from a place on
+-- n tags, one after the other, from a place on
 unfoldable pub tagsAt : ℕ → List ℕ → ℕ → List ℕ
 tagsAt zero file at = []
 tagsAt (suc n) file at = tagAt file at ∷ tagsAt n file (at + tagLength)

@@ -24,7 +24,7 @@ pub record TagRecord : Type 0 where
 abbrev pub totalLength : List TagRecord → ℕ
 totalLength rs = sum (λ r. recordLength (length (r .tags))) rs
 
--- the record of an answer, then those that go on from the next place; none where no whole record was read
+-- the record of an answer, then those that go on from the next place; none if no whole record was read
 abbrev pub onward : ReadAnswer → List ℕ → (ℕ → List TagRecord) → List TagRecord
 onward (Record side number count place next) file go =
     record { side = side; number = number; tags = tagsAt count file place } ∷ go next
@@ -51,11 +51,11 @@ sameSide Left Right = false
 sameSide Right Left = false
 sameSide Right Right = true
 
--- the records of a side, in the order of the file: their index here is the place of the set
+-- the records of a side, in the order of the file: a record's index here is the place of its set
 abbrev pub ofSide : Side → List TagRecord → List TagRecord
 ofSide side rs = keep (λ r. sameSide side (r .side)) rs
 
--- a number put into a strictly rising list, where it isn't there
+-- a number put into a strictly rising list, if it isn't there
 unfoldable pub insert : ℕ → List ℕ → List ℕ
 insert x [] = x ∷ []
 insert x (y ∷ ys) = cond (ltb x y) (x ∷ y ∷ ys) (cond (eqb x y) (y ∷ ys) (y ∷ insert x ys))

@@ -39,8 +39,8 @@ ghost use Rattle.tag_file.specs.Inner.{ByteAt};
 
 pub mod answers;
 
-// What the record reader answers: a whole record with the place of its first tag and the next place, that there is no
-// more, or why not.
+// What the record reader answers: a whole record, with the place of its first tag and the next place; that there is no more; or why
+// not.
 pub enum ReadAnswer {
     Record {
         side: Side,
@@ -132,8 +132,8 @@ pub fn read_at(file: &[u8], at: usize) -> ReadAnswer
     ReadAnswer::Refused(Refusal::Malformed(at))
 }
 
-// The record reader: the lent file and the next place. The functions over it are thin: `read_at` does the work, and
-// `read_record` is what others call. It leaves the tags alone: who needs their repeats has `record_reader`.
+// The record reader: the lent file and the next place. The functions over it are thin: `read_at` does the work, and others call
+// `read_record`. It leaves the tags alone; `record_reader` counts their repeats.
 pub struct Reader<'a> {
     pub file: &'a [u8],
     pub at: usize,

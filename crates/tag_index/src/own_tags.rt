@@ -1,5 +1,4 @@
-// The tags of a record, added to those of a set that may have tags from a record before, with the record's own distinct tags counted
-// beside.
+// The tags of a record, added to a set that may have tags from a record before; the record's own distinct tags are counted beside.
 use crate::HINT_SLOTS;
 use crate::INDEX_ROOM;
 use crate::tag_adding::Added;
@@ -22,7 +21,7 @@ pub struct AddedBeside {
     pub own: usize,
 }
 
-// Adds the tags of a record to the index and to those of a set, as `add_tags`, and counts the record's own distinct tags beside: a tag
+// Adds the tags of a record to the index and to a set, as `add_tags` does, and counts the record's own distinct tags beside: a tag
 // that the set had before is one of them.
 pub fn add_beside(
     file: &[u8],

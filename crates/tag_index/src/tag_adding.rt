@@ -1,5 +1,5 @@
-// The tags of a record, added to the index and to those of a set. The ids of the tags that the set has are seen in a bit set, so that a
-// tag that comes again is not counted again.
+// The tags of a record, added to the index and to a set. The ids of the set's tags are seen in a bit set, so a tag that comes again is
+// not counted again.
 use crate::HINT_SLOTS;
 use crate::INDEX_ROOM;
 use crate::take_tag;
@@ -24,7 +24,7 @@ fn number(b: bool) -> usize
     if b { 1 } else { 0 }
 }
 
-// Sees the tag of an id. 1 where it was not seen before, else 0.
+// Sees the tag of an id: 1 if it was not seen before, else 0.
 pub fn see(seen: &mut [u64], id: usize) -> usize
     requires { ⌜ (id < indexRoom) × (length (now seen) ≡ seenWords) ⌝ }
     ensures { λ r. ⌜ Seen (now (seen .entry)) id r (now (seen .exit)) ⌝ }
@@ -34,14 +34,14 @@ pub fn see(seen: &mut [u64], id: usize) -> usize
     number(!before)
 }
 
-// How many tags the index has, and how many distinct ones the set whose tags are being added has so far.
+// How many tags the index has, and how many distinct ones the set has so far.
 pub struct Added {
     pub tags: usize,
     pub fresh: usize,
 }
 
-// Adds the tags of a record, the first at start, to the index and to those of a set. The set may have tags from a record before:
-// `sum` counts its distinct ones so far, and `seen` has their ids. A set without tags starts with 0 and no ids.
+// Adds the tags of a record, the first at start, to the index and to a set. The set may have tags from a record before: `sum` counts
+// its distinct ones so far, and `seen` has their ids. A set without tags starts with 0 and no ids.
 pub fn add_tags(
     file: &[u8],
     heads: &mut [usize; INDEX_ROOM],

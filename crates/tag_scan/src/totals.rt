@@ -1,5 +1,5 @@
-// The totals of a load: its counts and its repeats with one more record of a side, whether counts pass a limit, and the answer of a
-// first pass where the reading ended.
+// The totals of a load: its counts and repeats with one more record of a side, whether counts exceed a limit, and the answer of a
+// first pass when the reading has ended.
 use sets::MAX_ENTRIES;
 use sets::MAX_ITEMS;
 use sets::MAX_SETS;
@@ -61,7 +61,7 @@ pub fn repeated(repeats: Repeats, side: Side, more: usize) -> Repeats
     }
 }
 
-// Whether counts pass a limit.
+// Whether counts exceed a limit.
 pub fn is_past(sets: usize, entries: usize, tags: usize) -> bool
     ensures { λ r. ⌜ r ≡ passes sets entries tags ⌝ }
 {
@@ -78,7 +78,7 @@ pub fn is_over(total: Loaded, side: Side) -> bool
     }
 }
 
-// What the first pass answers where the reading ended: the reader's refusal, or the counts and the repeats.
+// What the first pass answers when the reading has ended: the reader's refusal, or the counts and the repeats.
 pub fn stopped(answer: ReadAnswer, total: Loaded, repeats: Repeats) -> LoadAnswer
     ensures { λ r. ⌜ r ≡ unless Rejected (refusalOf answer) (Accepted total repeats) ⌝ }
 {

@@ -73,7 +73,7 @@ fn test_lists(
     test_numbered(t, Side::Right, right_numbers, right_ends, right_items)
 }
 
-// The whole file, where neither side has a fault.
+// Writes the whole file; neither side has a fault.
 fn write_good(
     tags: &[u8],
     left_numbers: &[u16],

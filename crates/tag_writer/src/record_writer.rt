@@ -1,5 +1,5 @@
-// The records of a side as bytes of a tag file: what one record is made of, and the records of all sets, by place. A record is put
-// by one function, whatever its side.
+// The records of a side as bytes of a tag file: the parts of one record, and the records of all sets, by place. One function writes a
+// record, whatever its side.
 use sets::Side;
 ghost use mathlib.Core.Path.{_≡_};
 ghost use Prim.Native.Nat.{_+_, _*_, _-_, _≤_};
@@ -16,7 +16,7 @@ pub const TAG_LENGTH: usize = 12;
 // The bytes of a record before its tags.
 const HEAD_LENGTH: usize = 5;
 
-// Four bytes of the tag table go to a place of the file. All are read before the first is stored, so that they can move as one
+// Copies four bytes of the tag table to a place of the file. All are read before the first is stored, so that they can move as one
 // word.
 fn put_four(tags: &[u8], from: usize, file: &mut [u8], at: usize)
     requires { ⌜ (from + 4 ≤ length (now tags)) × (at + 4 ≤ length (now file)) ⌝ }
@@ -32,7 +32,7 @@ fn put_four(tags: &[u8], from: usize, file: &mut [u8], at: usize)
     file[at + 3] = d;
 }
 
-// The tag at a place of the tag table goes to a place of the file.
+// Copies the tag at a place of the tag table to a place of the file.
 fn put_tag(tags: &[u8], from: usize, file: &mut [u8], at: usize)
     requires { ⌜ (from + tagLength ≤ length (now tags)) × (at + tagLength ≤ length (now file)) ⌝ }
     ensures { λ r. ⌜ now (file .exit) ≡ sets (now (file .entry)) at (take tagLength (drop from (now (tags .entry)))) ⌝ }
@@ -62,7 +62,7 @@ fn second_mark(side: Side) -> u8
     }
 }
 
-// The mark, the number and the count of a record go to a place of the file.
+// Writes the mark, the number and the count of a record to a place of the file.
 fn put_head(side: Side, number: u16, count: u8, file: &mut [u8], at: usize)
     requires { ⌜ at + headLength ≤ length (now file) ⌝ }
     ensures { λ r. ⌜ now (file .exit) ≡ sets (now (file .entry)) at (recordHead side number count) ⌝ }
@@ -76,7 +76,7 @@ fn put_head(side: Side, number: u16, count: u8, file: &mut [u8], at: usize)
     file[at + 4] = count;
 }
 
-// The tags of the items from start up to end go to a place of the file.
+// Writes the tags of items[start..end] to a place of the file.
 fn put_tags(tags: &[u8], items: &[u16], start: usize, end: usize, file: &mut [u8], at: usize)
     requires { ⌜ ItemsFit (now tags) (now items) start end ⌝ }
     requires { ⌜ at + tagLength * (end - start) ≤ length (now file) ⌝ }
@@ -93,7 +93,7 @@ fn put_tags(tags: &[u8], items: &[u16], start: usize, end: usize, file: &mut [u8
     }
 }
 
-// The record of the set of the items from start up to end goes to a place of the file.
+// Writes the record of the set items[start..end] to a place of the file.
 fn put_record(
     side: Side,
     number: u16,
@@ -122,7 +122,7 @@ fn record_length(count: usize) -> usize
     HEAD_LENGTH + TAG_LENGTH * count
 }
 
-// The records of a side, by place, go to a place of the file.
+// Writes the records of a side, by place, to a place of the file.
 pub fn put_side(
     side: Side,
     tags: &[u8],

@@ -56,7 +56,7 @@ unfoldable pub tableTest : ℕ → List ℕ → Tested
 tableTest T tags =
     unless Failed (itemsTest T) (refuseIf (not (eqb (length tags) (tagLength * T))) BadSettings)
 
--- a side has as many numbers as sets: 5, the shorter length being the place
+-- a side has as many numbers as sets: 5, with the shorter length as the place
 abbrev pub numbersTest : Side → List ℕ → List ℕ → Tested
 numbersTest side numbers ends =
     refuseIf (not (eqb (length numbers) (length ends))) (BadSet side (min (length numbers) (length ends)))
@@ -79,7 +79,7 @@ roomTest room bytes = refuseIf (ltb room bytes) ShortOutput
 
 -- ---- the answer, and the output afterwards
 
--- the length of what is written, where the output has room for it
+-- the length of what is written, if the output has room for it
 abbrev pub writtenWithin : ℕ → List ℕ → WriteAnswer
 writtenWithin room bytes = unless Refused (roomTest room (length bytes)) (Written (length bytes))
 

@@ -1,5 +1,5 @@
-// What the writer of a tag file means (document 01, "Tag file"): its answer, with its definition, its tests and its file in specs/,
-// and in proofs/ the laws about them. The code that meets them stands in the crates above.
+// What the writer of a tag file means (document 01, "Tag file"): its answer, its tests and its file, defined in specs/, and in proofs/
+// the laws about them. The code that meets them is in `tag_writer`.
 use sets::Refusal;
 use sets::head_of;
 

@@ -1,5 +1,5 @@
-// The text of a join's answer, written into a lent list of bytes: the counts, the repeats that were read with the collections and a
-// line for each pair, or why there is no list. What the text is is defined in specs/.
+// The text of a join's answer, written into a lent list of bytes: the counts, the repeats and a line for each pair, or why there is no
+// list. It is defined in specs/.
 use crate::counts_line::put_counts;
 use crate::number_lines::put_refusal;
 use crate::number_lines::put_repeats;

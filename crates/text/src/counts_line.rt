@@ -1,5 +1,5 @@
-// The line of the six counts of a join, written into a lent list of bytes. What it is is defined in Lines. Each function
-// returns the place after what it wrote.
+// The line of the six counts of a join, written into a lent list of bytes. It is defined in specs/Lines. Each function returns the
+// place after what it wrote.
 use crate::put_labelled;
 use crate::put_word;
 use join_spec::Counts;

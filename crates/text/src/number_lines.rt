@@ -1,5 +1,5 @@
-// The lines of two numbers behind a word, written into a lent list of bytes: a refusal, and the repeats. What each line is is
-// defined in Lines. Each function returns the place after what it wrote.
+// The lines of two numbers behind a word, written into a lent list of bytes: a refusal, and the repeats. They are defined in
+// specs/Lines. Each function returns the place after what it wrote.
 use crate::put_numbers;
 use sets::Refusal;
 use sets::head_of;

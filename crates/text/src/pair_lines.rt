@@ -1,5 +1,5 @@
-// The lines of pairs of record numbers, written into a lent list of bytes. What a line is is defined in Lines. Each function
-// returns the place after what it wrote.
+// The lines of pairs of record numbers, written into a lent list of bytes. They are defined in specs/Lines. Each function returns the
+// place after what it wrote.
 use crate::put_labelled;
 use crate::put_number;
 use crate::put_word;

@@ -1,4 +1,4 @@
-// The test of a collection: its first bad set, told from the whole list where there is none.
+// The test of a collection: its first bad set. If there is none, the whole list tells so.
 use crate::falls::count_border_falls;
 use crate::falls::count_falls;
 use crate::falls::count_high;
@@ -37,7 +37,7 @@ fn find_bad(t: u32, ends: &[u32], items: &[u16]) -> Verdict
     Verdict::Good
 }
 
-// Whether t is within its limit and no set is bad, told from the whole list: a fall that is not at a border is one inside a set.
+// Whether t is within its limit and no set is bad, told from the whole list: a fall that is not at a border is inside a set.
 fn all_good(t: u32, ends: &[u32], items: &[u16]) -> bool
     ensures { λ r. ⌜ r ≡ (leb t maxItems && isGood (firstBad t (now (ends .entry)) (now (items .entry)))) ⌝ }
 {
@@ -66,8 +66,8 @@ fn all_good(t: u32, ends: &[u32], items: &[u16]) -> bool
     all == borders
 }
 
-// The first bad set of a collection. Sets are looked at one by one only where the whole list shows that there is one, or t is
-// above its limit.
+// The first bad set of a collection. Sets are looked at one by one only if the whole list shows that one is bad, or t is above its
+// limit.
 pub fn first_bad(t: u32, ends: &[u32], items: &[u16]) -> Verdict
     ensures { λ r. ⌜ r ≡ firstBad t (now (ends .entry)) (now (items .entry)) ⌝ }
 {

@@ -1,5 +1,5 @@
-// How often a list of 16-bit numbers falls, and where it may: at the borders of its parts, which are given by their ends. Counted
-// without a branch and in a number's width, so that the compiler compares eight numbers at once.
+// How often a list of 16-bit numbers falls, and where it may: at the borders of its parts, given by their ends. Counted without a
+// branch and in 16 bits, so that the compiler compares eight numbers at once.
 ghost use mathlib.Core.Path.{_≡_};
 ghost use Prim.Native.Nat.{_≤_};
 ghost use lib.Dec.{leb};
@@ -45,7 +45,7 @@ pub fn count_falls(n: usize, list: &[u16]) -> u16
     falls
 }
 
-// 1 where the list falls from the last number of a part to the number after it, else 0.
+// 1 if the list falls from the last number of a part to the number after it, else 0.
 fn border_fall(n: usize, start: usize, end: usize, list: &[u16]) -> u16
     requires { ⌜ n ≤ length (now list) ⌝ }
     ensures { λ r. ⌜ r ≡ borderFall n start end (now (list .entry)) ⌝ }

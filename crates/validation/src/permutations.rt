@@ -1,5 +1,5 @@
-// The test of a rank table: whether it is a permutation. As with the sets' items, no branch depends on a rank, so that a good table,
-// the usual one, is gone through at the pace of its reads.
+// The test of a rank table: whether it is a permutation. As with the sets' items, no branch depends on a rank: a good table, the usual
+// one, is tested at the pace of its reads.
 use crate::falls::count_high;
 ghost use mathlib.Core.Path.{_≡_};
 ghost use mathlib.Core.Bool.{true};

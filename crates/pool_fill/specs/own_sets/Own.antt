@@ -1,5 +1,5 @@
--- Inner: a right set of the first file is written where its union with the second file's has room; its slot then tells where it stands
--- and how many items it has by itself.
+-- Inner: a right set of the first file is written where its union with the second file's has room; its slot then says where it is and
+-- how many items it has by itself.
 use Prim.Native.Nat.{ℕ, _+_, _-_, _*_, _<_, _≤_}
 use mathlib.Core.Path.{_≡_}
 use mathlib.Core.List.{List, [], _∷_}
@@ -16,7 +16,7 @@ use Rattle.pool_scan.specs.right_slots.Slots.{pooledMark}
 abbrev pub lengthBy : ℕ → ℕ → ℕ
 lengthBy word own = cond (ltb word pooledMark) own (word - pooledMark)
 
--- where a right set of the first file stands and how many items it has by itself, as one word
+-- where a right set of the first file is and how many items it has by itself, as one word
 abbrev pub placeWord : ℕ → ℕ → ℕ
 placeWord start own = start * halfWords + own
 

@@ -15,7 +15,7 @@ use Rattle.tag_index.specs.Index.{tableOf, Sorted}
 use Rattle.pool_scan.specs.right_slots.Slots.{numberWords, slotOf, BlocksCounted, pooledMark}
 use Rattle.pool_scan.specs.declared.union.United.{United}
 
--- a whole record stands at a place, with so many tags from a place on
+-- a whole record is at a place, with so many tags from a place on
 pub record RecordThere (file : List ℕ) (at count tags : ℕ) : Type 0 where
   pub side : Side
   pub number : ℕ
@@ -34,12 +34,12 @@ pub record IndexReady (heads tails : List ℕ) (n : ℕ) (order : List ℕ) : Ty
   pub sorted : Sorted heads tails n order
   pub small : n ≤ maxItems
 
--- a record's tags lie within its file, and are not too many
+-- a record's tags are within its file, and not too many
 pub record TagsInside (file : List ℕ) (tags count : ℕ) : Type 0 where
   pub inside : pastTags tags count ≤ length file
   pub few : count ≤ maxSetLength
 
--- a record of the second file whose tags are to be taken in: where its number is the first file's, its slot has the place of the record
+-- a record of the second file whose tags are to be taken in: if its number is in the first file, its slot has the place of the record
 -- there
 pub record UniteReady (first second : List ℕ) (number tags count n : ℕ) (heads tails order used counts slots : List ℕ) : Type 0 where
   pub index : IndexReady heads tails n order

@@ -1,5 +1,5 @@
 -- The text that the program kitlist prints for a join's answer, with the repeats that were read with its collections. Document 01,
--- "The program kitlist"; document 02, C-15. Kits are left sets here and stacks right sets. Its lines are defined in Lines.
+-- "The program kitlist"; document 02, C-15. Kits are left sets here and stacks right sets. Its lines are defined in specs/Lines.
 use Prim.Native.Nat.{ℕ}
 use mathlib.Core.List.{List, _++_}
 use Rattle.join_spec.specs.declared.JoinAnswer.{JoinAnswer}

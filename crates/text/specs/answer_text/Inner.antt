@@ -11,12 +11,12 @@ use Rattle.text.specs.counts_line.Room.{lineRoom}
 use Rattle.text.specs.pair_lines.Room.{pairsWithin}
 use Rattle.text.specs.number_lines.Room.{repeatsRoom}
 
--- the filled part of a pair list, by the answer that came with it; none where it refuses
+-- the filled part of a pair list, by the answer that came with it; none if it refuses
 abbrev pub foundPairs : JoinAnswer → List ℕ → List ℕ
 foundPairs (Joined counts) pairs = take (2 * counts .pairs) pairs
 foundPairs (Refused why) pairs = []
 
--- the filled part lies within the pair list and is of places that have numbers, and there is room for the text
+-- the filled part is within the pair list, its places have numbers, and there is room for the text
 pub record AnswerFits (answer : JoinAnswer) (pairs leftNumbers rightNumbers text : List ℕ) : Type 0 where
   pub filled : (counts : Counts) → answer ≡ Joined counts → 2 * counts .pairs ≤ length pairs
   pub within : (counts : Counts) → answer ≡ Joined counts
