@@ -1,5 +1,5 @@
--- The search beside the pairs with one right element: it finds a left element exactly where there is a pair, and the place that it
--- finds is that of the first pair. Over elements of any kind and any test of two of them.
+-- The search beside the pairs with one right element: it finds a left element exactly when there is a pair, and finds the place of the
+-- first pair. Over elements of any kind and any test of two of them.
 use Prim.Native.Nat.{ℕ, suc, _+_}
 use mathlib.Core.Path.{_≡_, refl, sym}
 use mathlib.Core.List.{List, [], _∷_, _++_}

@@ -1,6 +1,6 @@
--- Part after part, until the budget is spent: the one law of the walk's three loops, over partitions, children and the left sets
--- at the limit. A part adds the rows of its left sets to the counters, or its checks would pass the budget. The invariant: the
--- rest from place i on is known, and whatever visits it has visited all.
+-- Part after part, until the budget is spent: the one law of the walk's three loops, over partitions, children and the left sets at
+-- the limit. A part adds the rows of its left sets to the counters, or its checks would exceed the budget. The invariant: the rest
+-- from place i on is known, and whatever visits it has visited all.
 use Prim.Native.Nat.{ℕ, _≤_}
 use mathlib.Core.Path.{_≡_, refl, sym, subst, _∙_}
 use mathlib.Core.List.{List}

@@ -21,7 +21,7 @@ use Rattle.join_index.proofs.Orders.{order-within, range-split as range-split-w
 use Rattle.join_nodes.specs.Visiting.{beginners}
 use Rattle.join_nodes.proofs.Groups.{first-of}
 
--- how many left sets stand at the places lo up to hi
+-- how many left sets left_order[lo..hi] has
 pub range-length : (lay : Layout) (q : Query) (w : List ℕ) (lo hi : ℕ) → Index lay q w → hi ≤ length (q .lefts)
     → length (range lay w lo hi) ≡ hi - lo
 range-length lay q w lo hi index few =

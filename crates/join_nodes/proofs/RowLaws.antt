@@ -1,6 +1,6 @@
--- What a left set's row is at a node of depth d: checked against the candidates before the node where the walk does not go on;
--- else by path with the candidates after it where the set ends there, checked against them at the limit, and the same row one
--- level deeper below the limit. Candidates come as a list of right places in any order.
+-- What a left set's row is at a node of depth d. If the walk does not go on: checked against the candidates before the node. Else: by
+-- path with the candidates after it if the set ends there, checked against them at the limit, and below the limit the same row one
+-- level deeper. Candidates come as a list of right places in any order.
 use Prim.Native.Nat.{ℕ, zero, suc, _-_, _<_}
 use mathlib.Core.Path.{_≡_, refl, sym, _∙_}
 use mathlib.Core.List.{List}

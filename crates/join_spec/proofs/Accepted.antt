@@ -1,5 +1,5 @@
--- When a join is accepted: exactly where no cause of the refusal table is there, and then with the definitions' counts. And the
--- budget: the walk is refused as spent exactly where the sum of checks is above it.
+-- When a join is accepted: exactly when no cause of the refusal table is there, and then with the definitions' counts. And the budget:
+-- the walk is refused as spent exactly when the sum of checks is above it.
 use Prim.Native.Nat.{ℕ, _*_, _<_, _≤_}
 use mathlib.Core.Path.{_≡_, refl, sym, ap, _∙_}
 use mathlib.Core.List.{List}

@@ -14,7 +14,7 @@ use Rattle.lists.proofs.Bools.{and-left, and-right, and-both, or-left, or-right
 use Rattle.sets.specs.Collections.{contained}
 use Rattle.join_spec.specs.PairList.{ontoPair, rowFrom, pairsFrom, countPairs, pairList, pairCount}
 
--- how often the pair (l, r) stands in a list of pairs, read two by two
+-- how often the pair (l, r) is in a list of pairs, read two by two
 unfoldable pub pairOccurs : ℕ → ℕ → List ℕ → ℕ
 pairOccurs l r [] = 0
 pairOccurs l r (x ∷ []) = 0

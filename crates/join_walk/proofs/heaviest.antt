@@ -1,2 +1,2 @@
--- Laws of the ranges of a node, parted where one begins.
+-- Laws of the ranges of a node, split where one begins.
 pub mod RangeParts

@@ -1,5 +1,5 @@
--- A borrower's tags: the pooled record at a place has those of the right set with its number in the first file and in the second.
--- Where no number stands twice, a number is that of one record or of none.
+-- A borrower's tags: the pooled record at a place has those of the right set with its number in the first file and in the second. If
+-- no number occurs twice, a number is that of one record or of none.
 use mathlib.Core.Path.{_≡_, sym, ap, subst, _∙_}
 use Prim.Native.Nat.{ℕ, _+_, _-_, _<_, _≤_}
 use mathlib.Core.List.{List, [], _∷_, append-nil}

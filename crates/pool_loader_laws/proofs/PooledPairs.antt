@@ -1,6 +1,6 @@
--- A pooled load and a run over what it filled, each by what its contract says of a call: a pair of places stands in the pair
--- list once where the left place is one of the first file's left sets, the right place that of a borrower, and the left record has
--- at least one tag, each of them a tag of that borrower's right set in the first file or in the second; else not at all.
+-- A pooled load and a run over what it filled, each by what its contract says of a call: a pair of places is in the pair list once if
+-- the left place is one of the first file's left sets, the right place that of a borrower, and the left record has at least one tag,
+-- each of them a tag of that borrower's right set in the first file or in the second; else it is not there.
 use mathlib.Core.Path.{_≡_, sym, ap, _∙_}
 use Prim.Native.Nat.{ℕ, _*_, _<_}
 use mathlib.Core.List.{List}

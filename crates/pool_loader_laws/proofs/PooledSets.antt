@@ -1,5 +1,5 @@
--- The pooled records, one by one: where the test found none too long, none is; each tag is a number of 12
--- bytes and each number one of two bytes where those of both files are.
+-- The pooled records, one by one: if the test found none too long, none is; each tag is a number of 12 bytes and each number one of
+-- two bytes if those of both files are.
 use mathlib.Core.Path.{_≡_, refl, ap, _∙_}
 use Prim.Native.Nat.{ℕ, _^_, _<_, _≤_}
 use mathlib.Core.List.{List, [], _∷_, _++_, map, append-nil}

@@ -1,5 +1,5 @@
--- Lists of things with numbers: the one of a number where no number stands twice; and distinct numbers, one list after the other
--- and filtered.
+-- Lists of things with numbers: the one with a number, if no number occurs twice; and distinct numbers, one list after the other and
+-- filtered.
 use mathlib.Core.Path.{_≡_, refl, sym, ap, _∙_}
 use Prim.Native.Nat.{ℕ, zero, suc, _<_}
 use mathlib.Core.List.{List, [], _∷_, _++_, map}

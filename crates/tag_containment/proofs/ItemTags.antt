@@ -1,6 +1,6 @@
--- Containment of items is containment of tags: over the tag table of records, the items of one of them are contained in those of
--- another exactly where the one has a tag and every tag of it is a tag of the other. Document 01, "Tag file": "Item numbers follow
--- the rising order of distinct tags"; "repeats allowed and collapsed".
+-- Containment of items is containment of tags: over the tag table of records, the items of one are contained in those of another
+-- exactly when the one has a tag and all its tags are tags of the other. Document 01, "Tag file": "Item numbers follow the rising
+-- order of distinct tags"; "repeats allowed and collapsed".
 use mathlib.Core.Path.{_≡_, refl, sym, ap, _∙_}
 use Prim.Native.Nat.{ℕ, _<_}
 use mathlib.Core.List.{List, [], _∷_}

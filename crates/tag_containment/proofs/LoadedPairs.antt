@@ -1,5 +1,5 @@
--- A load and a run over what it filled, each by what its contract says of a call: a pair of places stands in the pair list once
--- where both are places of records and the left record has at least one tag, each of them a tag of the right one; else not at all.
+-- A load and a run over what it filled, each by what its contract says of a call: a pair of places is in the pair list once if both
+-- are places of records and the left record has at least one tag, each of them a tag of the right one; else it is not there.
 use mathlib.Core.Path.{_≡_, refl, ap, _∙_}
 use Prim.Native.Nat.{ℕ, _*_, _<_}
 use mathlib.Core.List.{List, []}

@@ -1,5 +1,5 @@
--- `enter_node` meets its contract: what each of the four ends shows stands in EmptyNodes and NodeEntries, in LimitLaws of blocks
--- and in LoneSets of lone.
+-- `enter_node` meets its contract: what each of the four ends shows is in EmptyNodes and NodeEntries, in LimitLaws of blocks and in
+-- LoneSets of lone.
 use Prim.Native.Nat.{ℕ, _-_, _+_}
 use mathlib.Core.Path.{_≡_, refl, sym, subst}
 use mathlib.Core.List.{List}

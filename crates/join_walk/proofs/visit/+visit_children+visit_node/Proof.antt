@@ -1,8 +1,8 @@
--- Node visit and child loop meet their contracts together. The measures: twice the limit less the depth for the child loop, and
--- one more for the node visit, so that each call of the other falls. The child loop goes part after part; the invariant of the
--- node's own loop is `Descending`, and its measure how far the depth is from the limit. A turn of it ends in two ways: the other
--- children were visited, or there are none. What each step shows stands in NodeStops, ChildSteps, ChildNodes and Descents, and in
--- the contract of `enter_node`.
+-- Node visit and child loop meet their contracts together. The measures: twice the limit less the depth for the child loop, and one
+-- more for the node visit, so that each call of the other falls. The child loop goes part after part. The invariant of the node's own
+-- loop is `Descending`, and its measure how far the depth is from the limit. A turn of it ends in two ways: the other children were
+-- visited, or there are none. What each step shows is in NodeStops, ChildSteps, ChildNodes and Descents, and in the contract of
+-- `enter_node`.
 use Prim.Native.Nat.{ℕ, suc, _-_, _*_, _+_, _<_}
 use mathlib.Core.Path.{_≡_, sym, _∙_}
 use mathlib.Core.Logic.{⊎-elim}
