@@ -2,3 +2,4 @@
 pub mod Counters
 pub mod Checks
 pub mod Probes
+pub mod keys

@@ -1,11 +1,12 @@
 // What the walk reads off the index to split the left sets and to weigh a node: the key of a left set at a depth, where a range with
-// the same key ends, how many right sets are seen, and whether any holds a rank. The work list is read by its layout.
+// the same key ends, the longest such range, how many right sets are seen, and whether any holds a rank. The work list is read by its
+// layout.
 use join_index::Layout;
 use words::number;
 use words::word_at;
 ghost use mathlib.Core.Path.{_≡_};
 ghost use mathlib.Core.List.{[]};
-ghost use mathlib.Core.Bool.{false};
+ghost use mathlib.Core.Bool.{false, cond};
 ghost use Rattle.join_spec.specs.Query.{Query};
 ghost use Rattle.join_index.specs.Ground.{invertedList};
 ghost use Rattle.join_index.specs.Asking.{SomeQuery, RankThere, LeftThere, RangeThere, RightThere, PlacesThere};
@@ -13,6 +14,9 @@ ghost use Rattle.join_index.specs.Grouping.{keyAt, rightAt};
 ghost use Rattle.join_index.specs.Ranges.{RangeEnd};
 ghost use Rattle.lists.specs.Lists.{count, slice};
 ghost use Rattle.join_spec.specs.Node.{seen};
+ghost use Prim.Native.Nat.{_-_, _≤_};
+ghost use lib.Dec.{ltb};
+ghost use Rattle.join_check.specs.keys.Borders.{RangeFound};
 
 // Whether a right set holds the rank r.
 pub fn is_held(work: &[u32], lay: Layout, r: usize) -> bool
@@ -87,4 +91,36 @@ pub fn count_seen(work: &[u32], lay: Layout, from: usize, to: usize, r: usize) -
         i += 1;
     }
     n
+}
+
+// The range left_order[lo..hi].
+pub struct Span {
+    pub lo: usize,
+    pub hi: usize,
+}
+
+// The longer of two, the first if they are alike.
+fn longer(best: Span, other: Span) -> Span
+    requires { ⌜ (best .lo ≤ best .hi) × (other .lo ≤ other .hi) ⌝ }
+    ensures { λ r. ⌜ r ≡ cond (ltb (best .hi - best .lo) (other .hi - other .lo)) other best ⌝ }
+{
+    if best.hi - best.lo < other.hi - other.lo {
+        return other;
+    }
+    best
+}
+
+// The longest range of left_order[lo..hi] with the same key at depth d; the first of several.
+pub fn longest_range(work: &[u32], lay: Layout, d: usize, lo: usize, hi: usize) -> Span
+    requires { ⌜ SomeQuery (λ q. RangeThere lay q (now work) lo hi) ⌝ }
+    ensures { λ r. ⌜ RangeFound lay (now (work .entry)) d lo hi r ⌝ }
+{
+    let mut i = range_end(work, lay, d, lo, hi);
+    let mut best = Span { lo: lo, hi: i };
+    while i < hi {
+        let j = range_end(work, lay, d, i, hi);
+        best = longer(best, Span { lo: i, hi: j });
+        i = j;
+    }
+    best
 }

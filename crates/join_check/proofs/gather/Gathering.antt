@@ -1,8 +1,9 @@
--- Ranges of left sets, checked range by range: the invariant of `check_range` and of `gather`, with its start, step and end. A left set
--- of a range can be checked where the range can, and so can each part of it.
+-- Ranges of left sets, checked part by part: the invariant of each loop here is `RangesLeft`, with its start, its steps at either end,
+-- and its end. A left set of a range can be checked where the range can, and so can each part of it.
 use Prim.Native.Nat.{ℕ, _+_, _-_, _*_, _≤_, _<_}
 use mathlib.Core.Path.{_≡_, refl, sym, ap, _∙_}
 use mathlib.Core.List.{List, [], _∷_}
+use mathlib.Core.Bool.{Bool}
 use native.Mathlib.Omega.{arith}
 use native.Mathlib.Nat.{add-mul, one-mul, zero-mul}
 use lib.ListN.{length}
@@ -12,12 +13,13 @@ use Rattle.lists.proofs.Summing.{sum-append}
 use Rattle.lists.proofs.Slices.{all-slice}
 use Rattle.sets.specs.Limits.{fullWords}
 use Rattle.join_spec.specs.Query.{Query}
+use Rattle.join_spec.specs.Walk.{Outcome}
 use Rattle.join_spec.specs.Kinds.{isOf}
 use Rattle.join_index.specs.declared.Layout.{Layout}
 use Rattle.join_check.specs.declared.Tally.{Tally}
 use Rattle.words.specs.Words.{Word}
 use Rattle.join_index.specs.Asking.{SomeQuery, RangeThere}
-use Rattle.join_index.specs.Ranges.{leftIn, range, RangeEnd}
+use Rattle.join_index.specs.Ranges.{leftIn, range}
 use Rattle.join_check.specs.Checks.{rowCount, rangeCount, areCandidates}
 use Rattle.join_check.specs.Counters.{checksIn}
 use Rattle.join_check.specs.Checks.{RowThere, RangesThere, RowChecked, RangesChecked}
@@ -81,69 +83,96 @@ row-ranges {lay} {w} {k} {e} {i} {from} {to} word row =
           (row .tallied q (ranges-row there i (omega arith) (omega arith) word));
     }
 
-pub record RangesChecking (lay : Layout) (w : List ℕ) (e lo hi from to : ℕ) (tally r : Tally) (i : ℕ) : Type 0 where
-  pub low : lo ≤ i
-  pub grown : checksIn r + (hi - i) * (to - from) ≡ checksIn tally + (hi - lo) * (to - from)
+-- of a range the left sets at the places i up to j are left: they can be checked where the range can, and the counters, with their checks,
+-- are what they were with all
+pub record RangesLeft (lay : Layout) (w : List ℕ) (e lo hi from to : ℕ) (tally r : Tally) (i j : ℕ) : Type 0 where
+  pub there : (q : Query) → RangesThere lay q w e lo hi from to → RangesThere lay q w e i j from to
+  pub grown : checksIn r + (j - i) * (to - from) ≡ checksIn tally + (hi - lo) * (to - from)
   pub tallied :
       (q : Query) → RangesThere lay q w e lo hi from to
-      → Leaving (λ is. rangeCount q is (slice from to w) (range lay w i hi))
+      → Leaving (λ is. rangeCount q is (slice from to w) (range lay w i j))
       (λ is. rangeCount q is (slice from to w) (range lay w lo hi)) tally r
 
 module _ {lay : Layout} {w : List ℕ} {e lo hi from to : ℕ} {tally : Tally} where
-  pub ranges-start : RangesChecking lay w e lo hi from to tally tally lo
-  ranges-start =
+  pub left-start : RangesLeft lay w e lo hi from to tally tally lo hi
+  left-start =
       record {
-        low = omega arith;
+        there = λ q there. there;
         grown = refl;
         tallied = λ q there. leaving-start (λ is. rangeCount q is (slice from to w) (range lay w lo hi)) tally;
       }
 
-  module _ {r : Tally} {i : ℕ} (so : RangesChecking lay w e lo hi from to tally r i) where
-    cut : (j : ℕ) → i ≤ j → j ≤ hi → (hi - i) * (to - from) ≡ (j - i) * (to - from) + (hi - j) * (to - from)
-    cut j some high =
-        let parts : hi - i ≡ j - i + (hi - j) = omega arith in
-        ap (λ (n : ℕ). n * (to - from)) parts ∙ add-mul (j - i) (hi - j) (to - from)
+  module _ {r : Tally} {i j : ℕ} (so : RangesLeft lay w e lo hi from to tally r i j) where
+    -- the checks of two parts
+    parts : (a b c : ℕ) → a ≤ b → b ≤ c → (c - a) * (to - from) ≡ (b - a) * (to - from) + (c - b) * (to - from)
+    parts a b c low high =
+        let whole : c - a ≡ b - a + (c - b) = omega arith in
+        ap (λ (n : ℕ). n * (to - from)) whole ∙ add-mul (b - a) (c - b) (to - from)
 
-    -- the checks of the next range fit
-    pub ranges-room : (j : ℕ) → i ≤ j → j ≤ hi → checksIn tally + (hi - lo) * (to - from) < fullWords
-        → checksIn r + (j - i) * (to - from) < fullWords
-    ranges-room j some high fits = omega (arith, cut j some high, so .grown)
+    counts : {q : Query} (a : ℕ) → i ≤ a → a ≤ j → RangesThere lay q w e lo hi from to → (is : Outcome → Bool)
+        → rangeCount q is (slice from to w) (range lay w i j)
+        ≡ rangeCount q is (slice from to w) (range lay w i a) + rangeCount q is (slice from to w) (range lay w a j)
+    counts {q} a low high there is =
+        ap (rangeCount q is (slice from to w)) (range-split lay w i a j low high (ranges-within (so .there q there)))
+        ∙ sum-append (rowCount q is (slice from to w)) (range lay w i a) (range lay w a j)
 
-    -- the next range as it is asked of its checks: it can be checked, and its checks fit
-    pub ranges-next : {d j : ℕ} → SomeQuery (λ q. RangesThere lay q w e lo hi from to) → RangeEnd lay w d i hi j
-        → checksIn tally + (hi - lo) * (to - from) < fullWords
-        → SomeQuery (λ q. RangesThere lay q w e i j from to) × (checksIn r + (j - i) * (to - from) < fullWords)
-    ranges-next {j = j} some end fits = (
-      record {
-        query = some .query;
-        holds = ranges-part (some .holds) i j (so .low) (omega (arith, end .more)) (end .within);
-      },
-      ranges-room j (omega (arith, end .more)) (end .within) fits,
-    )
+    -- a part of what is left, as it is asked of its checks: it can be checked, and its checks fit
+    module _ (a b : ℕ) (low : i ≤ a) (rise : a ≤ b) (high : b ≤ j) where
+      part-there : (q : Query) → RangesThere lay q w e lo hi from to → RangesThere lay q w e a b from to
+      part-there q there = ranges-part (so .there q there) a b low rise high
 
-    pub ranges-step : {j : ℕ} {u : Tally} → i ≤ j → j ≤ hi → RangesChecked lay w e i j from to r u
-        → RangesChecking lay w e lo hi from to tally u j
-    ranges-step {j} some high more =
+      pub left-room : checksIn tally + (hi - lo) * (to - from) < fullWords → checksIn r + (b - a) * (to - from) < fullWords
+      left-room fits = omega (arith, so .grown, fits, parts i a j low (omega arith), parts a b j rise high)
+
+      pub left-part : SomeQuery (λ q. RangesThere lay q w e lo hi from to) → checksIn tally + (hi - lo) * (to - from) < fullWords
+          → SomeQuery (λ q. RangesThere lay q w e a b from to) × (checksIn r + (b - a) * (to - from) < fullWords)
+      left-part some fits =
+          (record { query = some .query; holds = part-there (some .query) (some .holds) }, left-room fits)
+
+    -- the first ones were checked
+    pub left-front : {a : ℕ} {u : Tally} → i ≤ a → a ≤ j → RangesChecked lay w e i a from to r u
+        → RangesLeft lay w e lo hi from to tally u a j
+    left-front {a} low high more =
         record {
-          low = omega (arith, so .low);
-          grown = omega (arith, cut j some high, so .grown, more .grown);
+          there = part-there a j low high (omega arith);
+          grown = omega (arith, parts i a j low high, so .grown, more .grown);
           tallied = λ q there.
-              let split = range-split lay w i j hi some high (ranges-within there) in
-              leaving-step (so .tallied q there) {later = λ is. rangeCount q is (slice from to w) (range lay w j hi)}
-              (more .tallied q (ranges-part there i j (so .low) some high))
-              (λ is.
-              ap (rangeCount q is (slice from to w)) split
-              ∙ sum-append (rowCount q is (slice from to w)) (range lay w i j) (range lay w j hi));
+              leaving-step (so .tallied q there) {later = λ is. rangeCount q is (slice from to w) (range lay w a j)}
+              (more .tallied q (part-there i a (omega arith) low high q there)) (counts a low high there);
         }
 
-    pub ranges-end : hi ≤ i → RangesChecked lay w e lo hi from to tally r
+    -- the last ones were checked
+    pub left-back : {b : ℕ} {u : Tally} → i ≤ b → b ≤ j → RangesChecked lay w e b j from to r u
+        → RangesLeft lay w e lo hi from to tally u i b
+    left-back {b} low high more =
+        record {
+          there = part-there i b (omega arith) low high;
+          grown = omega (arith, parts i b j low high, so .grown, more .grown);
+          tallied = λ q there.
+              leaving-step (so .tallied q there) {later = λ is. rangeCount q is (slice from to w) (range lay w i b)}
+              (more .tallied q (part-there b j low high (omega arith) q there)) (λ is. omega (arith, counts b low high there is));
+        }
+
+    -- all that were left were checked
+    pub left-end : {u : Tally} → RangesChecked lay w e i j from to r u → RangesChecked lay w e lo hi from to tally u
+    left-end more =
+        record {
+          grown = omega (arith, so .grown, more .grown);
+          tallied = λ q there.
+              leaving-end
+              (leaving-step (so .tallied q there) {later = λ is. 0} (more .tallied q (so .there q there)) (λ is. omega arith))
+              (λ is. refl);
+        }
+
+    -- none is left
+    pub left-none : j ≤ i → RangesChecked lay w e lo hi from to tally r
     unfolding sum
-    ranges-end past =
+    left-none past =
         record {
           grown =
-              let none : hi - i ≡ 0 = omega arith in
-              let gone : (hi - i) * (to - from) ≡ 0 = ap (λ (n : ℕ). n * (to - from)) none ∙ zero-mul (to - from) in
+              let none : j - i ≡ 0 = omega arith in
+              let gone : (j - i) * (to - from) ≡ 0 = ap (λ (n : ℕ). n * (to - from)) none ∙ zero-mul (to - from) in
               omega (arith, so .grown);
           tallied = λ q there.
-              leaving-end (so .tallied q there) (λ is. ap (rangeCount q is (slice from to w)) (range-none lay w i hi past));
+              leaving-end (so .tallied q there) (λ is. ap (rangeCount q is (slice from to w)) (range-none lay w i j past));
         }

@@ -3,7 +3,7 @@
 use Prim.Native.Nat.{ℕ, zero, suc, _+_, _-_, _≤_, _<_}
 use mathlib.Core.Path.{_≡_, refl, sym, ap, ap₂, subst, _∙_}
 use mathlib.Core.List.{List, [], _++_, append-assoc}
-use mathlib.Core.Bool.{Bool, true, false, cond}
+use mathlib.Core.Bool.{true, false}
 use native.Mathlib.Omega.{arith}
 use native.Mathlib.Nat.{zero-add, add-zero}
 use borrow.Author.Tests.{ltb-true, ltb-false}
@@ -19,12 +19,13 @@ use Rattle.join_index.specs.declared.Layout.{Layout}
 use Rattle.join_index.specs.Asking.{RangeThere}
 use Rattle.join_index.specs.Ranges.{leftIn, RangeEnd}
 use Rattle.join_index.proofs.Orders.{range-none}
+use Rattle.join_check.specs.keys.Borders.{Border, firstBorder, nextBorder, RangeFound}
+use Rattle.join_check.specs.declared.keys.Span.{Span}
 use Rattle.join_check.proofs.keys.RangeEnds.{reaching-start, reaching-end}
 use Rattle.join_nodes.proofs.Groups.{FirstGroup}
 use Rattle.join_nodes.proofs.RangeLaws.{Cut, range-split}
 use Rattle.join_nodes.proofs.blocks.GroupSteps.{group-first, group-cut}
 use Rattle.join_walk.specs.heaviest.Heaviest.{PartedAt, RangeBegins, RangeChosen}
-use Rattle.join_walk.specs.declared.heaviest.Span.{Span}
 
 -- lists that are the same with the same list behind them
 append-cancel : (xs ys zs : List ℕ) → xs ++ zs ≡ ys ++ zs → xs ≡ ys
@@ -69,7 +70,7 @@ module _ (key : ℕ → ℕ) where
 
 module _ {lay : Layout} {w : List ℕ} {d lo hi : ℕ} where
   -- the first place
-  pub begins-start : lo ≤ hi → RangeBegins lay w d lo hi lo
+  begins-start : lo ≤ hi → RangeBegins lay w d lo hi lo
   begins-start upto =
       record {
         low = omega arith;
@@ -105,7 +106,7 @@ module _ {lay : Layout} {w : List ℕ} {d lo hi : ℕ} where
       }
 
   -- the end of a range
-  pub begins-step : {i j : ℕ} → RangeBegins lay w d lo hi i → i < hi → RangeEnd lay w d i hi j → RangeBegins lay w d lo hi j
+  begins-step : {i j : ℕ} → RangeBegins lay w d lo hi i → i < hi → RangeEnd lay w d i hi j → RangeBegins lay w d lo hi j
   begins-step {i} {j} begins more end =
       record {
         low = omega (arith, begins .low, end .more);
@@ -138,6 +139,11 @@ module _ {lay : Layout} {w : List ℕ} {d lo hi : ℕ} where
             back = parts .back ∙ ap (λ (m : ℕ). groupsFrom (keyAt q d) (suc own) m rest) same;
           }
 
+  -- any border of the ranges
+  begins-border : {i : ℕ} → lo ≤ hi → Border lay w d lo hi i → RangeBegins lay w d lo hi i
+  begins-border upto firstBorder = begins-start upto
+  begins-border upto (nextBorder at more end) = begins-step (begins-border upto at) more end
+
   -- an only left set
   pub chosen-only : lo < hi → hi - lo ≡ 1 → RangeChosen lay w d lo hi (record { lo = lo; hi = hi })
   chosen-only some one =
@@ -154,13 +160,15 @@ module _ {lay : Layout} {w : List ℕ} {d lo hi : ℕ} where
   chosen-none upto =
       record { begins = begins-end upto; rise = omega arith; within = omega arith; end = λ more. absurd (omega (arith, more)) }
 
-  -- a range, or the one chosen so far
-  pub chosen-step : {i j : ℕ} {best r : Span} (b : Bool) → RangeBegins lay w d lo hi i → RangeEnd lay w d i hi j
-      → RangeChosen lay w d lo hi best → r ≡ cond b (record { lo = i; hi = j }) best → RangeChosen lay w d lo hi r
-  chosen-step {i} {j} {best} true begins end chosen is =
-      subst (λ (s : Span). RangeChosen lay w d lo hi s) (sym is)
-      (record { begins = begins; rise = omega (arith, end .more); within = end .within; end = λ more. end })
-  chosen-step false begins end chosen is = subst (λ (s : Span). RangeChosen lay w d lo hi s) (sym is) chosen
+  -- one of the ranges
+  pub chosen-found : {r : Span} → RangeFound lay w d lo hi r → RangeChosen lay w d lo hi r
+  chosen-found found =
+      record {
+        begins = begins-border (omega (arith, found .low, found .end)) (found .begins);
+        rise = omega (arith, found .end .more);
+        within = found .end .within;
+        end = λ more. found .end;
+      }
 
   -- the place after the chosen one
   pub chosen-begins : {r : Span} → RangeChosen lay w d lo hi r → RangeBegins lay w d lo hi (r .hi)

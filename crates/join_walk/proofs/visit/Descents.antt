@@ -18,7 +18,7 @@ use Rattle.join_nodes.proofs.PartLoop.{continuing-start, continuing-end}
 use Rattle.join_nodes.specs.enter.Entering.{NodeEntered}
 use Rattle.join_nodes.specs.declared.enter.Entered.{Entered}
 use Rattle.join_walk.specs.heaviest.Heaviest.{RangeChosen}
-use Rattle.join_walk.specs.declared.heaviest.Span.{Span}
+use Rattle.join_check.specs.declared.keys.Span.{Span}
 use Rattle.join_walk.proofs.visit.HeavyChild.{kids-below, below-spent, kids-above, above-spent, none-chosen}
 use Rattle.join_walk.proofs.visit.HeavyChild.{chosenPath, chosen-node, chosen-visited}
 

@@ -30,7 +30,7 @@ use Rattle.join_nodes.proofs.RangeLaws.{range-length, range-split}
 use Rattle.join_nodes.proofs.VisitLaws.{added-none, underway-next, visited-then, visited-before, visited-early, visited-late}
 use Rattle.join_nodes.proofs.FrameLaws.{index-framed, slot-framed, range-framed, framed-then}
 use Rattle.join_walk.specs.heaviest.Heaviest.{PartedAt, RangeBegins, RangeChosen}
-use Rattle.join_walk.specs.declared.heaviest.Span.{Span}
+use Rattle.join_check.specs.declared.keys.Span.{Span}
 use Rattle.join_walk.proofs.heaviest.RangeParts.{chosen-begins}
 use Rattle.join_walk.proofs.visit.ChildSteps.{underway-less}
 use Rattle.join_walk.proofs.visit.ChildNodes.{next-node, slot-beyond}

@@ -8,7 +8,7 @@ use Rattle.join_index.specs.Grouping.{keyAt}
 use Rattle.join_index.specs.declared.Layout.{Layout}
 use Rattle.join_index.specs.Asking.{RangeThere}
 use Rattle.join_index.specs.Ranges.{range, RangeEnd}
-use Rattle.join_walk.specs.declared.heaviest.Span.{Span}
+use Rattle.join_check.specs.declared.keys.Span.{Span}
 
 -- the groups of n keys from x on, in left_order[lo..hi], are split at i: those with lesser keys are before it
 pub record PartedAt (lay : Layout) (q : Query) (w : List ℕ) (d x n : ℕ) (rest : List ℕ) (lo i hi : ℕ) : Type 0 where

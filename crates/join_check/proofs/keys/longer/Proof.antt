@@ -1,9 +1,9 @@
--- `join_walk::heaviest::longer` meets its contract.
+-- `join_check::keys::longer` meets its contract.
 use mathlib.Core.Path.{refl}
 use borrow.Author.Needs.{needs}
 use borrow.Author.Tests.{lt-ltb, le-ltb}
-use Rattle.join_walk.proofs.heaviest.longer.Statement.{statement}
-use Rattle.join_walk.proofs.heaviest.longer.Tie as tie
+use Rattle.join_check.proofs.keys.longer.Statement.{statement}
+use Rattle.join_check.proofs.keys.longer.Tie as tie
 
 returns : tie.Need-returns
 returns c = rw (lt-ltb _ _ (c .if1 .taken)) refl

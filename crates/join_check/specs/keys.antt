@@ -1,0 +1,2 @@
+-- Contents: where ranges with the same key begin.
+pub mod Borders
