@@ -13,7 +13,7 @@ use Rattle.join_index.specs.declared.Layout.{Layout}
 use Rattle.join_check.specs.declared.Tally.{Tally}
 use Rattle.join_index.specs.Asking.{LeftThere, PlacesThere}
 use Rattle.join_check.specs.Counters.{checksIn, Tallied}
-use Rattle.join_index.specs.Ranges.{range}
+use Rattle.join_index.specs.Ranges.{leftsIn}
 
 -- the check of the left set k and the right set s
 abbrev pub checkAt : Query → ℕ → ℕ → Outcome
@@ -41,7 +41,7 @@ pub record RowThere (lay : Layout) (q : Query) (w : List ℕ) (k e from to : ℕ
 pub record RangesThere (lay : Layout) (q : Query) (w : List ℕ) (e lo hi from to : ℕ) : Type 0 where
   pub places : PlacesThere lay q w from to
   pub within : hi ≤ length (q .lefts)
-  pub candidates : all (areCandidates q e (slice from to w)) (range lay w lo hi) ≡ true
+  pub candidates : all (areCandidates q e (slice from to w)) (leftsIn lay w lo hi) ≡ true
 
 -- one left set was checked against each of the places
 pub record RowChecked (lay : Layout) (w : List ℕ) (k e from to : ℕ) (tally r : Tally) : Type 0 where
@@ -53,4 +53,4 @@ pub record RangesChecked (lay : Layout) (w : List ℕ) (e lo hi from to : ℕ) (
   pub grown : checksIn r ≡ checksIn tally + (hi - lo) * (to - from)
   pub tallied :
       (q : Query) → RangesThere lay q w e lo hi from to
-      → Tallied (λ is. rangeCount q is (slice from to w) (range lay w lo hi)) tally r
+      → Tallied (λ is. rangeCount q is (slice from to w) (leftsIn lay w lo hi)) tally r

@@ -15,7 +15,7 @@ use Rattle.join_index.specs.declared.Layout.{Layout}
 use Rattle.join_index.proofs.Ordering.{order-member}
 use Rattle.words.specs.Words.{Word}
 use Rattle.join_index.specs.Asking.{Index, LeftThere, RangeThere}
-use Rattle.join_index.specs.Ranges.{lead, leftIn, range}
+use Rattle.join_index.specs.Ranges.{lead, leftIn, leftsIn}
 use Rattle.join_index.proofs.Reading.{holds-length, holds-at}
 
 module _ {lay : Layout} {q : Query} {w : List ℕ} (index : Index lay q w) where
@@ -44,11 +44,11 @@ module _ {lay : Layout} {q : Query} {w : List ℕ} {lo hi : ℕ} (there : RangeT
   range-within = omega (arith, order-within (there .index), there .within)
 
 -- a range by its first place
-pub range-none : (lay : Layout) (w : List ℕ) (i hi : ℕ) → hi ≤ i → range lay w i hi ≡ []
+pub range-none : (lay : Layout) (w : List ℕ) (i hi : ℕ) → hi ≤ i → leftsIn lay w i hi ≡ []
 range-none lay w i hi h = slice-past (lay .«left_order» + i) (lay .«left_order» + hi) w (omega arith)
 
 pub range-next : (lay : Layout) (w : List ℕ) (i hi : ℕ) → i < hi → lay .«left_order» + hi ≤ length w
-    → range lay w i hi ≡ leftIn lay w i ∷ range lay w (i + 1) hi
+    → leftsIn lay w i hi ≡ leftIn lay w i ∷ leftsIn lay w (i + 1) hi
 range-next lay w i hi h within =
     let next : lay .«left_order» + i + 1 ≡ lay .«left_order» + (i + 1) = omega arith in
     slice-next (lay .«left_order» + i) (lay .«left_order» + hi) w (omega arith) within
@@ -56,7 +56,7 @@ range-next lay w i hi h within =
 
 -- a range in two parts
 pub range-split : (lay : Layout) (w : List ℕ) (lo i hi : ℕ) → lo ≤ i → i ≤ hi → lay .«left_order» + hi ≤ length w
-    → range lay w lo hi ≡ range lay w lo i ++ range lay w i hi
+    → leftsIn lay w lo hi ≡ leftsIn lay w lo i ++ leftsIn lay w i hi
 range-split lay w lo i hi low high within =
     slice-split (lay .«left_order» + lo) (lay .«left_order» + i) (lay .«left_order» + hi) w (omega arith) (omega arith) (omega arith)
 
@@ -74,22 +74,22 @@ lead-nil p = refl
 
 -- the first left set of a range, and the others
 pub range-first : {lay : Layout} {q : Query} {w : List ℕ} {i hi : ℕ} → RangeThere lay q w i hi
-    → range lay w i hi ≡ leftIn lay w i ∷ range lay w (i + 1) hi
+    → leftsIn lay w i hi ≡ leftIn lay w i ∷ leftsIn lay w (i + 1) hi
 range-first {lay} {q} {w} {i} {hi} there = range-next lay w i hi (there .some) (range-within there)
 
 -- the leading left sets of a range, counted from place j on
 module _ {lay : Layout} {q : Query} {w : List ℕ} {lo hi : ℕ} (there : RangeThere lay q w lo hi) (p : ℕ → Bool) (j : ℕ) where
-  pub range-pass : j < hi → p (leftIn lay w j) ≡ true → j + lead p (range lay w j hi) ≡ j + 1 + lead p (range lay w (j + 1) hi)
+  pub range-pass : j < hi → p (leftIn lay w j) ≡ true → j + lead p (leftsIn lay w j hi) ≡ j + 1 + lead p (leftsIn lay w (j + 1) hi)
   range-pass more h =
       let e =
-      ap (lead p) (range-next lay w j hi more (range-within there)) ∙ lead-pass p (leftIn lay w j) (range lay w (j + 1) hi) h in
+      ap (lead p) (range-next lay w j hi more (range-within there)) ∙ lead-pass p (leftIn lay w j) (leftsIn lay w (j + 1) hi) h in
       omega (arith, e)
 
-  pub range-fail : j < hi → p (leftIn lay w j) ≡ false → j + lead p (range lay w j hi) ≡ j
+  pub range-fail : j < hi → p (leftIn lay w j) ≡ false → j + lead p (leftsIn lay w j hi) ≡ j
   range-fail more h =
       let e =
-      ap (lead p) (range-next lay w j hi more (range-within there)) ∙ lead-fail p (leftIn lay w j) (range lay w (j + 1) hi) h in
+      ap (lead p) (range-next lay w j hi more (range-within there)) ∙ lead-fail p (leftIn lay w j) (leftsIn lay w (j + 1) hi) h in
       omega (arith, e)
 
-  pub range-past : hi ≤ j → j + lead p (range lay w j hi) ≡ j
+  pub range-past : hi ≤ j → j + lead p (leftsIn lay w j hi) ≡ j
   range-past h = let e = ap (lead p) (range-none lay w j hi h) ∙ lead-nil p in omega (arith, e)

@@ -26,8 +26,8 @@ abbrev pub leftIn : Layout → List ℕ → ℕ → ℕ
 leftIn lay w i = getD w (lay .«left_order» + i) 0
 
 -- the left sets in left_order[i..hi]
-abbrev pub range : Layout → List ℕ → ℕ → ℕ → List ℕ
-range lay w i hi = slice (lay .«left_order» + i) (lay .«left_order» + hi) w
+abbrev pub leftsIn : Layout → List ℕ → ℕ → ℕ → List ℕ
+leftsIn lay w i hi = slice (lay .«left_order» + i) (lay .«left_order» + hi) w
 
 -- r is where the range of left_order[i..hi] ends that begins at i, of left sets with the same key at depth d
 pub record RangeEnd (lay : Layout) (w : List ℕ) (d i hi r : ℕ) : Type 0 where
@@ -35,4 +35,4 @@ pub record RangeEnd (lay : Layout) (w : List ℕ) (d i hi r : ℕ) : Type 0 wher
   pub within : r ≤ hi
   pub maximal :
       (q : Query) → RangeThere lay q w i hi
-      → r ≡ i + lead (λ k. eqb (keyAt q d k) (keyAt q d (leftIn lay w i))) (range lay w i hi)
+      → r ≡ i + lead (λ k. eqb (keyAt q d k) (keyAt q d (leftIn lay w i))) (leftsIn lay w i hi)

@@ -9,7 +9,7 @@ use Rattle.join_spec.specs.Query.{Query}
 use Rattle.join_index.specs.Ground.{offsetOf}
 use Rattle.join_index.specs.declared.Layout.{Layout}
 use Rattle.join_index.specs.Asking.{Index}
-use Rattle.join_index.specs.Ranges.{range}
+use Rattle.join_index.specs.Ranges.{leftsIn}
 use Rattle.join_index.proofs.Reading.{index-frame}
 use Rattle.join_nodes.specs.Narrowing.{slotOf}
 use Rattle.join_nodes.specs.Visiting.{Framed}
@@ -36,7 +36,7 @@ module _ {lay : Layout} {q : Query} {w w′ : List ℕ} {slot : ℕ} (index : In
   pub slot-framed : (r : ℕ) → r ≤ q .T → slotOf lay w′ r ≡ slotOf lay w r
   slot-framed r h = ap (λ (n : ℕ). lay .slots + n) (offset-framed r h)
 
-  pub range-framed : (lo hi : ℕ) → hi ≤ length (q .lefts) → range lay w′ lo hi ≡ range lay w lo hi
+  pub range-framed : (lo hi : ℕ) → hi ≤ length (q .lefts) → leftsIn lay w′ lo hi ≡ leftsIn lay w lo hi
   range-framed lo hi few =
       frame-slice (lay .«left_order» + lo) (lay .«left_order» + hi) (lay .slots) w w′ (omega (arith, index .ground .ordered .within)) base
 

@@ -11,7 +11,7 @@ use Rattle.lists.proofs.Bools.{true-false}
 use Rattle.join_spec.specs.Query.{Query}
 use Rattle.join_index.specs.declared.Layout.{Layout}
 use Rattle.join_index.specs.Asking.{Index}
-use Rattle.join_index.specs.Ranges.{range}
+use Rattle.join_index.specs.Ranges.{leftsIn}
 use Rattle.join_check.specs.Counters.{checksIn}
 use Rattle.kept_rows.specs.Kept.{RowsKept}
 use Rattle.join_index.proofs.Orders.{range-none}
@@ -97,7 +97,7 @@ module _ {lay : Layout} {budget d hi : ℕ} {slot : List ℕ → List ℕ → �
           visited =
               subst (λ (l : List ℕ). Visited q budget d l (p .tally) one)
               (sym (range-split lay q w i j hi (known .index) low high (known .few)))
-              (visited-early (range lay w j hi) spent (part .visit .visited));
+              (visited-early (leftsIn lay w j hi) spent (part .visit .visited));
           rows = part .visit .rows;
         })
 

@@ -14,7 +14,7 @@ use Rattle.counting_sort.specs.Groups.{groupsFrom}
 use Rattle.join_index.specs.Grouping.{leftAt, keyAt, orderFrom}
 use Rattle.join_index.specs.declared.Layout.{Layout}
 use Rattle.join_index.specs.Asking.{Index}
-use Rattle.join_index.specs.Ranges.{range, leftIn}
+use Rattle.join_index.specs.Ranges.{leftsIn, leftIn}
 use Rattle.join_check.specs.Counters.{checksIn, pairsIn, Tallied}
 use Rattle.join_check.specs.declared.Tally.{Tally}
 use Rattle.kept_rows.specs.Kept.{RowsKept}
@@ -49,7 +49,7 @@ pub record NodeAt (lay : Layout) (q : Query) (path w : List ℕ) (d lo hi from t
   pub within : d ≤ q .limit
   pub some : lo < hi
   pub few : hi ≤ length (q .lefts)
-  pub lefts : range lay w lo hi ≡ beginners q path d
+  pub lefts : leftsIn lay w lo hi ≡ beginners q path d
 
 -- a node that is to be visited
 pub record Node (lay : Layout) (st : WalkSettings) (q : Query) (path w : List ℕ) (d lo hi from to : ℕ) (p : Progress) : Type 0 where
@@ -71,7 +71,7 @@ pub record Children (lay : Layout) (st : WalkSettings) (q : Query) (path w : Lis
   pub span : ℕ
   pub keys : least + span ≤ suc (q .T)
   pub further : 0 < least
-  pub lefts : range lay w lo hi ≡ groupsFrom (keyAt q d) least span (beginners q path (suc d))
+  pub lefts : leftsIn lay w lo hi ≡ groupsFrom (keyAt q d) least span (beginners q path (suc d))
 
 -- work[from..to] lists the candidates after a path of d ranks, below the slots of all ranks beyond its last
 pub record After (lay : Layout) (q : Query) (path w : List ℕ) (d from to : ℕ) : Type 0 where
@@ -111,7 +111,7 @@ pub record Framed (slot : ℕ) (w w′ : List ℕ) : Type 0 where
 pub record RangeVisited (lay : Layout) (q : Query) (budget slot d : ℕ) (w w′ : List ℕ) (lo hi : ℕ) (tally : Tally)
     (r : Walked) : Type 0 where
   pub framed : Framed slot w w′
-  pub visited : Visited q budget d (range lay w lo hi) tally r
+  pub visited : Visited q budget d (leftsIn lay w lo hi) tally r
   pub rows : r .spent ≡ false → RowsKept lay q w′ (r .at .top)
 
 -- a node was visited: only slots of its last rank and beyond changed

@@ -22,7 +22,7 @@ use Rattle.join_spec.proofs.KindLaws.{sum-zero, kind-met}
 use Rattle.join_index.specs.Grouping.{leftAt, keyAt, orderFrom, orderOf}
 use Rattle.join_index.specs.declared.Layout.{Layout}
 use Rattle.join_index.specs.Asking.{Index, RangeThere}
-use Rattle.join_index.specs.Ranges.{range}
+use Rattle.join_index.specs.Ranges.{leftsIn}
 use Rattle.join_check.specs.Counters.{counter}
 use Rattle.join_check.specs.declared.Tally.{Tally}
 use Rattle.kept_rows.specs.Kept.{RowsKept}
@@ -92,7 +92,7 @@ module _ {lay : Layout} {st : WalkSettings} {q : Query} {w : List ℕ} {lefts : 
       ap (λ (n : ℕ). orderFrom q n 0) all-depths ∙ sym (keep-every q (orderFrom q (q .limit - 0) 0))
       ∙ beginners-grouped q [] 0 (ready .some)
 
-  whole : range lay w 0 lefts ≡ endedAt q 0 rest ++ goingOn q 0 rest
+  whole : leftsIn lay w 0 lefts ≡ endedAt q 0 rest ++ goingOn q 0 rest
   whole =
       let low : lay .«left_order» + 0 ≡ lay .«left_order» = omega arith in
       let high : lay .«left_order» + lefts ≡ lay .«left_order» + length (q .lefts) = omega (arith, ready .leftCount) in
@@ -103,7 +103,7 @@ module _ {lay : Layout} {st : WalkSettings} {q : Query} {w : List ℕ} {lefts : 
     parted = ended-cut rest walk-range whole end
 
     -- the query's counts: nothing for the empty left sets, and the rows of the others
-    rows-total : (is : Outcome → Bool) → MetOnly is → total is q ≡ sum (row is q 1) (range lay w mid lefts)
+    rows-total : (is : Outcome → Bool) → MetOnly is → total is q ≡ sum (row is q 1) (leftsIn lay w mid lefts)
     rows-total is met =
         total-order is q (q .limit) 0 ∙ ap (sum (start is q)) order-is
         ∙ sum-append (start is q) (endedAt q 0 rest) (goingOn q 0 rest)
@@ -114,7 +114,7 @@ module _ {lay : Layout} {st : WalkSettings} {q : Query} {w : List ℕ} {lefts : 
         (sum-same-where (λ k. not (eqb (keyAt q 0 k) 0)) (start is q) (row is q 1) (goingOn q 0 rest) (going-keys q 0 rest)
         (λ k e. start-row is q k (not-true (eqb (keyAt q 0 k) 0) e))
         ∙ sym (ap (sum (row is q 1)) (parted .back)))
-        ∙ zero-add (sum (row is q 1) (range lay w mid lefts))
+        ∙ zero-add (sum (row is q 1) (leftsIn lay w mid lefts))
 
     module _ {none : Tally} (zero : (kind : Kind) → counter kind none ≡ 0) where
       nothing : (ks : List Kind) → sum (λ kind. counter kind none) ks ≡ 0

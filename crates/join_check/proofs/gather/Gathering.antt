@@ -19,7 +19,7 @@ use Rattle.join_index.specs.declared.Layout.{Layout}
 use Rattle.join_check.specs.declared.Tally.{Tally}
 use Rattle.words.specs.Words.{Word}
 use Rattle.join_index.specs.Asking.{SomeQuery, RangeThere}
-use Rattle.join_index.specs.Ranges.{leftIn, range}
+use Rattle.join_index.specs.Ranges.{leftIn, leftsIn}
 use Rattle.join_check.specs.Checks.{rowCount, rangeCount, areCandidates}
 use Rattle.join_check.specs.Counters.{checksIn}
 use Rattle.join_check.specs.Checks.{RowThere, RangesThere, RowChecked, RangesChecked}
@@ -50,11 +50,11 @@ module _ {lay : Layout} {q : Query} {w : List ℕ} {e lo hi from to : ℕ} (ther
   ranges-part i j low some high =
       let first = range-split lay w lo i hi low (omega arith) ranges-within in
       let then = range-split lay w i j hi some high ranges-within in
-      let back = all-back (areCandidates q e (slice from to w)) (range lay w lo i) (range lay w i hi) (rw first at (there .candidates)) in
+      let back = all-back (areCandidates q e (slice from to w)) (leftsIn lay w lo i) (leftsIn lay w i hi) (rw first at (there .candidates)) in
       record {
         places = there .places;
         within = omega (arith, there .within);
-        candidates = all-front (areCandidates q e (slice from to w)) (range lay w i j) (range lay w j hi) (rw then at back);
+        candidates = all-front (areCandidates q e (slice from to w)) (leftsIn lay w i j) (leftsIn lay w j hi) (rw then at back);
       }
 
 sum-one : {A : Type 0} (f : A → ℕ) (x : A) → f x ≡ sum f (x ∷ [])
@@ -71,7 +71,7 @@ row-ranges {lay} {w} {k} {e} {i} {from} {to} word row =
           let times : (i + 1 - i) * (to - from) ≡ to - from = ap (λ (n : ℕ). n * (to - from)) single ∙ one-mul (to - from) in
           omega (arith, row .grown);
       tallied = λ q there.
-          let alone : range lay w i (i + 1) ≡ leftIn lay w i ∷ [] =
+          let alone : leftsIn lay w i (i + 1) ≡ leftIn lay w i ∷ [] =
           range-next lay w i (i + 1) (omega arith) (ranges-within there)
           ∙ ap (λ (l : List ℕ). leftIn lay w i ∷ l) (range-none lay w (i + 1) (i + 1) (omega arith))
           in
@@ -90,8 +90,8 @@ pub record RangesLeft (lay : Layout) (w : List ℕ) (e lo hi from to : ℕ) (tal
   pub grown : checksIn r + (j - i) * (to - from) ≡ checksIn tally + (hi - lo) * (to - from)
   pub tallied :
       (q : Query) → RangesThere lay q w e lo hi from to
-      → Leaving (λ is. rangeCount q is (slice from to w) (range lay w i j))
-      (λ is. rangeCount q is (slice from to w) (range lay w lo hi)) tally r
+      → Leaving (λ is. rangeCount q is (slice from to w) (leftsIn lay w i j))
+      (λ is. rangeCount q is (slice from to w) (leftsIn lay w lo hi)) tally r
 
 module _ {lay : Layout} {w : List ℕ} {e lo hi from to : ℕ} {tally : Tally} where
   pub left-start : RangesLeft lay w e lo hi from to tally tally lo hi
@@ -99,7 +99,7 @@ module _ {lay : Layout} {w : List ℕ} {e lo hi from to : ℕ} {tally : Tally} w
       record {
         there = λ q there. there;
         grown = refl;
-        tallied = λ q there. leaving-start (λ is. rangeCount q is (slice from to w) (range lay w lo hi)) tally;
+        tallied = λ q there. leaving-start (λ is. rangeCount q is (slice from to w) (leftsIn lay w lo hi)) tally;
       }
 
   module _ {r : Tally} {i j : ℕ} (so : RangesLeft lay w e lo hi from to tally r i j) where
@@ -110,11 +110,11 @@ module _ {lay : Layout} {w : List ℕ} {e lo hi from to : ℕ} {tally : Tally} w
         ap (λ (n : ℕ). n * (to - from)) whole ∙ add-mul (b - a) (c - b) (to - from)
 
     counts : {q : Query} (a : ℕ) → i ≤ a → a ≤ j → RangesThere lay q w e lo hi from to → (is : Outcome → Bool)
-        → rangeCount q is (slice from to w) (range lay w i j)
-        ≡ rangeCount q is (slice from to w) (range lay w i a) + rangeCount q is (slice from to w) (range lay w a j)
+        → rangeCount q is (slice from to w) (leftsIn lay w i j)
+        ≡ rangeCount q is (slice from to w) (leftsIn lay w i a) + rangeCount q is (slice from to w) (leftsIn lay w a j)
     counts {q} a low high there is =
         ap (rangeCount q is (slice from to w)) (range-split lay w i a j low high (ranges-within (so .there q there)))
-        ∙ sum-append (rowCount q is (slice from to w)) (range lay w i a) (range lay w a j)
+        ∙ sum-append (rowCount q is (slice from to w)) (leftsIn lay w i a) (leftsIn lay w a j)
 
     -- a part of what is left, as it is asked of its checks: it can be checked, and its checks fit
     module _ (a b : ℕ) (low : i ≤ a) (rise : a ≤ b) (high : b ≤ j) where
@@ -137,7 +137,7 @@ module _ {lay : Layout} {w : List ℕ} {e lo hi from to : ℕ} {tally : Tally} w
           there = part-there a j low high (omega arith);
           grown = omega (arith, parts i a j low high, so .grown, more .grown);
           tallied = λ q there.
-              leaving-step (so .tallied q there) {later = λ is. rangeCount q is (slice from to w) (range lay w a j)}
+              leaving-step (so .tallied q there) {later = λ is. rangeCount q is (slice from to w) (leftsIn lay w a j)}
               (more .tallied q (part-there i a (omega arith) low high q there)) (counts a low high there);
         }
 
@@ -149,7 +149,7 @@ module _ {lay : Layout} {w : List ℕ} {e lo hi from to : ℕ} {tally : Tally} w
           there = part-there i b (omega arith) low high;
           grown = omega (arith, parts i b j low high, so .grown, more .grown);
           tallied = λ q there.
-              leaving-step (so .tallied q there) {later = λ is. rangeCount q is (slice from to w) (range lay w i b)}
+              leaving-step (so .tallied q there) {later = λ is. rangeCount q is (slice from to w) (leftsIn lay w i b)}
               (more .tallied q (part-there b j low high (omega arith) q there)) (λ is. omega (arith, counts b low high there is));
         }
 

@@ -12,7 +12,7 @@ use Rattle.join_spec.specs.Query.{Query}
 use Rattle.join_index.specs.Grouping.{keyAt}
 use Rattle.join_index.specs.declared.Layout.{Layout}
 use Rattle.join_index.specs.Asking.{LeftThere, RangeThere}
-use Rattle.join_index.specs.Ranges.{lead, leftIn, range, RangeEnd}
+use Rattle.join_index.specs.Ranges.{lead, leftIn, leftsIn, RangeEnd}
 use Rattle.join_index.proofs.Orders.{range-key, range-pass, range-fail, range-past}
 
 -- whether a left set has the key of the first at depth d
@@ -24,7 +24,7 @@ pub record Reaching (lay : Layout) (w : List ℕ) (d i hi j : ℕ) : Type 0 wher
   pub within : j ≤ hi
   pub same :
       (q : Query) → RangeThere lay q w i hi
-      → j + lead (sameKey lay q w d i) (range lay w j hi) ≡ i + lead (sameKey lay q w d i) (range lay w i hi)
+      → j + lead (sameKey lay q w d i) (leftsIn lay w j hi) ≡ i + lead (sameKey lay q w d i) (leftsIn lay w i hi)
 
 module _ {lay : Layout} {w : List ℕ} {d i hi : ℕ} where
   pub reaching-start : i < hi → Reaching lay w d i hi (i + 1)

@@ -20,7 +20,7 @@ use Rattle.join_index.specs.Grouping.{leftAt, rightAt, keyAt}
 use Rattle.join_index.specs.Ground.{Listing}
 use Rattle.join_index.specs.declared.Layout.{Layout}
 use Rattle.join_index.specs.Asking.{Index}
-use Rattle.join_index.specs.Ranges.{range}
+use Rattle.join_index.specs.Ranges.{leftsIn}
 use Rattle.join_check.specs.Checks.{rowCount, rangeCount, areCandidates, RangesThere}
 use Rattle.join_nodes.specs.Rows.{row, pathPairs}
 use Rattle.join_nodes.proofs.Prefixes.{prefix-take, prefix-length}
@@ -139,7 +139,7 @@ module _ {q : Query} {path : List ℕ} {d : ℕ} {lefts : List ℕ} (rooted : Ro
         ∙ paths-many is (length list) lefts
 
 -- the left sets can be checked after e ranks of the path
-pub ranges-there : {lay : Layout} {q : Query} {path w : List ℕ} {d e lo hi from to : ℕ} → Rooted q path d (range lay w lo hi)
+pub ranges-there : {lay : Layout} {q : Query} {path w : List ℕ} {d e lo hi from to : ℕ} → Rooted q path d (leftsIn lay w lo hi)
     → Index lay q w → to ≤ length w → hi ≤ length (q .lefts)
     → Listing (length (q .rights)) (λ s. isCandidate e path (rightAt q s)) (slice from to w) → e ≤ d
     → RangesThere lay q w e lo hi from to

@@ -17,7 +17,7 @@ use Rattle.join_spec.specs.Counting.{isCheck}
 use Rattle.join_spec.specs.Kinds.{isOf}
 use Rattle.join_spec.proofs.KindLaws.{kind-met}
 use Rattle.join_index.specs.declared.Layout.{Layout}
-use Rattle.join_index.specs.Ranges.{range}
+use Rattle.join_index.specs.Ranges.{leftsIn}
 use Rattle.join_check.specs.Checks.{checkAt, rowCount, rangeCount, RangesThere}
 use Rattle.join_check.specs.declared.Tally.{Tally}
 use Rattle.join_check.proofs.Tallying.{tallied-same}
@@ -47,10 +47,10 @@ module _ (q : Query) (list lefts : List ℕ) where
 
 -- a block of checks answers for its left sets where their rows are its checks
 pub block-visited : {lay : Layout} {q : Query} {w : List ℕ} {budget d e lo hi from to : ℕ} {p : Progress} {r : Walked}
-    → RangesThere lay q w e lo hi from to → length (range lay w lo hi) ≡ hi - lo → length (slice from to w) ≡ to - from
+    → RangesThere lay q w e lo hi from to → length (leftsIn lay w lo hi) ≡ hi - lo → length (slice from to w) ≡ to - from
     → ((is : Outcome → Bool) → MetOnly is
-    → sum (row is q d) (range lay w lo hi) ≡ rangeCount q is (slice from to w) (range lay w lo hi))
-    → Blocked lay w budget e lo hi from to p r → Visited q budget d (range lay w lo hi) (p .tally) r
+    → sum (row is q d) (leftsIn lay w lo hi) ≡ rangeCount q is (slice from to w) (leftsIn lay w lo hi))
+    → Blocked lay w budget e lo hi from to p r → Visited q budget d (leftsIn lay w lo hi) (p .tally) r
 block-visited {lay} {q} {w} {budget} {d} {e} {lo} {hi} {from} {to} {p} {r} there lefts rights rows block =
     record {
       added = λ calm.
@@ -61,7 +61,7 @@ block-visited {lay} {q} {w} {budget} {d} {e} {lo} {hi} {from} {to} {p} {r} there
             arith,
             block .beyond spent,
             rows isCheck refl,
-            checks-all q (slice from to w) (range lay w lo hi),
+            checks-all q (slice from to w) (leftsIn lay w lo hi),
             ap₂ (λ (a b : ℕ). a * b) lefts rights,
           );
     }

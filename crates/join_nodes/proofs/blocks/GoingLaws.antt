@@ -18,7 +18,7 @@ use Rattle.join_index.specs.Grouping.{rightAt}
 use Rattle.join_index.specs.Ground.{Listing}
 use Rattle.join_index.specs.declared.Layout.{Layout}
 use Rattle.join_index.specs.Asking.{RangeThere}
-use Rattle.join_index.specs.Ranges.{range}
+use Rattle.join_index.specs.Ranges.{leftsIn}
 use Rattle.join_check.specs.Checks.{RangesThere}
 use Rattle.join_nodes.specs.Rows.{pathPairs}
 use Rattle.join_nodes.specs.Narrowing.{candidateList}
@@ -45,7 +45,7 @@ module _ {lay : Layout} {st : WalkSettings} {q : Query} {path w : List ℕ} {d l
   pub going-range : lo < hi → RangeThere lay q w lo hi
   going-range some = record { index = going .index; some = some; within = going .few }
 
-  pub going-rooted : Rooted q path d (range lay w lo hi)
+  pub going-rooted : Rooted q path d (leftsIn lay w lo hi)
   going-rooted = record { depth = going .depth; deep = going .deep; begin = going .begins }
 
   inside : to ≤ length w

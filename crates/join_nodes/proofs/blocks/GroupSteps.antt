@@ -17,7 +17,7 @@ use Rattle.join_index.specs.Grouping.{leftAt, keyAt, orderFrom}
 use Rattle.join_index.specs.declared.Layout.{Layout}
 use Rattle.words.specs.Words.{Word}
 use Rattle.join_index.specs.Asking.{LeftThere, RangeThere}
-use Rattle.join_index.specs.Ranges.{range, lead, leftIn, RangeEnd}
+use Rattle.join_index.specs.Ranges.{leftsIn, lead, leftIn, RangeEnd}
 use Rattle.join_index.proofs.Orders.{range-first, range-key, range-fail}
 use Rattle.join_nodes.specs.Visiting.{beginners}
 use Rattle.join_nodes.proofs.Groups.{FirstGroup, groups-first, groups-above}
@@ -34,13 +34,13 @@ groups-other key x y n l less =
 
 -- the first of a range that is the groups of `rest` from key x on
 module _ {lay : Layout} {q : Query} {w : List ℕ} {i hi : ℕ} (d x n : ℕ) (rest : List ℕ) (there : RangeThere lay q w i hi)
-    (grouped : range lay w i hi ≡ groupsFrom (keyAt q d) x n rest) where
+    (grouped : leftsIn lay w i hi ≡ groupsFrom (keyAt q d) x n rest) where
   abbrev key : ℕ
   key = keyAt q d (leftIn lay w i)
 
   pub group-first : FirstGroup (keyAt q d) x n rest (leftIn lay w i)
   group-first =
-      groups-first (keyAt q d) x n rest (leftIn lay w i) (range lay w (i + 1) hi)
+      groups-first (keyAt q d) x n rest (leftIn lay w i) (leftsIn lay w (i + 1) hi)
       (sym grouped ∙ range-first there)
 
   pub group-cut : {j : ℕ} → RangeEnd lay w d i hi j
@@ -74,7 +74,7 @@ beginners-grouped q path d below =
     ∙ keep-groups (keyAt q d) (λ k. prefix path (leftAt q k)) 0 (suc (q .T)) (orderFrom q (q .limit - suc d) (suc d))
 
 pub ended-cut : {lay : Layout} {q : Query} {w : List ℕ} {d lo hi mid : ℕ} (rest : List ℕ) → RangeThere lay q w lo hi
-    → range lay w lo hi ≡ endedAt q d rest ++ goingOn q d rest → MergedEnd lay w d lo hi mid
+    → leftsIn lay w lo hi ≡ endedAt q d rest ++ goingOn q d rest → MergedEnd lay w d lo hi mid
     → Cut lay w lo mid hi (endedAt q d rest) (goingOn q d rest)
 ended-cut {q = q} {d = d} rest there whole end =
     cut there (λ k. eqb (keyAt q d k) 0) (endedAt q d rest) (goingOn q d rest) whole (ended-keys q d rest) (going-keys q d rest)
@@ -100,6 +100,6 @@ module _ {lay : Layout} {w : List ℕ} {d lo hi k r : ℕ} (word : Word w (lay .
         high = end .within;
         maximal = λ q there.
             end .maximal q there
-            ∙ ap (λ (x : ℕ). lo + lead (λ k. eqb (keyAt q d k) x) (range lay w lo hi))
+            ∙ ap (λ (x : ℕ). lo + lead (λ k. eqb (keyAt q d k) x) (leftsIn lay w lo hi))
             (sym (range-key there d lo (there .some) word read) ∙ zero);
       }

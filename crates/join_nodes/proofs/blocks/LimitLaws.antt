@@ -21,7 +21,7 @@ use Rattle.join_spec.proofs.KindLaws.{kind-met}
 use Rattle.join_index.specs.Grouping.{leftAt, keyAt}
 use Rattle.join_index.specs.declared.Layout.{Layout}
 use Rattle.join_index.specs.Asking.{LeftThere}
-use Rattle.join_index.specs.Ranges.{range}
+use Rattle.join_index.specs.Ranges.{leftsIn}
 use Rattle.words.specs.Words.{Word}
 use Rattle.join_check.specs.Checks.{rowCount, rangeCount}
 use Rattle.join_index.proofs.Orders.{range-left}
@@ -71,7 +71,7 @@ module _ {lay : Layout} {st : WalkSettings} {q : Query} {path w : List ℕ} {d l
           on = going .on;
           upto = omega arith;
           few = omega (arith, going .few);
-          begins = all-front (λ k. prefix path (leftAt q k)) (range lay w lo (lo + 1)) (range lay w (lo + 1) hi)
+          begins = all-front (λ k. prefix path (leftAt q k)) (leftsIn lay w lo (lo + 1)) (leftsIn lay w (lo + 1) hi)
               (subst (λ (l : List ℕ). Begin q path l) parts (going .begins));
           rise = going .rise;
           below = going .below;
@@ -104,7 +104,7 @@ module _ {lay : Layout} {st : WalkSettings} {q : Query} {path w : List ℕ} {d l
           begins =
               subst (λ (l : List ℕ). Begin q path l)
               (sym (range-framed (going .index) (visit .framed) slots (lo + 1) hi (going .few)))
-              (all-back (λ k. prefix path (leftAt q k)) (range lay w lo (lo + 1)) (range lay w (lo + 1) hi)
+              (all-back (λ k. prefix path (leftAt q k)) (leftsIn lay w lo (lo + 1)) (leftsIn lay w (lo + 1) hi)
               (subst (λ (l : List ℕ). Begin q path l) parts (going .begins)));
           rise = going .rise;
           below = going .below;
@@ -137,7 +137,7 @@ module _ {lay : Layout} {st : WalkSettings} {q : Query} {path w : List ℕ} {d i
   pub one-key : {r : ℕ} → ((q : Query) → LeftThere lay q w k → r ≡ keyAt q d k) → r ≡ keyAt q d k
   one-key read = read q (range-left (going-range (at .going) (omega arith)) i (omega arith) word)
 
-  one-left : range lay w i (i + 1) ≡ k ∷ []
+  one-left : leftsIn lay w i (i + 1) ≡ k ∷ []
   one-left = range-one (going-range (at .going) (omega arith)) refl ∙ ap (λ (n : ℕ). n ∷ []) (sym (word .is))
 
   begins : prefix path (leftAt q k) ≡ true
@@ -157,7 +157,7 @@ module _ {lay : Layout} {st : WalkSettings} {q : Query} {path w : List ℕ} {d i
         framed = record { size = pairs .kept .size; frame = pairs .kept .frame };
         visited = record {
           added = λ calm.
-              merged-added (range lay w i (i + 1))
+              merged-added (leftsIn lay w i (i + 1))
               (λ is met.
               rows-merge (going-rooted (at .going)) (slice from to w) is met (at .going .on) ended (going-listing (at .going))
               ∙ ap₂ (λ (m c : ℕ). pathPairs m c is) (ap length one-left ∙ omega arith) (going-length (at .going)))
@@ -168,12 +168,12 @@ module _ {lay : Layout} {st : WalkSettings} {q : Query} {path w : List ℕ} {d i
         rows = λ calm. pairs .kept .rows q (one-list ends);
       }
     where
-      ended : all (λ k. eqb (keyAt q d k) 0) (range lay w i (i + 1)) ≡ true
-      ended = all-one (λ k. eqb (keyAt q d k) 0) k (range lay w i (i + 1)) one-left (eq-eqb (keyAt q d k) 0 ends)
+      ended : all (λ k. eqb (keyAt q d k) 0) (leftsIn lay w i (i + 1)) ≡ true
+      ended = all-one (λ k. eqb (keyAt q d k) 0) k (leftsIn lay w i (i + 1)) one-left (eq-eqb (keyAt q d k) 0 ends)
 
   -- it has more ranks: its checks against the part are its row
   module _ (longer : keyAt q d k ≡ 0 → ⊥) where
-    one-rows : (is : Outcome → Bool) → MetOnly is → sum (row is q d) (range lay w i (i + 1)) ≡ rowCount q is (slice from to w) k
+    one-rows : (is : Outcome → Bool) → MetOnly is → sum (row is q d) (leftsIn lay w i (i + 1)) ≡ rowCount q is (slice from to w) k
     unfolding sum
     one-rows is met =
         ap (sum (row is q d)) one-left
@@ -185,17 +185,17 @@ module _ {lay : Layout} {st : WalkSettings} {q : Query} {path w : List ℕ} {d i
         )
 
     -- the same as the checks of a range of one
-    one-count : (is : Outcome → Bool) → rangeCount q is (slice from to w) (range lay w i (i + 1)) ≡ rowCount q is (slice from to w) k
+    one-count : (is : Outcome → Bool) → rangeCount q is (slice from to w) (leftsIn lay w i (i + 1)) ≡ rowCount q is (slice from to w) k
     unfolding sum
     one-count is = ap (sum (rowCount q is (slice from to w))) one-left ∙ omega arith
 
-    one-checks : sum (row isCheck q d) (range lay w i (i + 1)) ≡ to - from
+    one-checks : sum (row isCheck q d) (leftsIn lay w i (i + 1)) ≡ to - from
     one-checks =
         omega (
           arith,
           one-rows isCheck refl,
           one-count isCheck,
-          checks-all q (slice from to w) (range lay w i (i + 1)),
+          checks-all q (slice from to w) (leftsIn lay w i (i + 1)),
           ap₂ (λ (a b : ℕ). a * b) (ap length one-left) (going-length (at .going)),
           one-mul (to - from),
         )

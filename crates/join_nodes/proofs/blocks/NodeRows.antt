@@ -17,7 +17,7 @@ use Rattle.join_index.specs.Grouping.{leftAt, keyAt}
 use Rattle.join_index.specs.declared.Layout.{Layout}
 use Rattle.words.specs.Words.{Word}
 use Rattle.join_index.specs.Asking.{LeftThere, RangeThere}
-use Rattle.join_index.specs.Ranges.{range, leftIn, lead}
+use Rattle.join_index.specs.Ranges.{leftsIn, leftIn, lead}
 use Rattle.join_check.specs.Checks.{areCandidates}
 use Rattle.join_index.proofs.Orders.{order-left, order-within, lead-pass, lead-fail, lead-nil}
 use Rattle.kept_rows.specs.Kept.{containedAt, containing}
@@ -46,9 +46,9 @@ merged-key : {lay : Layout} {q : Query} {w : List ℕ} {d lo hi mid : ℕ} → R
 merged-key {lay} {q} {w} {d} {lo} {hi} {mid} there end i low high =
     eqb-true (keyAt q d (leftIn lay w i)) 0
     (ap (λ (k : ℕ). eqb (keyAt q d k) 0) (sym at)
-    ∙ lead-at (λ k. eqb (keyAt q d k) 0) (range lay w lo hi) (i - lo) (omega (arith, end .maximal q there)))
+    ∙ lead-at (λ k. eqb (keyAt q d k) 0) (leftsIn lay w lo hi) (i - lo) (omega (arith, end .maximal q there)))
   where
-    at : getD (range lay w lo hi) (i - lo) 0 ≡ leftIn lay w i
+    at : getD (leftsIn lay w lo hi) (i - lo) 0 ≡ leftIn lay w i
     at =
         let place : lay .«left_order» + lo + (i - lo) ≡ lay .«left_order» + i = omega arith in
         getD-slice 0 (lay .«left_order» + lo) (lay .«left_order» + hi) (i - lo) w (omega (arith, end .high))
@@ -64,7 +64,7 @@ module _ {lay : Layout} {st : WalkSettings} {q : Query} {path w : List ℕ} {d l
 
   -- the left set at one of the places, as it was read
   module _ (i : ℕ) (low : lo ≤ i) (high : i < hi) {k : ℕ} (is : k ≡ leftIn lay w i) where
-    throughout : (t : ℕ → Bool) → all t (range lay w lo hi) ≡ true → t k ≡ true
+    throughout : (t : ℕ → Bool) → all t (leftsIn lay w lo hi) ≡ true → t k ≡ true
     throughout t each =
         ap t is
         ∙ all-slice t (lay .«left_order» + lo) (lay .«left_order» + hi) w (omega (arith, order-within (going .index), going .few)) each

@@ -18,7 +18,7 @@ use Rattle.join_index.specs.Grouping.{leftAt, orderFrom}
 use Rattle.join_index.specs.declared.Layout.{Layout}
 use Rattle.join_index.proofs.GroundLaws.{slot-bound}
 use Rattle.join_index.specs.Asking.{Index}
-use Rattle.join_index.specs.Ranges.{range}
+use Rattle.join_index.specs.Ranges.{leftsIn}
 use Rattle.join_check.specs.Checks.{RangesThere}
 use Rattle.kept_rows.specs.Kept.{RowsKept}
 use Rattle.join_nodes.specs.Narrowing.{Candidates, slotOf}
@@ -41,7 +41,7 @@ module _ {lay : Layout} {st : WalkSettings} {q : Query} {path w : List ℕ} {d l
   index : Index lay q w
   index = cands .index
 
-  pub node-rooted : Rooted q path d (range lay w lo hi)
+  pub node-rooted : Rooted q path d (leftsIn lay w lo hi)
   node-rooted =
       record {
         depth = cands .depth;

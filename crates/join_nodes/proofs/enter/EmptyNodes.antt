@@ -23,7 +23,7 @@ use Rattle.join_spec.proofs.KindLaws.{kind-met, sum-zero}
 use Rattle.join_index.specs.Grouping.{leftAt, rightAt}
 use Rattle.join_index.specs.Ground.{Listing}
 use Rattle.join_index.specs.declared.Layout.{Layout}
-use Rattle.join_index.specs.Ranges.{range}
+use Rattle.join_index.specs.Ranges.{leftsIn}
 use Rattle.kept_rows.specs.Keeping.{ListKept}
 use Rattle.join_nodes.specs.Rows.{row}
 use Rattle.join_nodes.specs.Narrowing.{candidateList}
@@ -127,7 +127,7 @@ empty-kept {lay} {q = q} {path} {w′ = w′} {d = d} {lo} {hi} {part = part} so
       rows = λ calm. kept .rows q (empty-list (onward-going so) empty);
     }
   where
-    nothing : (is : Outcome → Bool) → MetOnly is → sum (row is q d) (range lay w′ lo hi) ≡ 0
+    nothing : (is : Outcome → Bool) → MetOnly is → sum (row is q d) (leftsIn lay w′ lo hi) ≡ 0
     nothing =
         rows-empty (going-rooted (onward-going so)) (so .node .at .within) (sym (so .on))
         (sym (so .holds) ∙ slice-past (part .«from») (part .to) w′ empty)

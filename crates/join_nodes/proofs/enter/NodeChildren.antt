@@ -21,7 +21,7 @@ use Rattle.join_index.specs.Ground.{Listing}
 use Rattle.join_index.specs.declared.Layout.{Layout}
 use Rattle.join_index.proofs.GroundLaws.{offsets-rise}
 use Rattle.join_index.specs.Asking.{Index}
-use Rattle.join_index.specs.Ranges.{range}
+use Rattle.join_index.specs.Ranges.{leftsIn}
 use Rattle.join_check.specs.Counters.{checksIn}
 use Rattle.join_check.specs.declared.Tally.{Tally}
 use Rattle.join_nodes.specs.Rows.{row, pathPairs}
@@ -63,7 +63,7 @@ module _ {lay : Layout} {st : WalkSettings} {q : Query} {path w w′ : List ℕ}
   rest : List ℕ
   rest = beginners q path (suc d)
 
-  grouped-lefts : range lay w lo hi ≡ endedAt q d rest ++ goingOn q d rest
+  grouped-lefts : leftsIn lay w lo hi ≡ endedAt q d rest ++ goingOn q d rest
   unfolding rest
   grouped-lefts = so .node .at .lefts ∙ beginners-grouped q path d (omega (arith, so .node .underway .limit))
 
@@ -71,16 +71,16 @@ module _ {lay : Layout} {st : WalkSettings} {q : Query} {path w w′ : List ℕ}
     parted : Cut lay w′ lo mid hi (endedAt q d rest) (goingOn q d rest)
     parted = ended-cut rest (node-range so) (range-framed index framed low lo hi (so .node .at .few) ∙ grouped-lefts) end
 
-    ended-lefts : range lay w lo mid ≡ endedAt q d rest
+    ended-lefts : leftsIn lay w lo mid ≡ endedAt q d rest
     ended-lefts = sym (range-framed index framed low lo mid (omega (arith, end .high, so .node .at .few))) ∙ parted .front
 
-    child-lefts : range lay w mid hi ≡ goingOn q d rest
+    child-lefts : leftsIn lay w mid hi ≡ goingOn q d rest
     child-lefts = sym (range-framed index framed low mid hi (so .node .at .few)) ∙ parted .back
 
-    front-length : length (range lay w lo mid) ≡ mid - lo
+    front-length : length (leftsIn lay w lo mid) ≡ mid - lo
     front-length = range-length lay q w lo mid index (omega (arith, end .high, so .node .at .few))
 
-    ended-rooted : Rooted q path d (range lay w lo mid)
+    ended-rooted : Rooted q path d (leftsIn lay w lo mid)
     unfolding rest
     ended-rooted =
         record {
@@ -92,7 +92,7 @@ module _ {lay : Layout} {st : WalkSettings} {q : Query} {path w w′ : List ℕ}
               (all-kept (λ k. prefix path (leftAt q k)) (orderFrom q (q .limit - suc d) (suc d))));
         }
 
-    front-keys : all (λ k. eqb (keyAt q d k) 0) (range lay w lo mid) ≡ true
+    front-keys : all (λ k. eqb (keyAt q d k) 0) (leftsIn lay w lo mid) ≡ true
     front-keys = subst (λ (l : List ℕ). all (λ k. eqb (keyAt q d k) 0) l ≡ true) (sym ended-lefts) (ended-keys q d rest)
 
     after-listing : Listing (length (q .rights)) (λ s. isCandidate d path (rightAt q s)) (slice (part .«from») (part .to) w′)
@@ -102,9 +102,9 @@ module _ {lay : Layout} {st : WalkSettings} {q : Query} {path w w′ : List ℕ}
         (listing-kept (length (q .rights)) (λ s. isCandidate d path (rightAt q s)))
 
     module _ {m : Tally} (merged : Merged (mid - lo) (part .to - part .«from») (p .tally) m) where
-      pub merged-lefts : Added q d (range lay w lo mid) (p .tally) m
+      pub merged-lefts : Added q d (leftsIn lay w lo mid) (p .tally) m
       merged-lefts =
-          merged-added (range lay w lo mid)
+          merged-added (leftsIn lay w lo mid)
           (λ is met.
           rows-merge ended-rooted (slice (part .«from») (part .to) w′) is met (sym (so .on)) front-keys after-listing
           ∙ ap₂ (λ (m c : ℕ). pathPairs m c is) front-length (after-length so))
@@ -121,7 +121,7 @@ module _ {lay : Layout} {st : WalkSettings} {q : Query} {path w w′ : List ℕ}
           record {
             framed = framed;
             visited = record {
-              added = λ calm. subst (λ (n : ℕ). Added q d (range lay w lo n) (p .tally) m) same merged-lefts;
+              added = λ calm. subst (λ (n : ℕ). Added q d (leftsIn lay w lo n) (p .tally) m) same merged-lefts;
               within = λ calm. merged-budget;
               beyond = λ spent. true-false spent refl;
             };
@@ -157,22 +157,22 @@ module _ {lay : Layout} {st : WalkSettings} {q : Query} {path w w′ : List ℕ}
             };
           }
 
-      child-begin : Begin q path (range lay w mid hi)
+      child-begin : Begin q path (leftsIn lay w mid hi)
       unfolding rest
       child-begin =
-          all-back (λ k. prefix path (leftAt q k)) (range lay w lo mid) (range lay w mid hi)
+          all-back (λ k. prefix path (leftAt q k)) (leftsIn lay w lo mid) (leftsIn lay w mid hi)
           (subst (λ (l : List ℕ). Begin q path l) (range-split lay q w lo mid hi index (end .low) (end .high) (so .node .at .few))
           (node-rooted (so .node) .begin))
 
-      child-keys : all (λ k. not (eqb (keyAt q d k) 0)) (range lay w mid hi) ≡ true
+      child-keys : all (λ k. not (eqb (keyAt q d k) 0)) (leftsIn lay w mid hi) ≡ true
       child-keys =
           subst (λ (l : List ℕ). all (λ k. not (eqb (keyAt q d k) 0)) l ≡ true) (sym child-lefts) (going-keys q d rest)
 
-      rows-deeper : (is : Outcome → Bool) → sum (row is q (suc d)) (range lay w mid hi) ≡ sum (row is q d) (range lay w mid hi)
+      rows-deeper : (is : Outcome → Bool) → sum (row is q (suc d)) (leftsIn lay w mid hi) ≡ sum (row is q d) (leftsIn lay w mid hi)
       rows-deeper is =
           sum-same-where (λ k. prefix path (leftAt q k) && not (eqb (keyAt q d k) 0)) (row is q (suc d)) (row is q d)
-          (range lay w mid hi)
-          (all-and (λ k. prefix path (leftAt q k)) (λ k. not (eqb (keyAt q d k) 0)) (range lay w mid hi) child-begin child-keys)
+          (leftsIn lay w mid hi)
+          (all-and (λ k. prefix path (leftAt q k)) (λ k. not (eqb (keyAt q d k) 0)) (leftsIn lay w mid hi) child-begin child-keys)
           (λ k both.
           let begin = and-left (prefix path (leftAt q k)) (not (eqb (keyAt q d k) 0)) both in
           let more = not-true (eqb (keyAt q d k) 0) (and-right (prefix path (leftAt q k)) (not (eqb (keyAt q d k) 0)) both) in
@@ -195,7 +195,7 @@ module _ {lay : Layout} {st : WalkSettings} {q : Query} {path w w′ : List ℕ}
                 subst (λ (l : List ℕ). Visited q (st .budget) d l (p .tally) r)
                 (sym (range-split lay q w lo mid hi index (end .low) (end .high) (so .node .at .few)))
                 (visited-then merged-lefts
-                (visited-rows (range lay w mid hi) rows-deeper
+                (visited-rows (leftsIn lay w mid hi) rows-deeper
                 (subst (λ (l : List ℕ). Visited q (st .budget) (suc d) l m r)
                 (range-framed index framed low mid hi (so .node .at .few))
                 (done .visited))));

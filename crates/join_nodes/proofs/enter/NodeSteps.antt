@@ -12,7 +12,7 @@ use Rattle.join_spec.specs.Node.{lastOf}
 use Rattle.join_spec.specs.Walk.{goes}
 use Rattle.join_index.specs.declared.Layout.{Layout}
 use Rattle.join_index.specs.Asking.{Index, RangeThere}
-use Rattle.join_index.specs.Ranges.{range}
+use Rattle.join_index.specs.Ranges.{leftsIn}
 use Rattle.kept_rows.specs.Kept.{RowsKept}
 use Rattle.kept_rows.proofs.RowLaws.{rows-framed}
 use Rattle.join_nodes.specs.Narrowing.{Candidates, Narrowed, candidateList, slotOf}
@@ -86,10 +86,10 @@ module _ {lay : Layout} {st : WalkSettings} {q : Query} {path w w′ : List ℕ}
   pub node-range : RangeThere lay q w′ lo hi
   node-range = record { index = index-after; some = so .node .at .some; within = so .node .at .few }
 
-  same-range : range lay w′ lo hi ≡ range lay w lo hi
+  same-range : leftsIn lay w′ lo hi ≡ leftsIn lay w lo hi
   same-range = range-framed index (so .framed) low lo hi (so .node .at .few)
 
-  onward-begin : Begin q path (range lay w′ lo hi)
+  onward-begin : Begin q path (leftsIn lay w′ lo hi)
   onward-begin = subst (λ (l : List ℕ). Begin q path l) (sym same-range) (node-rooted (so .node) .begin)
 
   -- some rows more are kept

@@ -24,7 +24,7 @@ use Rattle.join_index.specs.Ground.{Listing}
 use Rattle.join_index.specs.declared.Layout.{Layout}
 use Rattle.words.specs.Words.{Word}
 use Rattle.join_index.specs.Asking.{LeftThere}
-use Rattle.join_index.specs.Ranges.{range}
+use Rattle.join_index.specs.Ranges.{leftsIn}
 use Rattle.join_check.specs.declared.Tally.{Tally}
 use Rattle.kept_rows.specs.Kept.{containedAt, containing}
 use Rattle.kept_rows.specs.checked.Recording.{RowRecordable, RowRecorded}
@@ -113,7 +113,7 @@ module _ {lay : Layout} {st : WalkSettings} {q : Query} {path w : List ℕ} {d l
         )
 
     rows : (is : Outcome → Bool) → MetOnly is
-        → sum (counted is q d) (range lay w lo (lo + 1)) ≡ pathPairs 1 (row .top - p .top) is
+        → sum (counted is q d) (leftsIn lay w lo (lo + 1)) ≡ pathPairs 1 (row .top - p .top) is
     unfolding sum
     rows is met =
         let range-there = going-range going (omega arith) in
@@ -136,7 +136,7 @@ module _ {lay : Layout} {st : WalkSettings} {q : Query} {path w : List ℕ} {d l
         record {
           framed = record { size = recorded .size; frame = recorded .frame };
           visited = record {
-            added = λ calm. merged-added (range lay w lo (lo + 1)) rows merged;
+            added = λ calm. merged-added (leftsIn lay w lo (lo + 1)) rows merged;
             within = λ calm. omega (arith, merged-checks merged, going .underway .budget);
             beyond = λ spent. true-false spent refl;
           };

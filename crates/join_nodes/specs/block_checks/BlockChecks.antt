@@ -7,7 +7,7 @@ use Rattle.lists.specs.Lists.{slice}
 use Rattle.sets.specs.Limits.{maxSets}
 use Rattle.join_spec.specs.Query.{Query}
 use Rattle.join_index.specs.declared.Layout.{Layout}
-use Rattle.join_index.specs.Ranges.{range}
+use Rattle.join_index.specs.Ranges.{leftsIn}
 use Rattle.join_check.specs.Counters.{checksIn, Tallied}
 use Rattle.join_check.specs.Checks.{rangeCount, RangesThere}
 use Rattle.join_check.specs.declared.Tally.{Tally}
@@ -31,7 +31,7 @@ pub record Small (budget lo hi from to : ℕ) (tally : Tally) : Type 0 where
 pub record Blocked (lay : Layout) (w : List ℕ) (budget e lo hi from to : ℕ) (p : Progress) (r : Walked) : Type 0 where
   pub tallied :
       r .spent ≡ false → (q : Query) → RangesThere lay q w e lo hi from to
-      → Tallied (λ is. rangeCount q is (slice from to w) (range lay w lo hi)) (p .tally) (r .at .tally)
+      → Tallied (λ is. rangeCount q is (slice from to w) (leftsIn lay w lo hi)) (p .tally) (r .at .tally)
   pub within : r .spent ≡ false → checksIn (r .at .tally) ≤ budget
   pub beyond : r .spent ≡ true → budget < checksIn (p .tally) + (hi - lo) * (to - from)
   pub top : r .at .top ≡ p .top

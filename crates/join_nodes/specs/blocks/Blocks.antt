@@ -12,7 +12,7 @@ use Rattle.join_spec.specs.Walk.{goes}
 use Rattle.join_index.specs.Grouping.{leftAt, keyAt}
 use Rattle.join_index.specs.declared.Layout.{Layout}
 use Rattle.join_index.specs.Asking.{Index, RangeThere}
-use Rattle.join_index.specs.Ranges.{range, lead}
+use Rattle.join_index.specs.Ranges.{leftsIn, lead}
 use Rattle.join_check.specs.Counters.{checksIn, Tallied}
 use Rattle.join_check.specs.Checks.{rowCount}
 use Rattle.kept_rows.specs.Kept.{RowsKept}
@@ -29,7 +29,7 @@ use Rattle.join_nodes.specs.declared.blocks.Settled.{Settled}
 pub record MergedEnd (lay : Layout) (w : List ℕ) (d lo hi r : ℕ) : Type 0 where
   pub low : lo ≤ r
   pub high : r ≤ hi
-  pub maximal : (q : Query) → RangeThere lay q w lo hi → r ≡ lo + lead (λ k. eqb (keyAt q d k) 0) (range lay w lo hi)
+  pub maximal : (q : Query) → RangeThere lay q w lo hi → r ≡ lo + lead (λ k. eqb (keyAt q d k) 0) (leftsIn lay w lo hi)
 
 -- the left sets in left_order[lo..hi] were paired by path with the right sets listed in work[from..to], which are kept as their row
 pub record PairsKept (lay : Layout) (w : List ℕ) (lo hi from to : ℕ) (p : Progress) (w′ : List ℕ) (r : Progress) : Type 0 where
@@ -58,7 +58,7 @@ pub record Going (lay : Layout) (st : WalkSettings) (q : Query) (path w : List �
   pub on : goes q path ≡ true
   pub upto : lo ≤ hi
   pub few : hi ≤ length (q .lefts)
-  pub begins : all (λ k. prefix path (leftAt q k)) (range lay w lo hi) ≡ true
+  pub begins : all (λ k. prefix path (leftAt q k)) (leftsIn lay w lo hi) ≡ true
   pub rise : from ≤ to
   pub below : to ≤ lay .«row_starts»
   pub holds : slice from to w ≡ candidateList q path d

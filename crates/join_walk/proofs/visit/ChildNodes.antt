@@ -22,7 +22,7 @@ use Rattle.join_index.specs.Ground.{Listing}
 use Rattle.join_index.specs.declared.Layout.{Layout}
 use Rattle.join_index.proofs.GroundLaws.{offsets-rise, slot-bound}
 use Rattle.join_index.proofs.Ordering.{left-rising}
-use Rattle.join_index.specs.Ranges.{range, leftIn, RangeEnd}
+use Rattle.join_index.specs.Ranges.{leftsIn, leftIn, RangeEnd}
 use Rattle.join_nodes.specs.Narrowing.{candidateList, slotOf}
 use Rattle.join_nodes.specs.Visiting.{Node, Children, After, ChildrenAt}
 use Rattle.join_nodes.specs.Visiting.{Visited, Framed, NodeVisited}
@@ -149,8 +149,8 @@ module _ {lay : Layout} {st : WalkSettings} {q : Query} {path w : List ℕ} {d i
   child-done {w′} {one} done =
       let low : lay .slots ≤ slotOf lay w (suc (lastOf path)) = omega arith in
       let framed : Framed (slotOf lay w (suc (lastOf path))) w w′ = framed-lower slot-beyond (done .framed) in
-      let visited : Visited q (st .budget) (suc d) (range lay w i j) (p .tally) one =
-      subst (λ (e : ℕ). Visited q (st .budget) e (range lay w i j) (p .tally) one) (add-one d) (done .visited) in
+      let visited : Visited q (st .budget) (suc d) (leftsIn lay w i j) (p .tally) one =
+      subst (λ (e : ℕ). Visited q (st .budget) e (leftsIn lay w i j) (p .tally) one) (add-one d) (done .visited) in
       let same = slot-framed (kids .index) framed low (suc (lastOf path)) (after .last) in
       record {
         facts = record { index = kids .index; few = kids .few; slots = low };

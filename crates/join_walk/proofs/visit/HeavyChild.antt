@@ -17,7 +17,7 @@ use Rattle.join_index.specs.Grouping.{rightAt, keyAt}
 use Rattle.join_index.specs.Ground.{Listing}
 use Rattle.join_index.specs.declared.Layout.{Layout}
 use Rattle.join_index.specs.Asking.{RangeThere}
-use Rattle.join_index.specs.Ranges.{range, leftIn}
+use Rattle.join_index.specs.Ranges.{leftsIn, leftIn}
 use Rattle.join_index.proofs.Orders.{range-none}
 use Rattle.kept_rows.specs.Kept.{RowsKept}
 use Rattle.join_nodes.specs.Narrowing.{slotOf}
@@ -155,15 +155,15 @@ module _ {lay : Layout} {st : WalkSettings} {q : Query} {path w : List ℕ} {d l
   slot = slotOf lay w (suc (lastOf path))
 
   abbrev Before : List ℕ
-  Before = range lay w lo (r .lo)
+  Before = leftsIn lay w lo (r .lo)
 
   abbrev Own : List ℕ
-  Own = range lay w (r .lo) (r .hi)
+  Own = leftsIn lay w (r .lo) (r .hi)
 
   abbrev Behind : List ℕ
-  Behind = range lay w (r .hi) hi
+  Behind = leftsIn lay w (r .hi) hi
 
-  whole : range lay w lo hi ≡ Before ++ (Own ++ Behind)
+  whole : leftsIn lay w lo hi ≡ Before ++ (Own ++ Behind)
   whole =
       let few = at .kids .few in
       range-split lay q w lo (r .lo) hi (at .kids .index) (chosen .begins .low) (chosen .begins .high) few
@@ -287,6 +287,6 @@ module _ {lay : Layout} {st : WalkSettings} {q : Query} {path w : List ℕ} {d l
                 (visited-before (behind .added quiet)
                 (subst (λ (l : List ℕ). Visited q (st .budget) (suc d) l (two .at .tally) three)
                 (range-framed (at .kids .index) framed under (r .lo) (r .hi) (omega (arith, chosen .within, at .kids .few)))
-                (subst (λ (e : ℕ). Visited q (st .budget) e (range lay u (r .lo) (r .hi)) (two .at .tally) three) (add-one d)
+                (subst (λ (e : ℕ). Visited q (st .budget) e (leftsIn lay u (r .lo) (r .hi)) (two .at .tally) three) (add-one d)
                 (done .visited))))
                 (done .rows)
