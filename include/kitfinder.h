@@ -74,8 +74,7 @@ extern "C" {
 #define KITFINDER_READ_RECORD_ANSWER 10
 
 /* The bytes of stack that each function may take below its caller's frame, whatever its input: tests/stack measures them. They cover
- * a memset that is bound at its first call. Of the join's, 336 bytes are for each level of the limit, where left sets are gathered to be
- * checked; the walk itself takes no more at a greater limit. */
+ * a memset that is bound at its first call. The join takes no more at a greater limit. */
 #define KITFINDER_JOIN_STACK 131072
 #define KITFINDER_FIRST_STACK 8192
 #define KITFINDER_ORDER_STACK 32768

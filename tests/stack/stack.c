@@ -197,6 +197,29 @@ static void make_sets(int shape)
     places = PLACES;
 }
 
+/* Left sets that part in halves, as often as a collection can hold: all have the shared items, and then one of two items at each level.
+ * Calls lie above each other most often here, since no child has more left sets than the other. */
+enum { HALVES = 2 };
+static void make_halves(int shape)
+{
+    static const uint32_t shared[HALVES] = { 1, 16 }, levels[HALVES] = { 12, 11 };
+    uint32_t all = shared[shape] + 2 * levels[shape];
+    t = all;
+    rights = 0;
+    for (lefts = 0; lefts < (size_t)1 << levels[shape];) {
+        uint32_t halves = (uint32_t)lefts;
+        lefts = add_set(left_ends, left_items, lefts, shared[shape], t);
+        for (uint32_t level = 0; level < levels[shape]; level++, halves /= 2)
+            left_items[left_ends[lefts - 1]++] = (uint16_t)(shared[shape] + 2 * level + halves % 2);
+    }
+    for (uint32_t k = 0; k < 8; k++)
+        rights = add_set(right_ends, right_items, rights, all, t);
+    for (uint32_t i = 0; i < t; i++)
+        ranks[i] = (uint16_t)i;
+    budget = UINT32_MAX;
+    places = PLACES;
+}
+
 /* Empty left sets alone, as many as there can be, beside the right sets that are there. They need no place and no check. */
 static void make_empty(void)
 {
@@ -220,10 +243,13 @@ static size_t join_at(uint32_t depth, uint32_t by)
     most = 0;
     limit = depth;
     rule = by;
-    for (int shape = 0; shape < SHAPES; shape++) {
-        make_sets(shape);
+    for (int shape = 0; shape < SHAPES + HALVES; shape++) {
+        if (shape < SHAPES)
+            make_sets(shape);
+        else
+            make_halves(shape - SHAPES);
         /* Weighed goes on where more left sets begin with the path than the weight says: at 0 everywhere. */
-        for (weight = 0; weight <= (by == KITFINDER_WEIGHED ? LONGEST : 0); weight += LONGEST / 5) {
+        for (weight = 0; weight <= (by == KITFINDER_WEIGHED ? LONGEST : 0); weight = 2 * weight + 1) {
             more(taken("kitfinder_join", KITFINDER_JOIN_STACK, join));
             accepted("kitfinder_join");
         }
@@ -459,7 +485,7 @@ int main(void)
         size_t half = join_at(KITFINDER_MAX_LIMIT / 2 + 1, by);
         join_at(KITFINDER_MAX_LIMIT - 1, by);
         join_at(1, by);
-        printf("a level of the join under %s: %.1f bytes\n", rules[by],
+        printf("the join under %s: %zu bytes at limit %d, %.1f a level\n", rules[by], deep, KITFINDER_MAX_LIMIT,
                ((double)deep - (double)half) / (KITFINDER_MAX_LIMIT - (KITFINDER_MAX_LIMIT / 2 + 1)));
     }
     say("kitfinder_join", KITFINDER_JOIN_STACK);

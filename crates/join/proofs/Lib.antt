@@ -1,5 +1,5 @@
--- Laws of the answer after the walk, of a call as a whole, and of a rule that is a number. The tests, the answer by the counters and
--- the pair list are on the pages validate, tally_answer and output.
+-- Laws of the answer after the walk, of a call as a whole, and of a rule that is a number. The tests and the pair list are on the
+-- pages validate and output.
 pub mod AnswerLaws
 pub mod CallLaws
 pub mod ByNumber

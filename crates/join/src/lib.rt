@@ -1,9 +1,9 @@
-// The set containment join, which document 01 calls the run: its tests (`validate`), the index, the walk, its answer (`tally_answer`)
-// and the pair list (`output`). The same with the rule as a number is for the C boundary.
+// The set containment join, which document 01 calls the run: its tests (`validate`), the index, the walk, its answer
+// (`join_check::tally_answer`) and the pair list (`output`). The same with the rule as a number is for the C boundary.
 use crate::output::write_answer;
-use crate::tally_answer::answer_tally;
 use crate::validate::test_join;
 use crate::validate::test_rule;
+use join_check::tally_answer::answer_tally;
 use join_index::Layout;
 use join_index::build::build;
 use join_nodes::WalkSettings;
@@ -25,7 +25,6 @@ ghost use Rattle.join.specs.Ready.{Accepted};
 ghost use Rattle.join.specs.Numbered.{ruleOf, numberedAnswer};
 
 pub mod output;
-pub mod tally_answer;
 pub mod validate;
 
 // The join of an input that passed its tests: the index, the walk, the answer by its counters, and the pair list.

@@ -1,5 +1,5 @@
 // The checks of left sets against right sets, and the counters that they raise. `keys` reads what parts the left sets off the index;
-// `gather` checks a whole subtree. The work list is read by its layout.
+// `gather` checks a whole subtree; `tally_answer` makes the answer of a join from the counters. The work list is read by its layout.
 use join_index::Layout;
 use signatures::double_at;
 use words::subsets::subset_words;
@@ -16,6 +16,7 @@ ghost use Rattle.join_check.specs.Probes.{Probed, outcomeOf, probeOutcom
 
 pub mod gather;
 pub mod keys;
+pub mod tally_answer;
 
 // The counters of a walk: pairs by path, and the checks by how they ended.
 pub struct Tally {

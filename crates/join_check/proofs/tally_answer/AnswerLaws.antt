@@ -16,8 +16,8 @@ use Rattle.join_spec.specs.Query.{Query}
 use Rattle.join_spec.specs.Counting.{countsOf, checksOf}
 use Rattle.join_spec.specs.Answer.{walkAnswer}
 use Rattle.join_spec.proofs.Accepted.{spent-above}
 use Rattle.join_check.specs.declared.Tally.{Tally}
-use Rattle.join.specs.tally_answer.Answering.{tallyCounts, tallyAnswer}
+use Rattle.join_check.specs.tally_answer.Answering.{tallyCounts, tallyAnswer}
 
 -- the answer with these counts where it is not spent
 abbrev counted : ℕ → Counts → JoinAnswer
