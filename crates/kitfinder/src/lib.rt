@@ -12,7 +12,7 @@ ghost use Rattle.inputs.specs.Input.{lentInput};
 ghost use Rattle.join.specs.Numbered.{weightsOf, numberedAnswer};
 ghost use Rattle.first_search_spec.specs.First.{firstAnswer, firstWords};
 ghost use Rattle.item_order_spec.specs.Order.{orderAnswer, orderRanks, orderWords};
-ghost use Rattle.tag_file.specs.Loading.{listsOf, loadAnswer, LoadCall};
+ghost use Rattle.tag_file.specs.Loading.{lentLists, returnedLists, loadAnswer, LoadCall};
 ghost use Rattle.pool_loader_spec.specs.Pooling.{pooledAnswer, PooledCall};
 ghost use Rattle.tag_writer_spec.specs.Writer.{writeAnswer, writtenFile, writeWords};
 
@@ -137,16 +137,12 @@ pub extern "C" fn kitfinder_load(
     answer: &mut [u64; 10],
 )
     ensures answer { λ _. ⌜ now (answer .exit) ≡ loadWords (loadAnswer (now (file .entry))
-        (listsOf (now (tags .entry)) (now («left_numbers» .entry)) (now («left_ends» .entry)) (now («left_items» .entry))
-        (now («right_numbers» .entry)) (now («right_ends» .entry)) (now («right_items» .entry)))) ⌝ }
+        (lentLists tags «left_numbers» «left_ends» «left_items» «right_numbers» «right_ends» «right_items»)) ⌝ }
     ensures lists { λ _. ⌜ LoadCall (now (file .entry))
-        (listsOf (now (tags .entry)) (now («left_numbers» .entry)) (now («left_ends» .entry)) (now («left_items» .entry))
-        (now («right_numbers» .entry)) (now («right_ends» .entry)) (now («right_items» .entry)))
-        (listsOf (now (tags .exit)) (now («left_numbers» .exit)) (now («left_ends» .exit)) (now («left_items» .exit))
-        (now («right_numbers» .exit)) (now («right_ends» .exit)) (now («right_items» .exit)))
+        (lentLists tags «left_numbers» «left_ends» «left_items» «right_numbers» «right_ends» «right_items»)
+        (returnedLists tags «left_numbers» «left_ends» «left_items» «right_numbers» «right_ends» «right_items»)
         (loadAnswer (now (file .entry))
-        (listsOf (now (tags .entry)) (now («left_numbers» .entry)) (now («left_ends» .entry)) (now («left_items» .entry))
-        (now («right_numbers» .entry)) (now («right_ends» .entry)) (now («right_items» .entry)))) ⌝ }
+        (lentLists tags «left_numbers» «left_ends» «left_items» «right_numbers» «right_ends» «right_items»)) ⌝ }
 {
     *answer = tag_file::answers::load_words(tag_loader::load(
         file,
@@ -175,16 +171,12 @@ pub extern "C" fn kitfinder_load_pooled(
     answer: &mut [u64; 10],
 )
     ensures answer { λ _. ⌜ now (answer .exit) ≡ loadWords (pooledAnswer (now (first .entry)) (now (second .entry))
-        (listsOf (now (tags .entry)) (now («left_numbers» .entry)) (now («left_ends» .entry)) (now («left_items» .entry))
-        (now («right_numbers» .entry)) (now («right_ends» .entry)) (now («right_items» .entry)))) ⌝ }
+        (lentLists tags «left_numbers» «left_ends» «left_items» «right_numbers» «right_ends» «right_items»)) ⌝ }
     ensures lists { λ _. ⌜ PooledCall (now (first .entry)) (now (second .entry))
-        (listsOf (now (tags .entry)) (now («left_numbers» .entry)) (now («left_ends» .entry)) (now («left_items» .entry))
-        (now («right_numbers» .entry)) (now («right_ends» .entry)) (now («right_items» .entry)))
-        (listsOf (now (tags .exit)) (now («left_numbers» .exit)) (now («left_ends» .exit)) (now («left_items» .exit))
-        (now («right_numbers» .exit)) (now («right_ends» .exit)) (now («right_items» .exit)))
+        (lentLists tags «left_numbers» «left_ends» «left_items» «right_numbers» «right_ends» «right_items»)
+        (returnedLists tags «left_numbers» «left_ends» «left_items» «right_numbers» «right_ends» «right_items»)
         (pooledAnswer (now (first .entry)) (now (second .entry))
-        (listsOf (now (tags .entry)) (now («left_numbers» .entry)) (now («left_ends» .entry)) (now («left_items» .entry))
-        (now («right_numbers» .entry)) (now («right_ends» .entry)) (now («right_items» .entry)))) ⌝ }
+        (lentLists tags «left_numbers» «left_ends» «left_items» «right_numbers» «right_ends» «right_items»)) ⌝ }
 {
     *answer = tag_file::answers::load_words(pool_loader::load_pooled(
         first,
@@ -214,11 +206,9 @@ pub extern "C" fn kitfinder_write(
     answer: &mut [u64; 4],
 )
     ensures answer { λ _. ⌜ now (answer .exit) ≡ writeWords (writeAnswer t
-        (listsOf (now (tags .entry)) (now («left_numbers» .entry)) (now («left_ends» .entry)) (now («left_items» .entry))
-        (now («right_numbers» .entry)) (now («right_ends» .entry)) (now («right_items» .entry))) (length (now (file .entry)))) ⌝ }
+        (lentLists tags «left_numbers» «left_ends» «left_items» «right_numbers» «right_ends» «right_items») (length (now (file .entry)))) ⌝ }
     ensures file { λ _. ⌜ now (file .exit) ≡ writtenFile t
-        (listsOf (now (tags .entry)) (now («left_numbers» .entry)) (now («left_ends» .entry)) (now («left_items» .entry))
-        (now («right_numbers» .entry)) (now («right_ends» .entry)) (now («right_items» .entry))) (now (file .entry)) ⌝ }
+        (lentLists tags «left_numbers» «left_ends» «left_items» «right_numbers» «right_ends» «right_items») (now (file .entry)) ⌝ }
 {
     *answer = tag_writer_spec::write_words(tag_writer::write(
         t,

@@ -6,7 +6,7 @@ use tag_index::HINT_SLOTS;
 use tag_index::INDEX_ROOM;
 use tag_scan::scan_records;
 use tag_scan::used_numbers::USED_WORDS;
-ghost use Rattle.tag_file.specs.Loading.{listsOf};
+ghost use Rattle.tag_file.specs.Loading.{lentLists, returnedLists};
 ghost use Rattle.pool_loader_spec.specs.Pooling.{PooledCall};
 ghost use Rattle.tag_scan.specs.Scan.{Lengths, Scanned};
 
@@ -46,12 +46,8 @@ pub fn load_pooled(
     right_items: &mut [u16],
 ) -> LoadAnswer
     ensures { λ r. ⌜ PooledCall (now (first .entry)) (now (second .entry))
-        (listsOf (now (tags .entry))
-        (now («left_numbers» .entry)) (now («left_ends» .entry)) (now («left_items» .entry))
-        (now («right_numbers» .entry)) (now («right_ends» .entry)) (now («right_items» .entry)))
-        (listsOf (now (tags .exit))
-        (now («left_numbers» .exit)) (now («left_ends» .exit)) (now («left_items» .exit))
-        (now («right_numbers» .exit)) (now («right_ends» .exit)) (now («right_items» .exit))) r ⌝ }
+        (lentLists tags «left_numbers» «left_ends» «left_items» «right_numbers» «right_ends» «right_items»)
+        (returnedLists tags «left_numbers» «left_ends» «left_items» «right_numbers» «right_ends» «right_items») r ⌝ }
 {
     let mut heads = [0usize; INDEX_ROOM];
     let mut tails = [0u32; INDEX_ROOM];

@@ -14,7 +14,7 @@ use tag_index::tag_items::rank_ids;
 use tag_loader::fill::fill_side;
 use tag_loader::lent_lists::clear_lists;
 use tag_loader::tag_table::fill_tags;
-ghost use Rattle.tag_file.specs.Loading.{listsOf};
+ghost use Rattle.tag_file.specs.Loading.{lentLists, returnedLists, listsNow};
 ghost use Rattle.pool_loader_spec.specs.Pooling.{pooledRecords, PooledCall};
 ghost use Rattle.tag_scan.specs.Scan.{Scanned};
 ghost use Rattle.tag_loader.specs.Passes.{AllFilled};
@@ -99,16 +99,10 @@ fn fill_pooled(
     right_items: &mut [u16],
 )
     requires { ⌜ PoolFillable (now first) (now second) (now heads) (now tails) (now order) n (now used) (now counts) (now slots)
-        (listsOf (now tags)
-        (now «left_numbers») (now «left_ends») (now «left_items»)
-        (now «right_numbers») (now «right_ends») (now «right_items»)) ⌝ }
+        (listsNow tags «left_numbers» «left_ends» «left_items» «right_numbers» «right_ends» «right_items») ⌝ }
     ensures { λ _. ⌜ AllFilled (pooledRecords (now (first .entry)) (now (second .entry)))
-        (listsOf (now (tags .entry))
-        (now («left_numbers» .entry)) (now («left_ends» .entry)) (now («left_items» .entry))
-        (now («right_numbers» .entry)) (now («right_ends» .entry)) (now («right_items» .entry)))
-        (listsOf (now (tags .exit))
-        (now («left_numbers» .exit)) (now («left_ends» .exit)) (now («left_items» .exit))
-        (now («right_numbers» .exit)) (now («right_ends» .exit)) (now («right_items» .exit))) ⌝ }
+        (lentLists tags «left_numbers» «left_ends» «left_items» «right_numbers» «right_ends» «right_items»)
+        (returnedLists tags «left_numbers» «left_ends» «left_items» «right_numbers» «right_ends» «right_items») ⌝ }
 {
     let mut ranks = [0u16; INDEX_ROOM];
     rank_ids(order, n, &mut ranks);
@@ -163,12 +157,8 @@ pub fn pool_second(
 ) -> LoadAnswer
     requires { ⌜ Scanned (now first) (now heads) (now tails) (now order) answer ⌝ }
     ensures { λ r. ⌜ PooledCall (now (first .entry)) (now (second .entry))
-        (listsOf (now (tags .entry))
-        (now («left_numbers» .entry)) (now («left_ends» .entry)) (now («left_items» .entry))
-        (now («right_numbers» .entry)) (now («right_ends» .entry)) (now («right_items» .entry)))
-        (listsOf (now (tags .exit))
-        (now («left_numbers» .exit)) (now («left_ends» .exit)) (now («left_items» .exit))
-        (now («right_numbers» .exit)) (now («right_ends» .exit)) (now («right_items» .exit))) r ⌝ }
+        (lentLists tags «left_numbers» «left_ends» «left_items» «right_numbers» «right_ends» «right_items»)
+        (returnedLists tags «left_numbers» «left_ends» «left_items» «right_numbers» «right_ends» «right_items») r ⌝ }
 {
     let mut used = [0u64; NUMBER_WORDS];
     let mut counts = [0u16; BLOCKS];

@@ -6,6 +6,8 @@ use mathlib.Core.List.{List, [], _∷_, _++_, map}
 use mathlib.Core.Bool.{Bool, not, _&&_, _||_}
 use lib.Dec.{eqb, leb, ltb}
 use lib.ListN.{length}
+use denote.Ref.{RefT}
+use denote.Triple.Both.{Both}
 use Rattle.lists.specs.Lists.{any}
 use Rattle.sets.specs.Limits.{maxItems, maxSets, maxEntries}
 use Rattle.sets.specs.Refusals.{refuseIf, unless}
@@ -164,6 +166,29 @@ listsOf tags leftNumbers leftEnds leftItems rightNumbers rightEnds rightItems =
       rightEnds = rightEnds;
       rightItems = rightItems;
     }
+
+-- a list that is lent to a call, as its contract has it: at entry and at exit
+abbrev pub LentList : Type 0
+LentList = Both (RefT (List ℕ)) (RefT (List ℕ))
+
+-- seven lent lists as they come
+abbrev pub lentLists : LentList → LentList → LentList → LentList → LentList → LentList → LentList → Lists
+lentLists tags leftNumbers leftEnds leftItems rightNumbers rightEnds rightItems =
+    listsOf (tags .entry .now) (leftNumbers .entry .now) (leftEnds .entry .now) (leftItems .entry .now)
+    (rightNumbers .entry .now) (rightEnds .entry .now) (rightItems .entry .now)
+
+-- the same as they go back
+abbrev pub returnedLists : LentList → LentList → LentList → LentList → LentList → LentList → LentList → Lists
+returnedLists tags leftNumbers leftEnds leftItems rightNumbers rightEnds rightItems =
+    listsOf (tags .exit .now) (leftNumbers .exit .now) (leftEnds .exit .now) (leftItems .exit .now)
+    (rightNumbers .exit .now) (rightEnds .exit .now) (rightItems .exit .now)
+
+-- and as a `requires` has them
+abbrev pub listsNow : RefT (List ℕ) → RefT (List ℕ) → RefT (List ℕ) → RefT (List ℕ) → RefT (List ℕ) → RefT (List ℕ)
+    → RefT (List ℕ) → Lists
+listsNow tags leftNumbers leftEnds leftItems rightNumbers rightEnds rightItems =
+    listsOf (tags .now) (leftNumbers .now) (leftEnds .now) (leftItems .now)
+    (rightNumbers .now) (rightEnds .now) (rightItems .now)
 
 -- a load of a file into seven lent lists: what is answered, and each list afterwards
 pub record LoadCall (file : List ℕ) (before after : Lists) (answer : LoadAnswer) : Type 0 where

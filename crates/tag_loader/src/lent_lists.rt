@@ -5,7 +5,7 @@ use lists::zero_u32;
 use tag_file::Loaded;
 use tag_file::TAG_LENGTH;
 ghost use mathlib.Core.Path.{_≡_};
-ghost use Rattle.tag_file.specs.Loading.{listsOf};
+ghost use Rattle.tag_file.specs.Loading.{lentLists, returnedLists};
 ghost use Rattle.tag_scan.specs.totals.Totals.{Limited};
 ghost use Rattle.tag_loader.specs.lent_lists.Room.{sideFits, SideCleared, AllCleared, hasRoom};
 
@@ -37,12 +37,8 @@ pub fn clear_lists(
     right_items: &mut [u16],
 )
     ensures { λ _. ⌜ AllCleared
-        (listsOf (now (tags .entry))
-        (now («left_numbers» .entry)) (now («left_ends» .entry)) (now («left_items» .entry))
-        (now («right_numbers» .entry)) (now («right_ends» .entry)) (now («right_items» .entry)))
-        (listsOf (now (tags .exit))
-        (now («left_numbers» .exit)) (now («left_ends» .exit)) (now («left_items» .exit))
-        (now («right_numbers» .exit)) (now («right_ends» .exit)) (now («right_items» .exit))) ⌝ }
+        (lentLists tags «left_numbers» «left_ends» «left_items» «right_numbers» «right_ends» «right_items»)
+        (returnedLists tags «left_numbers» «left_ends» «left_items» «right_numbers» «right_ends» «right_items») ⌝ }
 {
     zero_u8(tags);
     clear_side(left_numbers, left_ends, left_items);

@@ -14,7 +14,7 @@ use tag_index::tag_items::rank_ids;
 use tag_scan::scan_records;
 use tag_scan::used_numbers::USED_WORDS;
 ghost use Rattle.tag_file.specs.Records.{records};
-ghost use Rattle.tag_file.specs.Loading.{listsOf, LoadCall};
+ghost use Rattle.tag_file.specs.Loading.{lentLists, returnedLists, listsNow, LoadCall};
 ghost use Rattle.tag_scan.specs.Scan.{Lengths, Scanned};
 ghost use Rattle.tag_loader.specs.Passes.{AllFilled, Fillable};
 
@@ -58,16 +58,11 @@ fn fill_lists(
     right_ends: &mut [u32],
     right_items: &mut [u16],
 )
-    requires { ⌜ Fillable (now file) (now heads) (now tails) (now order) n (listsOf (now tags)
-        (now «left_numbers») (now «left_ends») (now «left_items»)
-        (now «right_numbers») (now «right_ends») (now «right_items»)) ⌝ }
+    requires { ⌜ Fillable (now file) (now heads) (now tails) (now order) n
+        (listsNow tags «left_numbers» «left_ends» «left_items» «right_numbers» «right_ends» «right_items») ⌝ }
     ensures { λ _. ⌜ AllFilled (records (now (file .entry)))
-        (listsOf (now (tags .entry))
-        (now («left_numbers» .entry)) (now («left_ends» .entry)) (now («left_items» .entry))
-        (now («right_numbers» .entry)) (now («right_ends» .entry)) (now («right_items» .entry)))
-        (listsOf (now (tags .exit))
-        (now («left_numbers» .exit)) (now («left_ends» .exit)) (now («left_items» .exit))
-        (now («right_numbers» .exit)) (now («right_ends» .exit)) (now («right_items» .exit))) ⌝ }
+        (lentLists tags «left_numbers» «left_ends» «left_items» «right_numbers» «right_ends» «right_items»)
+        (returnedLists tags «left_numbers» «left_ends» «left_items» «right_numbers» «right_ends» «right_items») ⌝ }
 {
     let mut ranks = [0u16; INDEX_ROOM];
     rank_ids(order, n, &mut ranks);
@@ -112,12 +107,8 @@ pub fn load(
     right_items: &mut [u16],
 ) -> LoadAnswer
     ensures { λ r. ⌜ LoadCall (now (file .entry))
-        (listsOf (now (tags .entry))
-        (now («left_numbers» .entry)) (now («left_ends» .entry)) (now («left_items» .entry))
-        (now («right_numbers» .entry)) (now («right_ends» .entry)) (now («right_items» .entry)))
-        (listsOf (now (tags .exit))
-        (now («left_numbers» .exit)) (now («left_ends» .exit)) (now («left_items» .exit))
-        (now («right_numbers» .exit)) (now («right_ends» .exit)) (now («right_items» .exit))) r ⌝ }
+        (lentLists tags «left_numbers» «left_ends» «left_items» «right_numbers» «right_ends» «right_items»)
+        (returnedLists tags «left_numbers» «left_ends» «left_items» «right_numbers» «right_ends» «right_items») r ⌝ }
 {
     let mut heads = [0usize; INDEX_ROOM];
     let mut tails = [0u32; INDEX_ROOM];

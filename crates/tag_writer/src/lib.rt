@@ -9,7 +9,7 @@ use sets::Tested;
 use tag_writer_spec::WriteAnswer;
 ghost use mathlib.Core.Path.{_≡_};
 ghost use lib.ListN.{length};
-ghost use Rattle.tag_file.specs.Loading.{listsOf};
+ghost use Rattle.tag_file.specs.Loading.{lentLists, listsNow};
 ghost use Rattle.tag_writer_spec.specs.Writer.{fileBytes, tableTest, numberedTest, listsTest};
 ghost use Rattle.tag_writer_spec.specs.Writer.{writtenWithin, fileAfter, WriteCall};
 ghost use Rattle.tag_writer_spec.specs.Room.{GoodLists};
@@ -58,9 +58,8 @@ fn test_lists(
     right_ends: &[u32],
     right_items: &[u16],
 ) -> Tested
-    ensures { λ r. ⌜ r ≡ listsTest t (listsOf (now (tags .entry))
-        (now («left_numbers» .entry)) (now («left_ends» .entry)) (now («left_items» .entry))
-        (now («right_numbers» .entry)) (now («right_ends» .entry)) (now («right_items» .entry))) ⌝ }
+    ensures { λ r. ⌜ r ≡ listsTest t
+        (lentLists tags «left_numbers» «left_ends» «left_items» «right_numbers» «right_ends» «right_items») ⌝ }
 {
     let table = test_table(t, tags);
     if let Tested::Failed(why) = table {
@@ -84,14 +83,11 @@ fn write_good(
     right_items: &[u16],
     file: &mut [u8],
 ) -> WriteAnswer
-    requires { ⌜ GoodLists (listsOf (now tags) (now «left_numbers») (now «left_ends») (now «left_items»)
-        (now «right_numbers») (now «right_ends») (now «right_items»)) ⌝ }
-    ensures answer { λ r. ⌜ r ≡ writtenWithin (length (now (file .entry))) (fileBytes (listsOf (now (tags .entry))
-        (now («left_numbers» .entry)) (now («left_ends» .entry)) (now («left_items» .entry))
-        (now («right_numbers» .entry)) (now («right_ends» .entry)) (now («right_items» .entry)))) ⌝ }
-    ensures file { λ r. ⌜ now (file .exit) ≡ fileAfter r (fileBytes (listsOf (now (tags .entry))
-        (now («left_numbers» .entry)) (now («left_ends» .entry)) (now («left_items» .entry))
-        (now («right_numbers» .entry)) (now («right_ends» .entry)) (now («right_items» .entry)))) (now (file .entry)) ⌝ }
+    requires { ⌜ GoodLists (listsNow tags «left_numbers» «left_ends» «left_items» «right_numbers» «right_ends» «right_items») ⌝ }
+    ensures answer { λ r. ⌜ r ≡ writtenWithin (length (now (file .entry))) (fileBytes
+        (lentLists tags «left_numbers» «left_ends» «left_items» «right_numbers» «right_ends» «right_items»)) ⌝ }
+    ensures file { λ r. ⌜ now (file .exit) ≡ fileAfter r (fileBytes
+        (lentLists tags «left_numbers» «left_ends» «left_items» «right_numbers» «right_ends» «right_items»)) (now (file .entry)) ⌝ }
 {
     let left = side_length(left_ends);
     let right = side_length(right_ends);
@@ -132,9 +128,7 @@ pub fn write(
     right_items: &[u16],
     file: &mut [u8],
 ) -> WriteAnswer
-    ensures { λ r. ⌜ WriteCall t (listsOf (now (tags .entry))
-        (now («left_numbers» .entry)) (now («left_ends» .entry)) (now («left_items» .entry))
-        (now («right_numbers» .entry)) (now («right_ends» .entry)) (now («right_items» .entry)))
+    ensures { λ r. ⌜ WriteCall t (lentLists tags «left_numbers» «left_ends» «left_items» «right_numbers» «right_ends» «right_items»)
         (now (file .entry)) (now (file .exit)) r ⌝ }
 {
     let tested = test_lists(
