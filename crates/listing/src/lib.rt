@@ -53,7 +53,7 @@ fn list_counted(
         (now («right_numbers» .entry)) (now («right_ends» .entry)) (now («right_items» .entry)))
         (now (text .entry)) r (now (text .exit)) ⌝ }
 {
-    let items = loaded.tags;
+    let items = loaded.tag_count;
     let left_sets = loaded.left_sets;
     let right_sets = loaded.right_sets;
     let left_entries = loaded.left_entries;

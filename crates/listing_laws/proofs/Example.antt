@@ -1,7 +1,7 @@
 -- Document 01's example of the program, computed: the whole text of its file, with document 02's line of repeats.
 use mathlib.Core.Path.{_≡_, refl}
 use Prim.Native.Nat.{ℕ}
-use mathlib.Core.List.{List, [], _∷_, _++_}
+use mathlib.Core.List.{List, [], _∷_, _++_, flatten}
 use Rattle.lists.specs.Lists.{all, any, count, sum, keep, memb, range, rising, risingAfter, distinct, prefix}
 use Rattle.sets.specs.Collections.{setsFrom, contained, firstBadFrom, badSet, lastEnd}
 use Rattle.sets.specs.Ordered.{ordered, isPermutation}
@@ -17,7 +17,7 @@ use Rattle.tag_file.specs.Format.{valueFrom, bytesOf, tagBytes}
 use Rattle.tag_file.specs.Reading.{readAt, tagsAt}
 use Rattle.tag_file.specs.Records.{recordsFrom, insert, insertAll, allTags, itemsOf}
 use Rattle.tag_file.specs.Repeats.{repeatsIn}
-use Rattle.tag_file.specs.Loading.{fileFault, firstFault, faultOf, tooMany, endsFrom, join}
+use Rattle.tag_file.specs.Loading.{fileFault, firstFault, faultOf, tooMany, endsFrom}
 use Rattle.text.specs.Lines.{ascii, decimalFrom, decimal, refusedLine, countsLine, repeatsLine, pairLine, pairLines}
 use Rattle.join_text.specs.JoinText.{joinText}
 use Rattle.listing_spec.specs.Listing.{listing}
@@ -34,7 +34,7 @@ pub example-listing : listing file ≡ ascii "pairs 1 path 1 confirmed 0 checks 
 unfolding listing joinText joinAnswer joinTests walkAnswer badSettings setsTest wordsNeeded workTest rankTable pairsFrom rowFrom
     seen goesOn goesOnAt ending endingFrom isCandidate goes endingIn outcome total isPermutation ordered position signatureFrom
     setsFrom contained firstBadFrom badSet lastEnd fileFault firstFault faultOf tooMany readAt tagsAt recordsFrom valueFrom
-    bytesOf tagBytes insert insertAll allTags itemsOf endsFrom join all any count sum keep memb range rising risingAfter distinct prefix
+    bytesOf tagBytes insert insertAll allTags itemsOf endsFrom flatten all any count sum keep memb range rising risingAfter distinct prefix
     repeatsIn decimalFrom decimal refusedLine countsLine repeatsLine pairLine pairLines
 example-listing = refl
 

@@ -16,7 +16,7 @@ use Rattle.sets.specs.declared.Tested.the-variants.{Passed}
 use Rattle.tag_file.specs.Format.{tagLength}
 use Rattle.tag_file.specs.Records.{TagRecord, records, totalLength, sameSide, ofSide, entriesOf, collapse, tagTable}
 use Rattle.tag_file.specs.Loading.{Lists, fileFault, filled, fits, roomFor}
-use Rattle.tag_file.proofs.ItemCount.{length-tagBytes, length-numbersOf, length-endsOf, length-joinedItems}
+use Rattle.tag_file.proofs.ItemCount.{length-tagBytes, length-numbersOf, length-endsOf, length-flatItems}
 use Rattle.tag_round_trip.proofs.Sorted.{length-collapse}
 use Rattle.tag_file.proofs.FaultFree.{FaultFree, file-free}
 use Rattle.tag_containment.proofs.Covered.{records-cover}
@@ -64,9 +64,9 @@ module _ (file : List ℕ) (clear : fileFault file ≡ Passed) where
       and-both (fits-lent (f .tags) (lent .tags) _ _ (length-tagBytes (tagTable rs)) (omega (arith, free .tags)) (l .tags))
       (and-both (fits-lent (f .leftNumbers) (lent .leftNumbers) _ _ (length-numbersOf Left rs) (free .places Left) (l .leftNumbers))
       (and-both (fits-lent (f .leftEnds) (lent .leftEnds) _ _ (length-endsOf Left rs) (free .places Left) (l .leftEnds))
-      (and-both (fits-lent (f .leftItems) (lent .leftItems) _ _ (length-joinedItems Left rs) (few-entries short Left) (l .leftItems))
+      (and-both (fits-lent (f .leftItems) (lent .leftItems) _ _ (length-flatItems Left rs) (few-entries short Left) (l .leftItems))
       (and-both
       (fits-lent (f .rightNumbers) (lent .rightNumbers) _ _ (length-numbersOf Right rs) (free .places Right) (l .rightNumbers))
       (and-both (fits-lent (f .rightEnds) (lent .rightEnds) _ _ (length-endsOf Right rs) (free .places Right) (l .rightEnds))
-      (fits-lent (f .rightItems) (lent .rightItems) _ _ (length-joinedItems Right rs) (few-entries short Right)
+      (fits-lent (f .rightItems) (lent .rightItems) _ _ (length-flatItems Right rs) (few-entries short Right)
       (l .rightItems)))))))

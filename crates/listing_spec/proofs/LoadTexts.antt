@@ -17,7 +17,7 @@ use Rattle.tag_file.specs.declared.LoadAnswer.{LoadAnswer}
 use Rattle.tag_file.specs.declared.LoadAnswer.the-variants as load
 use Rattle.tag_file.specs.Records.{records}
 use Rattle.tag_file.specs.Loading.{Lists, fileFault, filled, totalsOf, loadAnswer, LoadCall}
-use Rattle.tag_file.proofs.ItemCount.{length-numbersOf, length-endsOf, length-joinedItems}
+use Rattle.tag_file.proofs.ItemCount.{length-numbersOf, length-endsOf, length-flatItems}
 use Rattle.tag_file.proofs.AnswerLaws.{accepted, accepts, refuses-fault, room-each}
 use Rattle.tag_containment.proofs.LoadedLists.{load-counts, load-repeats, load-filled}
 use Rattle.text.specs.Lines.{refusalLine}
@@ -47,8 +47,8 @@ module _ (file : List ℕ) {lent got : Lists} {answer : LoadAnswer} (call : Load
         (got .rightEnds) (got .rightItems) ≡ shortText file
     loaded-text =
         let clear = accepted file lent loaded repeats (sym (loaded-call .answered)) .clear in
-        ap₂ (listsText repeats) (ap (λ (c : Loaded). c .tags) (load-counts file loaded-call)) (load-filled file loaded-call)
-        ∙ ap (λ (r : Repeats). listsText r (totalsOf (records file) .tags) (filled (records file)))
+        ap₂ (listsText repeats) (ap (λ (c : Loaded). c .«tag_count») (load-counts file loaded-call)) (load-filled file loaded-call)
+        ∙ ap (λ (r : Repeats). listsText r (totalsOf (records file) .«tag_count») (filled (records file)))
         (load-repeats file loaded-call)
         ∙ ap (λ (t : Tested). unless refusalLine t (recordsText (records file))) (sym clear)
 
@@ -71,10 +71,10 @@ module _ (file : List ℕ) {lent got : Lists} {answer : LoadAnswer} (call : Load
           few-items = free .tags;
           left-numbered = omega (arith, each .leftNumbers, length-numbersOf Left rs, a);
           left-ended = omega (arith, each .leftEnds, length-endsOf Left rs, b);
-          left-filled = omega (arith, each .leftItems, length-joinedItems Left rs, c);
+          left-filled = omega (arith, each .leftItems, length-flatItems Left rs, c);
           right-numbered = omega (arith, each .rightNumbers, length-numbersOf Right rs, d);
           right-ended = omega (arith, each .rightEnds, length-endsOf Right rs, e);
-          right-filled = omega (arith, each .rightItems, length-joinedItems Right rs, f);
+          right-filled = omega (arith, each .rightItems, length-flatItems Right rs, f);
           ranked = omega (arith, free .tags);
           room = room;
         })

@@ -20,20 +20,20 @@ sideItems = maxFile / tagLength
 
 -- the counts lie within lists of numbers, ends, items and ranks, and there is room for the text
 pub record Within (loaded : Loaded) (leftNumbers leftEnds leftItems rightNumbers rightEnds rightItems ranks text : List ℕ) : Type 0 where
-  pub few-items : loaded .tags ≤ maxItems
+  pub few-items : loaded .«tag_count» ≤ maxItems
   pub left-numbered : loaded .«left_sets» ≤ length leftNumbers
   pub left-ended : loaded .«left_sets» ≤ length leftEnds
   pub left-filled : loaded .«left_entries» ≤ length leftItems
   pub right-numbered : loaded .«right_sets» ≤ length rightNumbers
   pub right-ended : loaded .«right_sets» ≤ length rightEnds
   pub right-filled : loaded .«right_entries» ≤ length rightItems
-  pub ranked : loaded .tags ≤ length ranks
+  pub ranked : loaded .«tag_count» ≤ length ranks
   pub room : textRoom ≤ length text
 
 -- the text of lists of which these counts are filled, with these repeats
 abbrev pub cutText : Loaded → Repeats → List ℕ → List ℕ → List ℕ → List ℕ → List ℕ → List ℕ → List ℕ
 cutText loaded repeats leftNumbers leftEnds leftItems rightNumbers rightEnds rightItems =
     let i =
-    inputOf (loaded .tags) (take (loaded .«left_sets») leftEnds) (take (loaded .«left_entries») leftItems)
+    inputOf (loaded .«tag_count») (take (loaded .«left_sets») leftEnds) (take (loaded .«left_entries») leftItems)
     (take (loaded .«right_sets») rightEnds) (take (loaded .«right_entries») rightItems) in
     joinText repeats (take (loaded .«left_sets») leftNumbers) (take (loaded .«right_sets») rightNumbers) i (programSettings i)

@@ -12,7 +12,7 @@ use Rattle.sets.specs.declared.Tested.{Tested}
 use Rattle.inputs.specs.Input.{Input, inputOf}
 use Rattle.tag_file.specs.Records.{TagRecord, records, tagTable}
 use Rattle.tag_file.specs.Repeats.{repeatTotals}
-use Rattle.tag_file.specs.Loading.{fileFault, numbersOf, endsOf, joinedItems}
+use Rattle.tag_file.specs.Loading.{fileFault, numbersOf, endsOf, flatItems}
 use Rattle.text.specs.Lines.{refusalLine}
 use Rattle.join_text.specs.JoinText.{programSettings, joinText}
 
@@ -23,7 +23,7 @@ maxFile = 65536
 -- what records give to the join: their distinct tags as T, and the sets of each side
 abbrev pub recordsInput : List TagRecord → Input
 recordsInput rs =
-    inputOf (length (tagTable rs)) (endsOf Left rs) (joinedItems Left rs) (endsOf Right rs) (joinedItems Right rs)
+    inputOf (length (tagTable rs)) (endsOf Left rs) (flatItems Left rs) (endsOf Right rs) (flatItems Right rs)
 
 -- the text of records without a fault, with their repeats
 abbrev pub recordsText : List TagRecord → List ℕ

@@ -1,7 +1,7 @@
 -- The walk over the first file: its invariant, with its start, and its step over a left set. The right sets that were passed are
 -- written with room for their unions, and their slots tell where they stand; the slots of the others are as before.
 use mathlib.Core.Path.{_≡_, refl, sym, ap, subst, _∙_}
-use mathlib.Core.List.{List, [], _∷_, _++_, map, append-assoc}
+use mathlib.Core.List.{List, [], _∷_, _++_, map, append-assoc, flatten}
 use mathlib.Core.Bool.{Bool, false, cond}
 use Prim.Native.Nat.{ℕ, _+_}
 use native.Mathlib.Omega.{arith}
@@ -16,7 +16,7 @@ use Rattle.sets.specs.declared.Side.{Side}
 use Rattle.sets.specs.declared.Side.the-variants.{Right}
 use Rattle.tag_file.specs.Reading.{readAt, tagsAt}
 use Rattle.tag_file.specs.Records.{TagRecord, recordsAt, records, sameSide, ofSide, itemsOf, setsOfSide}
-use Rattle.tag_file.specs.Loading.{numbersOf, join}
+use Rattle.tag_file.specs.Loading.{numbersOf}
 use Rattle.tag_file.specs.declared.ReadAnswer.the-variants.{Record}
 use Rattle.tag_file.proofs.FaultFree.{side-other}
 use Rattle.tag_file.proofs.RecordLaws.{records-next}
@@ -26,12 +26,12 @@ use Rattle.tag_index.specs.Index.{tableOf}
 use Rattle.tag_loader.specs.declared.record_items.Filled.{Filled}
 use Rattle.tag_loader.specs.record_items.Marks.{markWords, Unmarked}
 use Rattle.tag_loader.proofs.record_items.Marks.{unmarked-zeros}
-use Rattle.pool_scan.specs.right_slots.Slots.{slotOf, AtSlots}
+use Rattle.pool_scan.specs.right_slots.Slots.{numberSlot, AtSlots}
 use Rattle.pool_scan.proofs.right_slots.Splits.{two-splits}
 use Rattle.pool_fill.specs.own_sets.Own.{placeWord}
 use Rattle.pool_fill.specs.Pool.{PoolFillReady}
 use Rattle.pool_fill.proofs.Laying.{Block, size}
-use Rattle.pool_fill.proofs.Placing.{Placing, placing-start}
+use Rattle.pool_fill.proofs.SetPlacing.{SetPlacing, placing-start}
 use Rattle.pool_fill.proofs.Unions.{keep-without, partOf}
 use Rattle.pool_fill.proofs.PooledSets.{isNew, pooled-sets}
 
@@ -41,13 +41,13 @@ blockOf table all seen r = record { whole = partOf table all r; part = partOf ta
 
 -- where the right sets after some records begin
 abbrev pub startOf : List ℕ → List TagRecord → List TagRecord → ℕ
-startOf table all before = length (join (map (partOf table all) (ofSide Right before)))
+startOf table all before = length (flatten (map (partOf table all) (ofSide Right before)))
 
 -- the word of a slot when k records were passed
 abbrev pub walkWord : List ℕ → List TagRecord → List ℕ → List ℕ → ℕ → List TagRecord → TagRecord → ℕ
 walkWord table all used slots k before r =
     cond (ltb (length before) k) (placeWord (startOf table all before) (length (itemsOf table (r .tags))))
-    (getD slots (slotOf used (r .number)) 0)
+    (getD slots (numberSlot used (r .number)) 0)
 
 -- passing a record changes no other's
 pub walk-same : (table : List ℕ) (all : List TagRecord) (used slots : List ℕ) (xs passed : List TagRecord) (r : TagRecord)
@@ -71,13 +71,13 @@ walk-same table all used slots xs passed r rest e b s a f never =
         → walkWord table all used slots (length (passed ++ (r ∷ []))) b s ≡ walkWord table all used slots (length passed) b s
     alike same =
         ap (λ (c : Bool). cond c (placeWord (startOf table all b) (length (itemsOf table (s .tags))))
-        (getD slots (slotOf used (s .number)) 0)) same
+        (getD slots (numberSlot used (s .number)) 0)) same
 
 pub record FirstWalk (first second table used slots₀ numbers₀ ends₀ items₀ slots numbers ends items marks : List ℕ) (done : Filled)
     (at : ℕ) : Type 0 where
   pub passed : List TagRecord
   pub split : records first ≡ passed ++ recordsAt first at
-  pub placing : Placing (numbersOf Right (pooled (records first) (records second)))
+  pub placing : SetPlacing (numbersOf Right (pooled (records first) (records second)))
       (setsOfSide Right table (pooled (records first) (records second)))
       numbers₀ ends₀ items₀ numbers ends items done
       (map (blockOf table (ofSide Right (records second)) []) (ofSide Right passed))
@@ -89,10 +89,10 @@ pub record FirstWalk (first second table used slots₀ numbers₀ ends₀ items�
   pub long : length slots ≡ maxSets
   pub unmarked : Unmarked marks
 
-module _ {first second heads tails : List ℕ} {n : ℕ} {order ranks used counts slots₀ numbers₀ ends₀ items₀ : List ℕ}
-    (ready : PoolFillReady first second heads tails n order ranks used counts slots₀ numbers₀ ends₀ items₀) where
+module _ {first second heads tails : List ℕ} {n : ℕ} {ids ranks used counts slots₀ numbers₀ ends₀ items₀ : List ℕ}
+    (ready : PoolFillReady first second heads tails n ids ranks used counts slots₀ numbers₀ ends₀ items₀) where
   abbrev table : List ℕ
-  table = tableOf heads tails n order
+  table = tableOf heads tails n ids
 
   abbrev firsts : List TagRecord
   firsts = records first
@@ -114,11 +114,11 @@ module _ {first second heads tails : List ℕ} {n : ℕ} {order ranks used count
         passed = [];
         split = refl;
         placing =
-            subst (λ (l : List (List ℕ)). Placing (numbersOf Right (pooled firsts (records second)))
+            subst (λ (l : List (List ℕ)). SetPlacing (numbersOf Right (pooled firsts (records second)))
             (setsOfSide Right table (pooled firsts (records second))) numbers₀ ends₀ items₀ numbers₀ ends₀ items₀
             (record { sets = 0; entries = 0 }) [] (map (λ r. r .number) (ofSide Right firsts) ++ new-numbers) l)
             (pooled-sets firsts (records second) table)
-            (subst (λ (l : List ℕ). Placing (numbersOf Right (pooled firsts (records second)))
+            (subst (λ (l : List ℕ). SetPlacing (numbersOf Right (pooled firsts (records second)))
             (setsOfSide Right table (pooled firsts (records second))) numbers₀ ends₀ items₀ numbers₀ ends₀ items₀
             (record { sets = 0; entries = 0 }) [] l (setsOfSide Right table (pooled firsts (records second))))
             (numbers-pooled firsts (records second))
@@ -127,7 +127,7 @@ module _ {first second heads tails : List ℕ} {n : ℕ} {order ranks used count
             numbers₀ ends₀ items₀ (ready .for-numbers) (ready .for-ends) (ready .for-items)));
         words = λ b s a e right.
             sym (ap (λ (c : Bool). cond c (placeWord (startOf table seconds b) (length (itemsOf table (s .tags))))
-            (getD slots₀ (slotOf used (s .number)) 0)) (le-ltb (length b) 0 (omega arith)));
+            (getD slots₀ (numberSlot used (s .number)) 0)) (le-ltb (length b) 0 (omega arith)));
         long = ready .size;
         unmarked = unmarked-zeros markWords refl;
       }
@@ -164,11 +164,11 @@ module _ {first second heads tails : List ℕ} {n : ℕ} {order ranks used count
           passed = w .passed ++ (this ∷ []);
           split = here-next;
           placing =
-              subst (λ (l : List TagRecord). Placing (numbersOf Right (pooled firsts (records second)))
+              subst (λ (l : List TagRecord). SetPlacing (numbersOf Right (pooled firsts (records second)))
               (setsOfSide Right table (pooled firsts (records second))) numbers₀ ends₀ items₀ numbers ends items done
               (map (blockOf table seconds []) l) (map (λ r. r .number) (ofSide Right rest) ++ new-numbers)
               (map (partOf table seconds) (ofSide Right rest) ++ new-sets)) kept
-              (subst (λ (l : List TagRecord). Placing (numbersOf Right (pooled firsts (records second)))
+              (subst (λ (l : List TagRecord). SetPlacing (numbersOf Right (pooled firsts (records second)))
               (setsOfSide Right table (pooled firsts (records second))) numbers₀ ends₀ items₀ numbers ends items done
               (map (blockOf table seconds []) (ofSide Right (w .passed))) (map (λ r. r .number) l ++ new-numbers)
               (map (partOf table seconds) l ++ new-sets)) gone (w .placing));

@@ -1,14 +1,13 @@
 -- Sets laid out one after the other in a list, each with the part of it that stands there now and the whole that will: one more set
 -- behind the others, another part written at its place, and what the list holds once every part is the whole.
 use mathlib.Core.Path.{_≡_, refl, sym, ap, ap₂, subst, _∙_}
-use mathlib.Core.List.{List, [], _∷_, _++_, map}
+use mathlib.Core.List.{List, [], _∷_, _++_, map, flatten}
 use Prim.Native.Nat.{ℕ, suc, _+_, _-_, _≤_}
 use native.Mathlib.Omega.{arith}
 use lib.ListN.{length, take, drop, set, length-append}
 use lib.Seq.{sets, sets-eq, take-set-le, drop-set-lt, take-at, drop-at, length-take-le, take-add, drop-drop}
 use Rattle.lists.specs.Lists.{slice}
 use Rattle.lists.proofs.Slices.{frame-slice, rest-slice, slice-from, slice-none}
-use Rattle.tag_file.specs.Loading.{join}
 
 -- ---- numbers stored from a place on
 
@@ -33,10 +32,10 @@ slice-sets w at new room =
 
 -- ---- sets one after the other
 
-pub join-append : (a b : List (List ℕ)) → join (a ++ b) ≡ join a ++ join b
-unfolding join
-join-append [] b = refl
-join-append (x ∷ a) b = ap (λ (l : List ℕ). x ++ l) (join-append a b) ∙ sym (assoc x (join a) (join b))
+pub flatten-append : (a b : List (List ℕ)) → flatten (a ++ b) ≡ flatten a ++ flatten b
+unfolding flatten
+flatten-append [] b = refl
+flatten-append (x ∷ a) b = ap (λ (l : List ℕ). x ++ l) (flatten-append a b) ∙ sym (assoc x (flatten a) (flatten b))
   where
     assoc : (x y z : List ℕ) → (x ++ y) ++ z ≡ x ++ (y ++ z)
     assoc [] y z = refl
@@ -55,11 +54,11 @@ parts bs = map (λ b. b .part) bs
 
 -- how much the wholes take
 abbrev pub size : List Block → ℕ
-size bs = length (join (wholes bs))
+size bs = length (flatten (wholes bs))
 
 pub size-cons : (b : Block) (bs : List Block) → size (b ∷ bs) ≡ length (b .whole) + size bs
-unfolding join
-size-cons b bs = length-append (b .whole) (join (wholes bs))
+unfolding flatten
+size-cons b bs = length-append (b .whole) (flatten (wholes bs))
 
 pub record Stands (items : List ℕ) (at : ℕ) (b : Block) : Type 0 where
   pub here : slice at (at + length (b .part)) items ≡ b .part
@@ -85,7 +84,7 @@ laid-high w v m e at (b ∷ bs) h l = (
 -- what stands at the place of a block
 pub laid-at : (w : List ℕ) (at : ℕ) (bs : List Block) (b : Block) (cs : List Block) → Laid w at (bs ++ (b ∷ cs))
     → Stands w (at + size bs) b
-unfolding Laid join
+unfolding Laid flatten
 laid-at w at [] b cs l = let e : at ≡ at + 0 = omega arith in subst (λ (k : ℕ). Stands w k b) e (l .0)
 laid-at w at (x ∷ bs) b cs l =
     let e : at + length (x .whole) + size bs ≡ at + size (x ∷ bs) = omega (arith, size-cons x bs) in
@@ -98,7 +97,7 @@ withPart b p = record { whole = b .whole; part = p }
 pub laid-put : (w : List ℕ) (at : ℕ) (bs : List Block) (b : Block) (cs : List Block) (p : List ℕ) → Laid w at (bs ++ (b ∷ cs))
     → length p ≤ length (b .whole) → at + size bs + length p ≤ length w
     → Laid (sets w (at + size bs) p) at (bs ++ (withPart b p ∷ cs))
-unfolding Laid join
+unfolding Laid flatten
 laid-put w at [] b cs p l fits room =
     let e : at ≡ at + 0 = omega arith in
     let r : at + length p ≤ length w = omega arith in
@@ -125,7 +124,7 @@ laid-put w at (x ∷ bs) b cs p l fits room =
 -- one more block behind the others
 pub laid-add : (w : List ℕ) (at : ℕ) (bs : List Block) (b : Block) → Laid w at bs → Stands w (at + size bs) b
     → Laid w at (bs ++ (b ∷ []))
-unfolding Laid join
+unfolding Laid flatten
 laid-add w at [] b l s = let e : at + 0 ≡ at = omega arith in (subst (λ (k : ℕ). Stands w k b) e s, refl)
 laid-add w at (x ∷ bs) b l s =
     let e : at + size (x ∷ bs) ≡ at + length (x .whole) + size bs = omega (arith, size-cons x bs) in
@@ -151,8 +150,8 @@ tails-same : {a b : List ℕ} {xs ys : List (List ℕ)} → _≡_ {A = List (Lis
 tails-same e = cc
 
 pub laid-whole : (w : List ℕ) (at : ℕ) (bs : List Block) → Laid w at bs → parts bs ≡ wholes bs
-    → take (size bs) (drop at w) ≡ join (wholes bs)
-unfolding Laid join
+    → take (size bs) (drop at w) ≡ flatten (wholes bs)
+unfolding Laid flatten
 laid-whole w at [] l full = refl
 laid-whole w at (b ∷ bs) l full =
     let same : b .part ≡ b .whole = heads-same full in

@@ -2,7 +2,7 @@
 -- sets laid out in a list, each with what stands there now and what will
 pub mod Laying
 -- the lists of a side written set by set, each with room for its whole
-pub mod Placing
+pub mod SetPlacing
 -- records of two files, and the unions of their right sets
 pub mod Unions
 -- the right sets of the pooled records

@@ -1,7 +1,7 @@
 -- The walk over the second file at a right set that the first file has: it is found, its slot tells where it stands, and the union
 -- is written there.
 use mathlib.Core.Path.{_≡_, refl, sym, ap, ap₂, subst, _∙_}
-use mathlib.Core.List.{List, [], _∷_, _++_, map, map-append, map-map, append-nil, append-assoc}
+use mathlib.Core.List.{List, [], _∷_, _++_, map, map-append, map-map, append-nil, append-assoc, flatten}
 use mathlib.Core.Bool.{true, false, not}
 use Prim.Native.Nat.{ℕ, _+_, _/_, _%_, _≤_}
 use native.Mathlib.Omega.{arith}
@@ -17,37 +17,37 @@ use Rattle.sets.specs.declared.Side.the-variants.{Left, Right}
 use Rattle.tag_file.specs.Format.{tagAt}
 use Rattle.tag_file.specs.Reading.{pastTags, tagsAt}
 use Rattle.tag_file.specs.Records.{TagRecord, recordsAt, records, sameSide, ofSide, itemsOf, setsOfSide}
-use Rattle.tag_file.specs.Loading.{numberUsed, numbersOf, join}
+use Rattle.tag_file.specs.Loading.{numberUsed, numbersOf}
 use Rattle.tag_file.proofs.RecordLaws.{same-side, memb-tagsAt}
 use Rattle.pool_loader_spec.specs.Pooling.{sameSet, pooled}
 use Rattle.pool_loader_spec.proofs.OneMore.{used-alike}
 use Rattle.tag_index.specs.Index.{tableOf}
 use Rattle.tag_loader.specs.declared.record_items.Filled.{Filled}
 use Rattle.tag_loader.specs.record_items.Marks.{Unmarked, TagsKnown}
-use Rattle.pool_scan.specs.right_slots.Slots.{slotOf, HasSlot}
+use Rattle.pool_scan.specs.right_slots.Slots.{numberSlot, HasSlot}
 use Rattle.pool_scan.proofs.right_slots.Counted.{slot-below}
 use Rattle.pool_scan.proofs.right_slots.Found.{FoundRight, found-right, met-right}
 use Rattle.pool_fill.specs.pooled.Standing.{standing, SomeStanding, PooledAt}
 use Rattle.pool_fill.specs.own_sets.Own.{placeWord}
 use Rattle.pool_fill.specs.Pool.{PoolFillReady}
 use Rattle.pool_fill.proofs.Laying.{Block, size, withPart, Laid, laid-at}
-use Rattle.pool_fill.proofs.Placing.{Placing, placing-reach}
-use Rattle.pool_fill.proofs.Placing.{placing-again}
+use Rattle.pool_fill.proofs.SetPlacing.{SetPlacing, placing-reach}
+use Rattle.pool_fill.proofs.SetPlacing.{placing-again}
 use Rattle.pool_fill.proofs.Unions.{keep-around, keep-without, partOf, part-alone, part-met}
 use Rattle.pool_fill.proofs.Unions.{items-more, met-fits}
 use Rattle.pool_fill.proofs.PooledSets.{isNew, united-held, met-held, none-before, none-after}
 use Rattle.pool_fill.proofs.FirstWalk.{blockOf, startOf}
 use Rattle.pool_fill.proofs.SecondWalk.{newBlock, blocks-other, SecondWalk, RightHere}
 
-module _ {first second heads tails : List ℕ} {n : ℕ} {order ranks used counts slots₀ numbers₁ ends₁ items₁ : List ℕ}
-    (ready : PoolFillReady first second heads tails n order ranks used counts slots₀ numbers₁ ends₁ items₁)
+module _ {first second heads tails : List ℕ} {n : ℕ} {ids ranks used counts slots₀ numbers₁ ends₁ items₁ : List ℕ}
+    (ready : PoolFillReady first second heads tails n ids ranks used counts slots₀ numbers₁ ends₁ items₁)
     {numbers₀ ends₀ items₀ slots numbers ends items marks : List ℕ} {done : Filled} {at : ℕ}
-    (w : SecondWalk first second (tableOf heads tails n order) used numbers₀ ends₀ items₀ slots numbers ends items marks done at)
+    (w : SecondWalk first second (tableOf heads tails n ids) used numbers₀ ends₀ items₀ slots numbers ends items marks done at)
     {kind : Side} {x c p next : ℕ}
     (h : RightHere second (w .seen) at c p next (record { side = kind; number = x; tags = tagsAt c second p }))
     (there : member used x ≡ true) where
   abbrev table : List ℕ
-  table = tableOf heads tails n order
+  table = tableOf heads tails n ids
 
   abbrev firsts : List TagRecord
   firsts = records first
@@ -63,7 +63,7 @@ module _ {first second heads tails : List ℕ} {n : ℕ} {order ranks used count
 
   abbrev Placed : List ℕ → List ℕ → List ℕ → Filled → List Block → List TagRecord → Type 0
   Placed numbers′ ends′ items′ r bs l =
-      Placing (numbersOf Right (pooled firsts (records second))) (setsOfSide Right table (pooled firsts (records second)))
+      SetPlacing (numbersOf Right (pooled firsts (records second))) (setsOfSide Right table (pooled firsts (records second)))
       numbers₀ ends₀ items₀ numbers′ ends′ items′ r bs
       (map (λ q. q .number) (news l)) (map (λ q. itemsOf table (q .tags)) (news l))
 
@@ -109,7 +109,7 @@ module _ {first second heads tails : List ℕ} {n : ℕ} {order ranks used count
   unfolding keep
   left-met = ap news (h .left) ∙ keep-without (isNew firsts) [] this rest met
 
-  pub met-known : TagsKnown second heads tails n order ranks p c
+  pub met-known : TagsKnown second heads tails n ids ranks p c
   met-known =
       record {
         sorted = ready .sorted;
@@ -158,9 +158,9 @@ module _ {first second heads tails : List ℕ} {n : ℕ} {order ranks used count
 
   begins : size bs ≡ startOf table seconds (found .before)
   begins =
-      ap (λ (l : List (List ℕ)). length (join l)) (map-map (λ (b : Block). b .whole) (blockOf table seconds seen) below)
+      ap (λ (l : List (List ℕ)). length (flatten l)) (map-map (λ (b : Block). b .whole) (blockOf table seconds seen) below)
 
-  reach : size bs + length (partOf table seconds r) ≤ length (join (setsOfSide Right table (pooled firsts (records second))))
+  reach : size bs + length (partOf table seconds r) ≤ length (flatten (setsOfSide Right table (pooled firsts (records second))))
   reach = placing-reach (w .placing) bs (blockOf table seconds seen r) cs (blocks-apart seen)
 
   alone : partOf table seen r ≡ old
@@ -179,11 +179,11 @@ module _ {first second heads tails : List ℕ} {n : ℕ} {order ranks used count
 
   -- what its slot tells
   abbrev word : ℕ
-  word = getD slots (slotOf used x) 0
+  word = getD slots (numberSlot used x) 0
 
   told : word ≡ placeWord (size bs) (length old)
   told =
-      ap (λ (k : ℕ). getD slots (slotOf used k) 0) (sym (found .number))
+      ap (λ (k : ℕ). getD slots (numberSlot used k) 0) (sym (found .number))
       ∙ w .words (found .before) r (found .after) (found .split) (found .right)
       ∙ ap (λ (k : ℕ). placeWord k (length old)) (sym begins)
 
@@ -237,7 +237,7 @@ module _ {first second heads tails : List ℕ} {n : ℕ} {order ranks used count
         split = h .next-split;
         placing =
             subst (λ (l : List Block). Placed numbers ends items′ done l rest) united
-            (subst (λ (l : List TagRecord). Placing (numbersOf Right (pooled firsts (records second)))
+            (subst (λ (l : List TagRecord). SetPlacing (numbersOf Right (pooled firsts (records second)))
             (setsOfSide Right table (pooled firsts (records second))) numbers₀ ends₀ items₀ numbers ends items′ done
             (bs ++ (withPart (blockOf table seconds seen r) union ∷ cs))
             (map (λ q. q .number) l) (map (λ q. itemsOf table (q .tags)) l)) left-met

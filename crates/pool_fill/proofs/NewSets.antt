@@ -22,23 +22,23 @@ use Rattle.tag_file.proofs.RecordLaws.{memb-tagsAt}
 use Rattle.pool_scan.proofs.right_slots.Found.{missed-right}
 use Rattle.pool_fill.specs.Pool.{PoolFillReady}
 use Rattle.pool_fill.proofs.Laying.{Block}
-use Rattle.pool_fill.proofs.Placing.{Placing, placing-bound, placing-room}
-use Rattle.pool_fill.proofs.Placing.{placing-number, placing-end}
-use Rattle.pool_fill.proofs.Placing.{placing-next}
+use Rattle.pool_fill.proofs.SetPlacing.{SetPlacing, placing-bound, placing-room}
+use Rattle.pool_fill.proofs.SetPlacing.{placing-number, placing-end}
+use Rattle.pool_fill.proofs.SetPlacing.{placing-next}
 use Rattle.pool_fill.proofs.Unions.{keep-around}
 use Rattle.pool_fill.proofs.PooledSets.{isNew, new-held}
 use Rattle.pool_fill.proofs.FirstWalk.{blockOf}
 use Rattle.pool_fill.proofs.SecondWalk.{newBlock, blocks-other, SecondWalk, RightHere}
 
-module _ {first second heads tails : List ℕ} {n : ℕ} {order ranks used counts slots₀ numbers₁ ends₁ items₁ : List ℕ}
-    (ready : PoolFillReady first second heads tails n order ranks used counts slots₀ numbers₁ ends₁ items₁)
+module _ {first second heads tails : List ℕ} {n : ℕ} {ids ranks used counts slots₀ numbers₁ ends₁ items₁ : List ℕ}
+    (ready : PoolFillReady first second heads tails n ids ranks used counts slots₀ numbers₁ ends₁ items₁)
     {numbers₀ ends₀ items₀ slots numbers ends items marks : List ℕ} {done : Filled} {at : ℕ}
-    (w : SecondWalk first second (tableOf heads tails n order) used numbers₀ ends₀ items₀ slots numbers ends items marks done at)
+    (w : SecondWalk first second (tableOf heads tails n ids) used numbers₀ ends₀ items₀ slots numbers ends items marks done at)
     {kind : Side} {x c p next : ℕ}
     (h : RightHere second (w .seen) at c p next (record { side = kind; number = x; tags = tagsAt c second p }))
     (out : member used x ≡ false) where
   abbrev table : List ℕ
-  table = tableOf heads tails n order
+  table = tableOf heads tails n ids
 
   abbrev firsts : List TagRecord
   firsts = records first
@@ -54,7 +54,7 @@ module _ {first second heads tails : List ℕ} {n : ℕ} {order ranks used count
 
   abbrev Placed : List ℕ → List ℕ → List ℕ → Filled → List Block → List TagRecord → Type 0
   Placed numbers′ ends′ items′ r bs l =
-      Placing (numbersOf Right (pooled firsts (records second))) (setsOfSide Right table (pooled firsts (records second)))
+      SetPlacing (numbersOf Right (pooled firsts (records second))) (setsOfSide Right table (pooled firsts (records second)))
       numbers₀ ends₀ items₀ numbers′ ends′ items′ r bs
       (map (λ q. q .number) (news l)) (map (λ q. itemsOf table (q .tags)) (news l))
 
@@ -87,7 +87,7 @@ module _ {first second heads tails : List ℕ} {n : ℕ} {order ranks used count
   left-sets : map (λ q. itemsOf table (q .tags)) (news (ofSide Right (recordsAt second at))) ≡ own ∷ later
   left-sets = ap (map (λ (q : TagRecord). itemsOf table (q .tags))) left-new
 
-  pub new-known : TagsKnown second heads tails n order ranks p c
+  pub new-known : TagsKnown second heads tails n ids ranks p c
   new-known =
       record {
         sorted = ready .sorted;

@@ -1,7 +1,7 @@
 -- The walk over the first file at a right set: what its writing asks, and the step. The word of its slot tells the length of its
 -- union.
 use mathlib.Core.Path.{_≡_, sym, ap, subst, _∙_}
-use mathlib.Core.List.{List, [], _∷_, _++_, map, map-append, map-map, append-assoc}
+use mathlib.Core.List.{List, [], _∷_, _++_, map, map-append, map-map, append-assoc, flatten}
 use mathlib.Core.Bool.{Bool, true, cond}
 use Prim.Native.Nat.{ℕ, _+_, _<_, _≤_}
 use native.Mathlib.Omega.{arith}
@@ -16,7 +16,7 @@ use Rattle.sets.specs.declared.Side.the-variants.{Right}
 use Rattle.tag_file.specs.Format.{tagAt}
 use Rattle.tag_file.specs.Reading.{readAt, pastTags, tagsAt}
 use Rattle.tag_file.specs.Records.{TagRecord, recordsAt, records, sameSide, ofSide, itemsOf, setsOfSide}
-use Rattle.tag_file.specs.Loading.{numbersOf, join}
+use Rattle.tag_file.specs.Loading.{numbersOf}
 use Rattle.tag_file.specs.declared.ReadAnswer.the-variants.{Record}
 use Rattle.tag_file.proofs.RecordLaws.{memb-tagsAt, read-past, read-within, read-number, records-next}
 use Rattle.tag_file.proofs.FoundRecords.{found-number}
@@ -24,28 +24,28 @@ use Rattle.pool_loader_spec.specs.Pooling.{unitedWith, pooled}
 use Rattle.tag_index.specs.Index.{tableOf}
 use Rattle.tag_loader.specs.declared.record_items.Filled.{Filled}
 use Rattle.tag_loader.specs.record_items.Marks.{Unmarked, TagsKnown}
-use Rattle.pool_scan.specs.right_slots.Slots.{slotOf, AtSlots, HasSlot}
+use Rattle.pool_scan.specs.right_slots.Slots.{numberSlot, AtSlots, HasSlot}
 use Rattle.pool_scan.proofs.right_slots.Counted.{slot-below}
 use Rattle.pool_scan.proofs.right_slots.Found.{noted-member}
 use Rattle.pool_scan.proofs.right_slots.Putting.{at-slots-put}
 use Rattle.pool_fill.specs.own_sets.Own.{lengthBy, placeWord, RoomForOwn, OwnFilled}
 use Rattle.pool_fill.specs.Pool.{PoolFillReady}
 use Rattle.pool_fill.proofs.Laying.{Block}
-use Rattle.pool_fill.proofs.Placing.{Placing, placing-bound, placing-room, placing-number, placing-end}
-use Rattle.pool_fill.proofs.Placing.{placing-next}
+use Rattle.pool_fill.proofs.SetPlacing.{SetPlacing, placing-bound, placing-room, placing-number, placing-end}
+use Rattle.pool_fill.proofs.SetPlacing.{placing-next}
 use Rattle.pool_fill.proofs.Unions.{keep-around, partOf, part-none, part-fits}
 use Rattle.pool_fill.proofs.PooledSets.{isNew, united-held, own-held, length-told}
 use Rattle.pool_fill.proofs.FirstWalk.{blockOf, startOf, walkWord, walk-same, FirstWalk}
 
-module _ {first second heads tails : List ℕ} {n : ℕ} {order ranks used counts slots₀ numbers₀ ends₀ items₀ : List ℕ}
-    (ready : PoolFillReady first second heads tails n order ranks used counts slots₀ numbers₀ ends₀ items₀)
+module _ {first second heads tails : List ℕ} {n : ℕ} {ids ranks used counts slots₀ numbers₀ ends₀ items₀ : List ℕ}
+    (ready : PoolFillReady first second heads tails n ids ranks used counts slots₀ numbers₀ ends₀ items₀)
     {slots numbers ends items marks : List ℕ} {done : Filled} {at : ℕ}
-    (w : FirstWalk first second (tableOf heads tails n order) used slots₀ numbers₀ ends₀ items₀
+    (w : FirstWalk first second (tableOf heads tails n ids) used slots₀ numbers₀ ends₀ items₀
     slots numbers ends items marks done at)
     {kind : Side} {x c p next : ℕ} (e : readAt first at ≡ Record kind x c p next) (right : sameSide Right kind ≡ true)
     (byte : (i : ℕ) → getD first i 0 < 256) where
   abbrev table : List ℕ
-  table = tableOf heads tails n order
+  table = tableOf heads tails n ids
 
   abbrev firsts : List TagRecord
   firsts = records first
@@ -103,7 +103,7 @@ module _ {first second heads tails : List ℕ} {n : ℕ} {order ranks used count
   abbrev later : List (List ℕ)
   later = map (partOf table seconds) (ofSide Right rest) ++ new-sets
 
-  pub own-known : TagsKnown first heads tails n order ranks p c
+  pub own-known : TagsKnown first heads tails n ids ranks p c
   own-known =
       record {
         sorted = ready .sorted;
@@ -126,11 +126,11 @@ module _ {first second heads tails : List ℕ} {n : ℕ} {order ranks used count
       }
 
   -- the word of its slot tells its length
-  told : lengthBy (getD slots (slotOf used x) 0) (length own) ≡ length whole
+  told : lengthBy (getD slots (numberSlot used x) 0) (length own) ≡ length whole
   told =
       ap (λ (word : ℕ). lengthBy word (length own))
       (w .words (w .passed) this rest here right
-      ∙ ap (λ (b : Bool). cond b (placeWord (startOf table seconds (w .passed)) (length own)) (getD slots₀ (slotOf used x) 0))
+      ∙ ap (λ (b : Bool). cond b (placeWord (startOf table seconds (w .passed)) (length own)) (getD slots₀ (numberSlot used x) 0))
       (le-ltb (length (w .passed)) (length (w .passed)) (omega arith))
       ∙ ready .words (w .passed) this rest here right)
       ∙ length-told table (ready .sorted .rises) firsts (records second) (ready .short) (w .passed) this rest here held
@@ -138,7 +138,7 @@ module _ {first second heads tails : List ℕ} {n : ℕ} {order ranks used count
   fits : length own ≤ length whole
   fits = omega (arith, ap length (part-none table this), part-fits table seconds this)
 
-  pub own-room : RoomForOwn (done .sets) (done .entries) (getD slots (slotOf used x) 0) own numbers ends items
+  pub own-room : RoomForOwn (done .sets) (done .entries) (getD slots (numberSlot used x) 0) own numbers ends items
   own-room =
       let bound = placing-bound (w .placing) whole later left-sets in
       record {
@@ -162,11 +162,11 @@ module _ {first second heads tails : List ℕ} {n : ℕ} {order ranks used count
   begins : done .entries ≡ startOf table seconds (w .passed)
   begins =
       w .placing .past
-      ∙ ap (λ (l : List (List ℕ)). length (join l))
+      ∙ ap (λ (l : List (List ℕ)). length (flatten l))
       (map-map (λ (b : Block). b .whole) (blockOf table seconds []) (ofSide Right (w .passed)))
 
   pub first-walk-own : {r : Filled} {slots′ numbers′ ends′ items′ marks′ : List ℕ}
-      → OwnFilled (done .sets) (done .entries) x (slotOf used x) own slots numbers ends items r slots′ numbers′ ends′ items′
+      → OwnFilled (done .sets) (done .entries) x (numberSlot used x) own slots numbers ends items r slots′ numbers′ ends′ items′
       → Unmarked marks′
       → FirstWalk first second table used slots₀ numbers₀ ends₀ items₀ slots′ numbers′ ends′ items′ marks′ r next
   first-walk-own {r} {slots′} {numbers′} {ends′} {items′} {marks′} o none =
@@ -174,7 +174,7 @@ module _ {first second heads tails : List ℕ} {n : ℕ} {order ranks used count
         passed = w .passed ++ (this ∷ []);
         split = here ∙ sym (append-assoc (w .passed) (this ∷ []) rest);
         placing =
-            subst (λ (l : List Block). Placing (numbersOf Right (pooled firsts (records second)))
+            subst (λ (l : List Block). SetPlacing (numbersOf Right (pooled firsts (records second)))
             (setsOfSide Right table (pooled firsts (records second))) numbers₀ ends₀ items₀ numbers′ ends′ items′ r
             l later-numbers later) grown
             (placing-next (w .placing) x later-numbers
@@ -190,12 +190,12 @@ module _ {first second heads tails : List ℕ} {n : ℕ} {order ranks used count
             (λ b s a f. found-number first byte b s a f) (w .long) (w .words) (w .passed) this rest
             (placeWord (done .entries) (length own)) here right
             (ap (λ (b : Bool). cond b (placeWord (startOf table seconds (w .passed)) (length own))
-            (getD slots₀ (slotOf used x) 0))
+            (getD slots₀ (numberSlot used x) 0))
             (lt-ltb (length (w .passed)) (length (w .passed ++ (this ∷ []))) (omega (arith, length-append (w .passed) (this ∷ []))))
             ∙ ap (λ (k : ℕ). placeWord k (length own)) (sym begins))
             (λ b s a f right-s differs.
             walk-same table seconds used slots₀ firsts (w .passed) this rest here b s a f
             (λ same. differs (ap (λ (q : TagRecord). q .number) same))));
-        long = ap length (o .put-slot) ∙ length-set slots (slotOf used x) (placeWord (done .entries) (length own)) ∙ w .long;
+        long = ap length (o .put-slot) ∙ length-set slots (numberSlot used x) (placeWord (done .entries) (length own)) ∙ w .long;
         unmarked = none;
       }

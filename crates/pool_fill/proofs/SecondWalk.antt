@@ -1,7 +1,7 @@
 -- The walk over the second file: its invariant, with its start, its step over a left set, and its end. Each right set of the first
 -- file stands with what the records seen add to it, and behind them stand the sets seen that the first file has not.
 use mathlib.Core.Path.{_≡_, refl, sym, ap, ap₂, subst, _∙_}
-use mathlib.Core.List.{List, [], _∷_, _++_, map, map-append, append-nil, append-assoc}
+use mathlib.Core.List.{List, [], _∷_, _++_, map, map-append, append-nil, append-assoc, flatten}
 use mathlib.Core.Bool.{Bool, true, false, cond}
 use Prim.Native.Nat.{ℕ, _+_, _<_, _≤_}
 use native.Mathlib.Omega.{arith}
@@ -16,7 +16,7 @@ use Rattle.sets.specs.declared.Side.{Side}
 use Rattle.sets.specs.declared.Side.the-variants.{Right}
 use Rattle.tag_file.specs.Reading.{readAt, pastTags, tagsAt}
 use Rattle.tag_file.specs.Records.{TagRecord, recordsAt, records, sameSide, ofSide, itemsOf, setsOfSide}
-use Rattle.tag_file.specs.Loading.{numberUsed, numbersOf, endsFrom, join}
+use Rattle.tag_file.specs.Loading.{numberUsed, numbersOf, endsFrom}
 use Rattle.tag_file.specs.declared.ReadAnswer.the-variants.{Record}
 use Rattle.tag_file.proofs.FaultFree.{side-own, side-other}
 use Rattle.tag_file.proofs.RecordLaws.{read-past, read-within, read-number, records-next}
@@ -24,12 +24,12 @@ use Rattle.pool_loader_spec.specs.Pooling.{sameSet, pooled}
 use Rattle.tag_index.specs.Index.{tableOf}
 use Rattle.tag_loader.specs.declared.record_items.Filled.{Filled}
 use Rattle.tag_loader.specs.record_items.Marks.{Unmarked}
-use Rattle.pool_scan.specs.right_slots.Slots.{slotOf, AtSlots}
+use Rattle.pool_scan.specs.right_slots.Slots.{numberSlot, AtSlots}
 use Rattle.pool_fill.specs.own_sets.Own.{placeWord}
 use Rattle.pool_fill.specs.Pool.{PoolFillReady}
 use Rattle.pool_fill.proofs.Laying.{Block, wholes, parts}
-use Rattle.pool_fill.proofs.Placing.{Placing}
-use Rattle.pool_fill.proofs.Placing.{placed-numbers, placed-ends, placed-items}
+use Rattle.pool_fill.proofs.SetPlacing.{SetPlacing}
+use Rattle.pool_fill.proofs.SetPlacing.{placed-numbers, placed-ends, placed-items}
 use Rattle.pool_fill.proofs.Unions.{keep-around, keep-without, partOf, part-other}
 use Rattle.pool_fill.proofs.PooledSets.{isNew}
 use Rattle.pool_fill.proofs.FirstWalk.{blockOf, startOf, FirstWalk}
@@ -56,7 +56,7 @@ pub record SecondWalk (first second table used numbers₀ ends₀ items₀ slots
     (at : ℕ) : Type 0 where
   pub seen : List TagRecord
   pub split : records second ≡ seen ++ recordsAt second at
-  pub placing : Placing (numbersOf Right (pooled (records first) (records second)))
+  pub placing : SetPlacing (numbersOf Right (pooled (records first) (records second)))
       (setsOfSide Right table (pooled (records first) (records second)))
       numbers₀ ends₀ items₀ numbers ends items done
       (map (blockOf table (ofSide Right (records second)) (ofSide Right seen)) (ofSide Right (records first))
@@ -92,14 +92,14 @@ module _ {first second table used slots₀ numbers₀ ends₀ items₀ slots num
         seen = [];
         split = refl;
         placing =
-            subst (λ (l : List Block). Placing (numbersOf Right (pooled (records first) (records second)))
+            subst (λ (l : List Block). SetPlacing (numbersOf Right (pooled (records first) (records second)))
             (setsOfSide Right table (pooled (records first) (records second)))
             numbers₀ ends₀ items₀ numbers ends items done l
             (map (λ r. r .number) (keep (isNew (records first)) seconds))
             (map (λ r. itemsOf table (r .tags)) (keep (isNew (records first)) seconds)))
             (ap (λ (l : List TagRecord). map (blockOf table seconds []) (ofSide Right l)) whole
             ∙ sym (append-nil (map (blockOf table seconds []) (ofSide Right (records first)))))
-            (subst (λ (l : List TagRecord). Placing (numbersOf Right (pooled (records first) (records second)))
+            (subst (λ (l : List TagRecord). SetPlacing (numbersOf Right (pooled (records first) (records second)))
             (setsOfSide Right table (pooled (records first) (records second)))
             numbers₀ ends₀ items₀ numbers ends items done (map (blockOf table seconds []) (ofSide Right (w .passed)))
             (map (λ r. r .number) (ofSide Right l) ++ map (λ r. r .number) (keep (isNew (records first)) seconds))
@@ -107,16 +107,16 @@ module _ {first second table used slots₀ numbers₀ ends₀ items₀ slots num
             ++ map (λ r. itemsOf table (r .tags)) (keep (isNew (records first)) seconds))) stop (w .placing));
         words = λ b s a e right.
             w .words b s a e right
-            ∙ ap (λ (c : Bool). cond c (standWord table seconds b s) (getD slots₀ (slotOf used (s .number)) 0))
+            ∙ ap (λ (c : Bool). cond c (standWord table seconds b s) (getD slots₀ (numberSlot used (s .number)) 0))
             (lt-ltb (length b) (length (w .passed)) (omega (arith, ap length whole, ap length e, length-append b (s ∷ a))));
         long = w .long;
         unmarked = w .unmarked;
       }
 
-module _ {first second heads tails : List ℕ} {n : ℕ} {order ranks used counts slots₀ numbers₁ ends₁ items₁ : List ℕ}
-    (ready : PoolFillReady first second heads tails n order ranks used counts slots₀ numbers₁ ends₁ items₁) where
+module _ {first second heads tails : List ℕ} {n : ℕ} {ids ranks used counts slots₀ numbers₁ ends₁ items₁ : List ℕ}
+    (ready : PoolFillReady first second heads tails n ids ranks used counts slots₀ numbers₁ ends₁ items₁) where
   abbrev table : List ℕ
-  table = tableOf heads tails n order
+  table = tableOf heads tails n ids
 
   abbrev firsts : List TagRecord
   firsts = records first
@@ -134,7 +134,7 @@ module _ {first second heads tails : List ℕ} {n : ℕ} {order ranks used count
       (w : SecondWalk first second table used numbers₀ ends₀ items₀ slots numbers ends items marks done at) where
     abbrev Placed : List ℕ → List ℕ → List ℕ → Filled → List Block → List TagRecord → Type 0
     Placed numbers′ ends′ items′ r bs l =
-        Placing (numbersOf Right (pooled firsts (records second))) (setsOfSide Right table (pooled firsts (records second)))
+        SetPlacing (numbersOf Right (pooled firsts (records second))) (setsOfSide Right table (pooled firsts (records second)))
         numbers₀ ends₀ items₀ numbers′ ends′ items′ r bs
         (map (λ q. q .number) (news l)) (map (λ q. itemsOf table (q .tags)) (news l))
 
@@ -186,7 +186,7 @@ module _ {first second heads tails : List ℕ} {n : ℕ} {order ranks used count
       pub walked-ends : ends ≡ filledOver (endsFrom 0 (setsOfSide Right table (pooled firsts (records second)))) ends₀
       walked-ends = placed-ends (w .placing) no-numbers no-sets full
 
-      pub walked-items : items ≡ filledOver (join (setsOfSide Right table (pooled firsts (records second)))) items₀
+      pub walked-items : items ≡ filledOver (flatten (setsOfSide Right table (pooled firsts (records second)))) items₀
       walked-items = placed-items (w .placing) no-numbers no-sets full
 
     -- ---- a record

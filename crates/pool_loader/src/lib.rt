@@ -22,14 +22,14 @@ fn scan_first(
     first: &[u8],
     heads: &mut [usize; INDEX_ROOM],
     tails: &mut [u32; INDEX_ROOM],
-    order: &mut [u16; INDEX_ROOM],
+    ids: &mut [u16; INDEX_ROOM],
     hints: &mut [u16; HINT_SLOTS],
 ) -> LoadAnswer
-    requires { ⌜ Lengths (now heads) (now tails) (now order) ⌝ }
-    ensures { λ r. ⌜ Scanned (now (first .entry)) (now (heads .exit)) (now (tails .exit)) (now (order .exit)) r ⌝ }
+    requires { ⌜ Lengths (now heads) (now tails) (now ids) ⌝ }
+    ensures { λ r. ⌜ Scanned (now (first .entry)) (now (heads .exit)) (now (tails .exit)) (now (ids .exit)) r ⌝ }
 {
     let mut used = [0u64; USED_WORDS];
-    scan_records(first, &mut used, heads, tails, order, hints)
+    scan_records(first, &mut used, heads, tails, ids, hints)
 }
 
 // Loads two tag files into seven lent lists: the left sets of the first, and the right sets of both, united by number, over one tag
@@ -51,16 +51,16 @@ pub fn load_pooled(
 {
     let mut heads = [0usize; INDEX_ROOM];
     let mut tails = [0u32; INDEX_ROOM];
-    let mut order = [0u16; INDEX_ROOM];
+    let mut ids = [0u16; INDEX_ROOM];
     let mut hints = [NO_ID; HINT_SLOTS];
-    let answer = scan_first(first, &mut heads, &mut tails, &mut order, &mut hints);
+    let answer = scan_first(first, &mut heads, &mut tails, &mut ids, &mut hints);
     pool_second(
         answer,
         first,
         second,
         &mut heads,
         &mut tails,
-        &mut order,
+        &mut ids,
         &mut hints,
         tags,
         left_numbers,

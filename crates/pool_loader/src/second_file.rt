@@ -12,6 +12,7 @@ use tag_index::HINT_SLOTS;
 use tag_index::INDEX_ROOM;
 use tag_index::tag_items::rank_ids;
 use tag_loader::fill::fill_side;
+use tag_loader::lent_lists::LoadRoom;
 use tag_loader::lent_lists::clear_lists;
 use tag_loader::tag_table::fill_tags;
 ghost use Rattle.tag_file.specs.Loading.{lentLists, returnedLists, listsNow};
@@ -28,23 +29,16 @@ fn judge(
     second: &[u8],
     heads: &mut [usize; INDEX_ROOM],
     tails: &mut [u32; INDEX_ROOM],
-    order: &mut [u16; INDEX_ROOM],
+    ids: &mut [u16; INDEX_ROOM],
     hints: &mut [u16; HINT_SLOTS],
     used: &mut [u64; NUMBER_WORDS],
     counts: &mut [u16; BLOCKS],
     slots: &mut [u32; MAX_SETS],
-    tags: usize,
-    left_numbers: usize,
-    left_ends: usize,
-    left_items: usize,
-    right_numbers: usize,
-    right_ends: usize,
-    right_items: usize,
+    room: LoadRoom,
 ) -> LoadAnswer
-    requires { ⌜ JudgeReady answer (now first) (now heads) (now tails) (now order) (now used) (now counts) (now slots) ⌝ }
-    ensures { λ r. ⌜ Judged (now (first .entry)) (now (second .entry)) (now (heads .exit)) (now (tails .exit)) (now (order .exit))
-        (now (used .exit)) (now (counts .exit)) (now (slots .exit)) tags «left_numbers» «left_ends» «left_items»
-        «right_numbers» «right_ends» «right_items» r ⌝ }
+    requires { ⌜ JudgeReady answer (now first) (now heads) (now tails) (now ids) (now used) (now counts) (now slots) ⌝ }
+    ensures { λ r. ⌜ Judged (now (first .entry)) (now (second .entry)) (now (heads .exit)) (now (tails .exit)) (now (ids .exit))
+        (now (used .exit)) (now (counts .exit)) (now (slots .exit)) room r ⌝ }
 {
     let LoadAnswer::Loaded(total, repeats) = answer else {
         return answer;
@@ -60,22 +54,12 @@ fn judge(
         slots,
         heads,
         tails,
-        order,
+        ids,
         hints,
     );
     let found = scanned.answer;
     let long = scanned.long;
-    decide(
-        found,
-        long,
-        tags,
-        left_numbers,
-        left_ends,
-        left_items,
-        right_numbers,
-        right_ends,
-        right_items,
-    )
+    decide(found, long, room)
 }
 
 // The second passes: fill the seven lists.
@@ -84,7 +68,7 @@ fn fill_pooled(
     second: &[u8],
     heads: &[usize; INDEX_ROOM],
     tails: &[u32; INDEX_ROOM],
-    order: &[u16; INDEX_ROOM],
+    ids: &[u16; INDEX_ROOM],
     hints: &[u16; HINT_SLOTS],
     n: usize,
     used: &[u64; NUMBER_WORDS],
@@ -98,20 +82,20 @@ fn fill_pooled(
     right_ends: &mut [u32],
     right_items: &mut [u16],
 )
-    requires { ⌜ PoolFillable (now first) (now second) (now heads) (now tails) (now order) n (now used) (now counts) (now slots)
+    requires { ⌜ PoolFillable (now first) (now second) (now heads) (now tails) (now ids) n (now used) (now counts) (now slots)
         (listsNow tags «left_numbers» «left_ends» «left_items» «right_numbers» «right_ends» «right_items») ⌝ }
     ensures { λ _. ⌜ AllFilled (pooledRecords (now (first .entry)) (now (second .entry)))
         (lentLists tags «left_numbers» «left_ends» «left_items» «right_numbers» «right_ends» «right_items»)
         (returnedLists tags «left_numbers» «left_ends» «left_items» «right_numbers» «right_ends» «right_items») ⌝ }
 {
     let mut ranks = [0u16; INDEX_ROOM];
-    rank_ids(order, n, &mut ranks);
-    fill_tags(heads, tails, order, n, tags);
+    rank_ids(ids, n, &mut ranks);
+    fill_tags(heads, tails, ids, n, tags);
     fill_side(
         first,
         heads,
         tails,
-        order,
+        ids,
         &ranks,
         hints,
         n,
@@ -125,7 +109,7 @@ fn fill_pooled(
         second,
         heads,
         tails,
-        order,
+        ids,
         &ranks,
         hints,
         n,
@@ -145,7 +129,7 @@ pub fn pool_second(
     second: &[u8],
     heads: &mut [usize; INDEX_ROOM],
     tails: &mut [u32; INDEX_ROOM],
-    order: &mut [u16; INDEX_ROOM],
+    ids: &mut [u16; INDEX_ROOM],
     hints: &mut [u16; HINT_SLOTS],
     tags: &mut [u8],
     left_numbers: &mut [u16],
@@ -155,7 +139,7 @@ pub fn pool_second(
     right_ends: &mut [u32],
     right_items: &mut [u16],
 ) -> LoadAnswer
-    requires { ⌜ Scanned (now first) (now heads) (now tails) (now order) answer ⌝ }
+    requires { ⌜ Scanned (now first) (now heads) (now tails) (now ids) answer ⌝ }
     ensures { λ r. ⌜ PooledCall (now (first .entry)) (now (second .entry))
         (lentLists tags «left_numbers» «left_ends» «left_items» «right_numbers» «right_ends» «right_items»)
         (returnedLists tags «left_numbers» «left_ends» «left_items» «right_numbers» «right_ends» «right_items») r ⌝ }
@@ -163,24 +147,27 @@ pub fn pool_second(
     let mut used = [0u64; NUMBER_WORDS];
     let mut counts = [0u16; BLOCKS];
     let mut slots = [0u32; MAX_SETS];
+    let room = LoadRoom {
+        tags: tags.len(),
+        left_numbers: left_numbers.len(),
+        left_ends: left_ends.len(),
+        left_items: left_items.len(),
+        right_numbers: right_numbers.len(),
+        right_ends: right_ends.len(),
+        right_items: right_items.len(),
+    };
     let judged = judge(
         answer,
         first,
         second,
         heads,
         tails,
-        order,
+        ids,
         hints,
         &mut used,
         &mut counts,
         &mut slots,
-        tags.len(),
-        left_numbers.len(),
-        left_ends.len(),
-        left_items.len(),
-        right_numbers.len(),
-        right_ends.len(),
-        right_items.len(),
+        room,
     );
     let LoadAnswer::Loaded(total, _) = judged else {
         clear_lists(
@@ -194,13 +181,13 @@ pub fn pool_second(
         );
         return judged;
     };
-    let n = total.tags;
+    let n = total.tag_count;
     fill_pooled(
         first,
         second,
         heads,
         tails,
-        order,
+        ids,
         hints,
         n,
         &used,

@@ -30,7 +30,7 @@ module _ (first second : List ℕ) {lent got : Lists} {counts : Loaded} {repeats
   -- the same of three calls: the pooled load, a write of what it filled that is accepted, and a load of what was written into
   -- lists that are long enough
   pub pooled-calls-round-trip : (out wrote : List ℕ) (n : ℕ) (again more : Lists) (answer : LoadAnswer)
-      → WriteCall (counts .tags) (partsOf counts got) out wrote (write.Written n)
+      → WriteCall (counts .«tag_count») (partsOf counts got) out wrote (write.Written n)
       → LoadCall (take n wrote) again more answer → roomFor (partsOf counts got) again ≡ true
       → (answer ≡ load.Loaded counts noRepeats) × (partsOf counts more ≡ partsOf counts got)
   pooled-calls-round-trip out wrote n again more answer writes loads room =

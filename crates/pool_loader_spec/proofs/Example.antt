@@ -1,7 +1,7 @@
 -- Two small files pooled, computed: the answer and the seven lists; then one row for each way to refuse, with its byte place.
 use mathlib.Core.Path.{_≡_, refl}
 use Prim.Native.Nat.{ℕ, _+_}
-use mathlib.Core.List.{List, [], _∷_, _++_}
+use mathlib.Core.List.{List, [], _∷_, _++_, flatten}
 use lib.ListN.{replicate}
 use Rattle.lists.specs.Lists.{keep, memb, sum, range, upto, any, prefix}
 use Rattle.sets.specs.Limits.{maxSetLength}
@@ -14,7 +14,7 @@ use Rattle.tag_file.specs.Format.{valueFrom, bytesOf, tagBytes, mark}
 use Rattle.tag_file.specs.Reading.{readAt, tagsAt}
 use Rattle.tag_file.specs.Records.{TagRecord, recordsFrom, insert, insertAll, allTags, itemsOf}
 use Rattle.tag_file.specs.Repeats.{repeatsIn}
-use Rattle.tag_file.specs.Loading.{Lists, listsOf, fileFault, firstFault, faultOf, tooMany, endsFrom, join, roomFor}
+use Rattle.tag_file.specs.Loading.{Lists, listsOf, fileFault, firstFault, faultOf, tooMany, endsFrom, roomFor}
 use Rattle.pool_loader_spec.specs.Pooling.{pooled, secondFaultOf, firstSecondFault, secondFault, firstOverlong}
 use Rattle.pool_loader_spec.specs.Pooling.{pooledAnswer, pooledLists}
 
@@ -45,11 +45,11 @@ lent =
 
 -- one repeat, of right set 9 in the second file; its tag 1, read on both pads, is none
 example-answer : pooledAnswer first second lent
-    ≡ load.Loaded (record { «left_sets» = 1; «right_sets» = 3; «left_entries» = 2; «right_entries» = 4; tags = 4 })
+    ≡ load.Loaded (record { «left_sets» = 1; «right_sets» = 3; «left_entries» = 2; «right_entries» = 4; «tag_count» = 4 })
     (record { left = 0; right = 1 })
 unfolding first second lent head tag pooledAnswer fileFault firstFault faultOf tooMany secondFault firstSecondFault secondFaultOf
     firstOverlong pooled roomFor readAt tagsAt recordsFrom valueFrom insert insertAll allTags itemsOf keep memb sum any prefix
-    range endsFrom join tagBytes bytesOf repeatsIn
+    range endsFrom flatten tagBytes bytesOf repeatsIn
 example-answer = refl
 
 -- right sets 9 and 5 of the first file, then 6 of the second; set 9 has tags 1 and 2, read one on each pad
@@ -58,7 +58,7 @@ example-lists : pooledLists first second lent
     (0 ∷ 1 ∷ 2 ∷ 3 ∷ 99 ∷ [])
 unfolding first second lent head tag pooledAnswer fileFault firstFault faultOf tooMany secondFault firstSecondFault secondFaultOf
     firstOverlong pooled roomFor readAt tagsAt recordsFrom valueFrom insert insertAll allTags itemsOf keep memb sum any prefix
-    range endsFrom join tagBytes bytesOf
+    range endsFrom flatten tagBytes bytesOf
 example-lists = refl
 
 -- ---- the ways to refuse
@@ -87,7 +87,7 @@ example-short : pooledAnswer first second (listsOf (replicate 48 0) (0 ∷ []) (
     (0 ∷ 0 ∷ 0 ∷ 0 ∷ [])) ≡ load.Refused ShortOutput
 unfolding first second lent head tag pooledAnswer fileFault firstFault faultOf tooMany secondFault firstSecondFault secondFaultOf
     pooled roomFor readAt tagsAt recordsFrom valueFrom insert insertAll allTags itemsOf keep memb sum any prefix range
-    endsFrom join tagBytes bytesOf
+    endsFrom flatten tagBytes bytesOf
 example-short = refl
 
 -- a right set of the greatest length in the first file: the same tags again pass, and one more is refused at that record of the

@@ -27,19 +27,19 @@ use Rattle.pool_scan.specs.union.Union.{TakenIn}
 use Rattle.pool_scan.specs.counting.Counting.{unitedBy}
 
 -- what is known of the records with one more right set: whether they pass a limit, and if not, that they are taken in
-pub record OneTaken (is : List TagRecord) (total : Loaded) (heads tails order : List ℕ) : Type 0 where
-  pub over : passes (total .«right_sets») (total .«right_entries») (total .tags) ≡ tooMany Right is
-  pub taken : tooMany Right is ≡ false → Taken is total heads tails order
+pub record OneTaken (is : List TagRecord) (total : Loaded) (heads tails ids : List ℕ) : Type 0 where
+  pub over : passes (total .«right_sets») (total .«right_entries») (total .«tag_count») ≡ tooMany Right is
+  pub taken : tooMany Right is ≡ false → Taken is total heads tails ids
 
 -- behind the others
-module _ {was : List TagRecord} {total : Loaded} {heads tails order : List ℕ} (t : Taken was total heads tails order)
-    (s : TagRecord) (right : s .side ≡ Right) {u : United} {now-heads now-tails now-order : List ℕ}
-    (i : TakenIn [] (s .tags) heads tails (total .tags) order u now-heads now-tails now-order) where
+module _ {was : List TagRecord} {total : Loaded} {heads tails ids : List ℕ} (t : Taken was total heads tails ids)
+    (s : TagRecord) (right : s .side ≡ Right) {u : United} {now-heads now-tails now-ids : List ℕ}
+    (i : TakenIn [] (s .tags) heads tails (total .«tag_count») ids u now-heads now-tails now-ids) where
   abbrev grown : Side → Loaded
-  grown side = grownBy total side (u .tags) (u .all)
+  grown side = grownBy total side (u .«tag_count») (u .all)
 
   pub alone-taken : {is : List TagRecord} → is ≡ was ++ (s ∷ [])
-      → OneTaken is (unitedBy total u false) now-heads now-tails now-order
+      → OneTaken is (unitedBy total u false) now-heads now-tails now-ids
   alone-taken {is} e =
       let told : isOver (unitedBy total u false) Right ≡ tooMany Right (was ++ (s ∷ [])) =
       subst (λ (side : Side). isOver (grown side) side ≡ tooMany side (was ++ (s ∷ []))) right
@@ -48,17 +48,17 @@ module _ {was : List TagRecord} {total : Loaded} {heads tails order : List ℕ} 
       record {
         over = told ∙ ap (tooMany Right) (sym e);
         taken = λ few.
-            subst (λ (rs : List TagRecord). Taken rs (unitedBy total u false) now-heads now-tails now-order) (sym e)
+            subst (λ (rs : List TagRecord). Taken rs (unitedBy total u false) now-heads now-tails now-ids) (sym e)
             (taken-next t s (i .sorted) (i .table) (i .all-counted) (ap grown (sym right))
             (subst (λ (side : Side). isOver (grown side) side ≡ false) (sym right) (told ∙ ap (tooMany Right) (sym e) ∙ few)));
       }
 
 -- pooled with one of the first file
-module _ {was : List TagRecord} {total : Loaded} {heads tails order : List ℕ} (t : Taken was total heads tails order)
-    (r : TagRecord) (right : r .side ≡ Right) (new : List ℕ) {u : United} {now-heads now-tails now-order : List ℕ}
-    (i : TakenIn (r .tags) new heads tails (total .tags) order u now-heads now-tails now-order) {is : List TagRecord}
+module _ {was : List TagRecord} {total : Loaded} {heads tails ids : List ℕ} (t : Taken was total heads tails ids)
+    (r : TagRecord) (right : r .side ≡ Right) (new : List ℕ) {u : United} {now-heads now-tails now-ids : List ℕ}
+    (i : TakenIn (r .tags) new heads tails (total .«tag_count») ids u now-heads now-tails now-ids) {is : List TagRecord}
     (g : Grown was is r new) where
-  table-met : tableOf now-heads now-tails (u .tags) now-order ≡ tagTable is
+  table-met : tableOf now-heads now-tails (u .«tag_count») now-ids ≡ tagTable is
   table-met = i .table ∙ ap (λ (l : List ℕ). insertAll l new) (t .table) ∙ sym (table-grown g)
 
   counts-met : unitedBy total u true ≡ totalsOf is
@@ -72,7 +72,7 @@ module _ {was : List TagRecord} {total : Loaded} {heads tails order : List ℕ} 
       let entries : total .«left_entries» ≡ entriesOf Left is =
       ap (λ (q : Loaded). q .«left_entries») (t .counts) ∙ sym (entries-other g Left (ap (sameSide Left) right))
       in
-      let grew : total .«right_entries» + (u .all - u .own) ≡ entriesOf Right is =
+      let grew : total .«right_entries» + (u .all - u .first) ≡ entriesOf Right is =
       omega (
         arith,
         ap (λ (q : Loaded). q .«right_entries») (t .counts),
@@ -82,10 +82,10 @@ module _ {was : List TagRecord} {total : Loaded} {heads tails order : List ℕ} 
         i .less,
       )
       in
-      let tags : u .tags ≡ length (tagTable is) = sym (sorted-size (i .sorted)) ∙ ap length table-met in
+      let tags : u .«tag_count» ≡ length (tagTable is) = sym (sorted-size (i .sorted)) ∙ ap length table-met in
       rw (sets, others, entries, grew, tags)
 
-  pub met-taken : OneTaken is (unitedBy total u true) now-heads now-tails now-order
+  pub met-taken : OneTaken is (unitedBy total u true) now-heads now-tails now-ids
   met-taken =
       let told : isOver (unitedBy total u true) Right ≡ tooMany Right is =
       ap (λ (q : Loaded). isOver q Right) counts-met ∙ over-tooMany Right is
@@ -103,13 +103,13 @@ module _ {was : List TagRecord} {total : Loaded} {heads tails order : List ℕ} 
       limits : isOver (unitedBy total u true) Right ≡ false → Limited (unitedBy total u true)
       limits f =
           let a = ltb maxSets (total .«right_sets») in
-          let b = ltb maxEntries (total .«right_entries» + (u .all - u .own)) in
-          let d = ltb maxItems (u .tags) in
+          let b = ltb maxEntries (total .«right_entries» + (u .all - u .first)) in
+          let d = ltb maxItems (u .«tag_count») in
           let later = or-right-false a (b || d) f in
           record {
             left-sets = t .limited .left-sets;
             right-sets = t .limited .right-sets;
             left-entries = t .limited .left-entries;
-            right-entries = ltb-false maxEntries (total .«right_entries» + (u .all - u .own)) (or-left-false b d later);
-            tags = ltb-false maxItems (u .tags) (or-right-false b d later);
+            right-entries = ltb-false maxEntries (total .«right_entries» + (u .all - u .first)) (or-left-false b d later);
+            tags = ltb-false maxItems (u .«tag_count») (or-right-false b d later);
           }

@@ -51,9 +51,9 @@ lastFault first second =
 
 -- whether the counts of the right side pass a limit
 abbrev pub overOf : Loaded → Bool
-overOf t = passes (t .«right_sets») (t .«right_entries») (t .tags)
+overOf t = passes (t .«right_sets») (t .«right_entries») (t .«tag_count»)
 
-pub record Passing (first second noted used heads tails order slots : List ℕ) (counted : Counted) (at : ℕ) : Type 0 where
+pub record Passing (first second noted used heads tails ids slots : List ℕ) (counted : Counted) (at : ℕ) : Type 0 where
   pub seen : List TagRecord
   pub split : records second ≡ seen ++ recordsAt second at
   pub place : at ≡ totalLength seen
@@ -63,22 +63,22 @@ pub record Passing (first second noted used heads tails order slots : List ℕ) 
   pub longest : firstOverlong (records first) (length first) [] (records second)
       ≡ unless Failed (counted .long) (firstOverlong (records first) (length first) seen (recordsAt second at))
   pub numbers : RightNoted noted seen
-  pub taken : Taken (pooled (records first) seen) (counted .total) heads tails order
+  pub taken : Taken (pooled (records first) seen) (counted .total) heads tails ids
   pub repeated : counted .repeats ≡ pooledRepeats (records first) seen
   pub size : length slots ≡ maxSets
   pub words : AtSlots (slotWord seen) (records first) used slots
 
 -- by what is counted
-pub passing-by : {first second noted used heads tails order slots : List ℕ} {counted was : Counted} {at : ℕ} → counted ≡ was
-    → Passing first second noted used heads tails order slots was at → Passing first second noted used heads tails order slots counted at
-passing-by {first} {second} {noted} {used} {heads} {tails} {order} {slots} {counted} {was} {at} e p =
-    subst (λ (k : Counted). Passing first second noted used heads tails order slots k at) (sym e) p
+pub passing-by : {first second noted used heads tails ids slots : List ℕ} {counted was : Counted} {at : ℕ} → counted ≡ was
+    → Passing first second noted used heads tails ids slots was at → Passing first second noted used heads tails ids slots counted at
+passing-by {first} {second} {noted} {used} {heads} {tails} {ids} {slots} {counted} {was} {at} e p =
+    subst (λ (k : Counted). Passing first second noted used heads tails ids slots k at) (sym e) p
 
-pub passing-start : {first second used counts heads tails order slots noted : List ℕ} {total : Loaded} {found : Repeats}
-    → SecondReady first total found heads tails order used counts slots → RightNoted noted []
-    → Passing first second noted used heads tails order slots (countedFrom total found) 0
+pub passing-start : {first second used counts heads tails ids slots noted : List ℕ} {total : Loaded} {found : Repeats}
+    → SecondReady first total found heads tails ids used counts slots → RightNoted noted []
+    → Passing first second noted used heads tails ids slots (countedFrom total found) 0
 unfolding secondFault sum keep
-passing-start {first} {second} {used} {counts} {heads} {tails} {order} {slots} {noted} {total} {found} r empty =
+passing-start {first} {second} {used} {counts} {heads} {tails} {ids} {slots} {noted} {total} {found} r empty =
     record {
       seen = [];
       split = refl;
@@ -87,7 +87,7 @@ passing-start {first} {second} {used} {counts} {heads} {tails} {order} {slots} {
       fault = refl;
       longest = refl;
       numbers = empty;
-      taken = subst (λ (rs : List TagRecord). Taken rs total heads tails order) (sym (pooled-none (records first))) (r .taken);
+      taken = subst (λ (rs : List TagRecord). Taken rs total heads tails ids) (sym (pooled-none (records first))) (r .taken);
       repeated = r .repeated
           ∙ ap (λ (k : ℕ). record { left = repeatsOf Left (records first); right = k })
           (sym (add-zero (repeatsOf Right (records first))));
@@ -98,9 +98,9 @@ passing-start {first} {second} {used} {counts} {heads} {tails} {order} {slots} {
 -- ---- ends
 
 -- a fault is what the pair is refused with
-second-refused : {first second heads tails order used slots : List ℕ} (why : Refusal) {r : Second}
+second-refused : {first second heads tails ids used slots : List ℕ} (why : Refusal) {r : Second}
     → secondFault (records first) (length first) second ≡ Failed why → length slots ≡ maxSets → r .answer ≡ load.Refused why
-    → SecondScanned first second heads tails order used slots r
+    → SecondScanned first second heads tails ids used slots r
 second-refused why e size is =
     record {
       answer = is ∙ rw e;
@@ -121,8 +121,8 @@ unless-passed : (a : Tested) → unless Failed a Passed ≡ a
 unless-passed Passed = refl
 unless-passed (Failed w) = refl
 
-module _ {first second noted used heads tails order slots : List ℕ} {counted : Counted} {at : ℕ}
-    (p : Passing first second noted used heads tails order slots counted at) where
+module _ {first second noted used heads tails ids slots : List ℕ} {counted : Counted} {at : ℕ}
+    (p : Passing first second noted used heads tails ids slots counted at) where
   abbrev A : List TagRecord
   A = records first
 
@@ -145,7 +145,7 @@ module _ {first second noted used heads tails order slots : List ℕ} {counted :
 
     -- at the file's end
     pub passing-whole : {r : Second} → at ≡ length second → r ≡ acceptedBy counted
-        → SecondScanned first second heads tails order used slots r
+        → SecondScanned first second heads tails ids used slots r
     unfolding firstOverlong
     passing-whole {r} end told =
         let clean : secondFault A base second ≡ Passed = last-is ∙ rw (eq-eqb at (length second) end) in
@@ -157,15 +157,15 @@ module _ {first second noted used heads tails order slots : List ℕ} {counted :
           long = λ n. ap (λ (q : Second). q .long) told ∙ sym (unless-passed (counted .long))
               ∙ ap (λ (l : List TagRecord). unless Failed (counted .long) (firstOverlong A base (p .seen) l)) (sym stop)
               ∙ sym (p .longest);
-          taken = λ n. subst (λ (rs : List TagRecord). Taken (pooled A rs) (totalsOf (pooled A rs)) heads tails order) (sym all-seen)
-              (subst (λ (t : Loaded). Taken (pooled A (p .seen)) t heads tails order) (p .taken .counts) (p .taken));
+          taken = λ n. subst (λ (rs : List TagRecord). Taken (pooled A rs) (totalsOf (pooled A rs)) heads tails ids) (sym all-seen)
+              (subst (λ (t : Loaded). Taken (pooled A (p .seen)) t heads tails ids) (p .taken .counts) (p .taken));
           size = p .size;
           words = λ n. subst (λ (rs : List TagRecord). AtSlots (slotWord rs) A used slots) (sym all-seen) (p .words);
         }
 
     -- before it
     pub passing-cut : {r : Second} → (at ≡ length second → ⊥) → r .answer ≡ load.Refused (Malformed (placeAfter base at))
-        → SecondScanned first second heads tails order used slots r
+        → SecondScanned first second heads tails ids used slots r
     passing-cut short answer =
         second-refused (Malformed (placeAfter base at)) (last-is ∙ rw (ne-eqb at (length second) short)) (p .size) answer
 
@@ -228,7 +228,7 @@ module _ {first second noted used heads tails order slots : List ℕ} {counted :
     )
 
     -- a left set's: it is passed over
-    pub passing-left : sameSide Right side ≡ false → Passing first second noted used heads tails order slots counted next
+    pub passing-left : sameSide Right side ≡ false → Passing first second noted used heads tails ids slots counted next
     unfolding secondFaultOf
     passing-left left =
         record {
@@ -239,7 +239,7 @@ module _ {first second noted used heads tails order slots : List ℕ} {counted :
           fault = here ∙ rw left;
           longest = long-here ∙ rw (left, unless-passed (counted .long));
           numbers = noted-left (p .numbers) this left;
-          taken = subst (λ (rs : List TagRecord). Taken rs (counted .total) heads tails order) (sym (pooled-left A (p .seen) this left))
+          taken = subst (λ (rs : List TagRecord). Taken rs (counted .total) heads tails ids) (sym (pooled-left A (p .seen) this left))
               (p .taken);
           repeated = p .repeated
               ∙ ap (λ (k : ℕ). record { left = repeatsOf Left A; right = repeatsOf Right A + k })
@@ -255,29 +255,29 @@ module _ {first second noted used heads tails order slots : List ℕ} {counted :
       tells : member noted n ≡ numberUsed (p .seen) this
       tells = noted-tells (p .numbers) this right small
 
-      pub passing-used : {now-slots now-heads now-tails now-order : List ℕ} {r : Second} → member noted n ≡ true
+      pub passing-used : {now-slots now-heads now-tails now-ids : List ℕ} {r : Second} → member noted n ≡ true
           → length now-slots ≡ maxSets → r .answer ≡ load.Refused (NumberUsed (placeAfter base at))
-          → SecondScanned first second now-heads now-tails now-order used now-slots r
+          → SecondScanned first second now-heads now-tails now-ids used now-slots r
       unfolding secondFaultOf
       passing-used t size answer =
           second-refused (NumberUsed (placeAfter base at)) (here ∙ rw (right, sym tells ∙ t, ← p .place)) size answer
 
-      module _ (free : member noted n ≡ false) (u : United) {now-heads now-tails now-order now-slots : List ℕ}
-          (one : OneTaken (pooled A (p .seen ++ (this ∷ []))) (unitedBy (counted .total) u (u .met)) now-heads now-tails now-order)
+      module _ (free : member noted n ≡ false) (u : United) {now-heads now-tails now-ids now-slots : List ℕ}
+          (one : OneTaken (pooled A (p .seen ++ (this ∷ []))) (unitedBy (counted .total) u (u .met)) now-heads now-tails now-ids)
           (size : length now-slots ≡ maxSets) where
         pub passing-past : {r : Second} → overOf (unitedBy (counted .total) u (u .met)) ≡ true
             → r .answer ≡ load.Refused (TooMany (placeAfter base at))
-            → SecondScanned first second now-heads now-tails now-order used now-slots r
+            → SecondScanned first second now-heads now-tails now-ids used now-slots r
         unfolding secondFaultOf
         passing-past t answer =
             second-refused (TooMany (placeAfter base at))
             (here ∙ rw (right, sym tells ∙ free, sym (one .over) ∙ t, ← p .place)) size answer
 
         pub passing-next : {now-noted own : List ℕ} → overOf (unitedBy (counted .total) u (u .met)) ≡ false
-            → Inserted noted n now-noted → u .fresh ≡ length (collapse (tagsAt c second q))
+            → Inserted noted n now-noted → u .second ≡ length (collapse (tagsAt c second q))
             → AtSlots (slotWord (p .seen ++ (this ∷ []))) A used now-slots
             → allTags (keep (sameSet this) A) ≡ own → u .all ≡ length (collapse (own ++ tagsAt c second q))
-            → Passing first second now-noted used now-heads now-tails now-order now-slots (countedBy counted u c (placeAfter base at))
+            → Passing first second now-noted used now-heads now-tails now-ids now-slots (countedBy counted u c (placeAfter base at))
             next
         unfolding secondFaultOf
         passing-next {now-noted} {own} few note distinct words is all =

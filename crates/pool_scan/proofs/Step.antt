@@ -28,12 +28,12 @@ use Rattle.pool_loader_spec.specs.Pooling.{sameSet, pooled}
 use Rattle.pool_loader_spec.proofs.OneMore.{Grown, used-same, memb-around, pooled-new, pooled-met, met-only}
 use Rattle.pool_loader_spec.proofs.Sides.{right-both}
 use Rattle.tag_index.specs.Index.{tableOf}
-use Rattle.pool_scan.specs.right_slots.Slots.{slotOf, AtSlots, slotWord, pooledMark, NumbersOnce}
+use Rattle.pool_scan.specs.right_slots.Slots.{numberSlot, AtSlots, slotWord, pooledMark, NumbersOnce}
 use Rattle.pool_scan.proofs.right_slots.Counted.{slot-below}
 use Rattle.pool_scan.proofs.right_slots.Found.{FoundRight, found-right, missed-right}
 use Rattle.pool_scan.proofs.right_slots.Putting.{NumbersSmall, at-slots-put}
 use Rattle.pool_scan.specs.declared.union.United.{United}
-use Rattle.pool_scan.specs.union.Union.{RecordThere, KnownThere, UniteReady, Taking, TakenIn}
+use Rattle.pool_scan.specs.union.Union.{WholeRecordAt, KnownRecordAt, UniteReady, Taking, TakenIn}
 use Rattle.pool_scan.specs.declared.counting.Counted.{Counted}
 use Rattle.pool_scan.specs.counting.Counting.{unitedBy}
 use Rattle.pool_scan.specs.Second.{SecondReady}
@@ -43,19 +43,19 @@ use Rattle.pool_scan.proofs.Words.{word-apart, word-met, own-none, own-
 
 -- what holds once the tags of a record are taken in
 pub record Stepped (first : List ℕ) (seen : List TagRecord) (s : TagRecord) (used : List ℕ) (total : Loaded) (u : United)
-    (now-heads now-tails now-order now-slots : List ℕ) : Type 0 where
-  pub one : OneTaken (pooled (records first) (seen ++ (s ∷ []))) (unitedBy total u (u .met)) now-heads now-tails now-order
+    (now-heads now-tails now-ids now-slots : List ℕ) : Type 0 where
+  pub one : OneTaken (pooled (records first) (seen ++ (s ∷ []))) (unitedBy total u (u .met)) now-heads now-tails now-ids
   pub size : length now-slots ≡ maxSets
   pub words : AtSlots (slotWord (seen ++ (s ∷ []))) (records first) used now-slots
   pub own : List ℕ
   pub is : allTags (keep (sameSet s) (records first)) ≡ own
   pub counted : u .all ≡ length (collapse (own ++ s .tags))
-  pub distinct : u .fresh ≡ length (collapse (s .tags))
+  pub distinct : u .second ≡ length (collapse (s .tags))
 
-module _ {first second used counts heads₀ tails₀ order₀ slots₀ : List ℕ} {total₀ : Loaded} {found₀ : Repeats}
-    (ready : SecondReady first total₀ found₀ heads₀ tails₀ order₀ used counts slots₀) (byte : (i : ℕ) → getD first i 0 < 256)
-    {noted heads tails order slots : List ℕ} {counted : Counted} {at : ℕ}
-    (p : Passing first second noted used heads tails order slots counted at)
+module _ {first second used counts heads₀ tails₀ ids₀ slots₀ : List ℕ} {total₀ : Loaded} {found₀ : Repeats}
+    (ready : SecondReady first total₀ found₀ heads₀ tails₀ ids₀ used counts slots₀) (byte : (i : ℕ) → getD first i 0 < 256)
+    {noted heads tails ids slots : List ℕ} {counted : Counted} {at : ℕ}
+    (p : Passing first second noted used heads tails ids slots counted at)
     {side : Side} {n c q next : ℕ} (e : readAt second at ≡ Record side n c q next)
     (right : sameSide Right side ≡ true) (small : n < halfWords) (free : member noted n ≡ false) where
   abbrev total : Loaded
@@ -93,12 +93,12 @@ module _ {first second used counts heads₀ tails₀ order₀ slots₀ : List �
     found : ReadFound first (totalLength (f .before)) r (f .after)
     found = read-found first (f .before) r (f .after) (f .split)
 
-    at-slot : getD slots (slotOf used n) 0 ≡ totalLength (f .before)
+    at-slot : getD slots (numberSlot used n) 0 ≡ totalLength (f .before)
     at-slot =
-        ap (λ (k : ℕ). getD slots (slotOf used k) 0) (sym (f .number))
+        ap (λ (k : ℕ). getD slots (numberSlot used k) 0) (sym (f .number))
         ∙ p .words (f .before) r (f .after) (f .split) (f .right) ∙ rw new-r
 
-    there : RecordThere first (getD slots (slotOf used n) 0) (found .count) (found .place)
+    there : WholeRecordAt first (getD slots (numberSlot used n) 0) (found .count) (found .place)
     there =
         record {
           side = r .side;
@@ -117,19 +117,19 @@ module _ {first second used counts heads₀ tails₀ order₀ slots₀ : List �
         ap (keep (sameSet s)) (f .split)
         ∙ met-only (f .before) r (f .after) (p .seen) s right same new (λ b t a is. once b t a (f .split ∙ is))
 
-    known : (y : ℕ) → memb y (tagsAt (found .count) first (found .place)) ≡ true → memb y (tableOf heads tails (total .tags) order) ≡ true
+    known : (y : ℕ) → memb y (tagsAt (found .count) first (found .place)) ≡ true → memb y (tableOf heads tails (total .«tag_count») ids) ≡ true
     known y m =
         ap (memb y) (p .taken .table) ∙ memb-collapse y (allTags (pooled A (p .seen)))
         ∙ ap (λ (l : List TagRecord). memb y (allTags l)) (grew .stood)
         ∙ memb-around (grew .before) r (grew .after) y (ap (memb y) (found .tags) ∙ m)
 
-    pub step-there : KnownThere first (getD slots (slotOf used n) 0) (tableOf heads tails (total .tags) order)
-    step-there = record { count = found .count; tags = found .place; there = there; known = known }
+    pub step-there : KnownRecordAt first (getD slots (numberSlot used n) 0) (tableOf heads tails (total .«tag_count») ids)
+    step-there = record { count = found .count; start = found .place; there = there; known = known }
 
-    pub step-slot : slotOf used n < maxSets
+    pub step-slot : numberSlot used n < maxSets
     step-slot = slot-below used (ready .slotted .noted) n small met
 
-  pub step-ready : c ≤ maxSetLength → UniteReady first second n q c (total .tags) heads tails order used counts slots
+  pub step-ready : c ≤ maxSetLength → UniteReady first second n q c (total .«tag_count») heads tails ids used counts slots
   step-ready few =
       record {
         index = record { sorted = p .taken .sorted; small = p .taken .limited .tags };
@@ -142,28 +142,28 @@ module _ {first second used counts heads₀ tails₀ order₀ slots₀ : List �
         there = step-there;
       }
 
-  module _ {u : United} {now-heads now-tails now-order now-slots : List ℕ}
-      (t : Taking first second n q c (total .tags) heads tails order used slots u now-heads now-tails now-order now-slots) where
+  module _ {u : United} {now-heads now-tails now-ids now-slots : List ℕ}
+      (t : Taking first second n q c (total .«tag_count») heads tails ids used slots u now-heads now-tails now-ids now-slots) where
     counts-as : (b : Bool) → member used n ≡ b → unitedBy total u (u .met) ≡ unitedBy total u b
     counts-as b is = ap (unitedBy total u) (t .told ∙ is)
 
-    pub step-bounds : (u .own ≤ u .all) × (u .all ≤ maxSetLength + maxSetLength)
+    pub step-bounds : (u .first ≤ u .all) × (u .all ≤ maxSetLength + maxSetLength)
     step-bounds =
         by-test (member used n)
         (λ met. let i = t .met met (found met .count) (found met .place) (there met) in (i .less, i .few))
         (λ out. (t .alone out .less, t .alone out .few))
 
     -- one that the first file has not
-    step-alone : member used n ≡ false → Stepped first (p .seen) s used total u now-heads now-tails now-order now-slots
+    step-alone : member used n ≡ false → Stepped first (p .seen) s used total u now-heads now-tails now-ids now-slots
     unfolding any
     step-alone out =
         let unused : numberUsed A s ≡ false = missed-right (ready .slotted .noted) n small out s right refl in
         record {
-          one = subst (λ (l : Loaded). OneTaken (pooled A (p .seen ++ (s ∷ []))) l now-heads now-tails now-order) (sym (counts-as false out))
+          one = subst (λ (l : Loaded). OneTaken (pooled A (p .seen ++ (s ∷ []))) l now-heads now-tails now-ids) (sym (counts-as false out))
               (alone-taken (p .taken) s (sym (same-side Right side right)) (t .alone out) (pooled-new A (p .seen) s right unused));
           size = ap length (t .kept out) ∙ p .size;
           words = λ b w a split side-w.
-              ap (λ (l : List ℕ). getD l (slotOf used (w .number)) 0) (t .kept out) ∙ p .words b w a split side-w
+              ap (λ (l : List ℕ). getD l (numberSlot used (w .number)) 0) (t .kept out) ∙ p .words b w a split side-w
               ∙ sym (word-apart (p .seen) s b w (apart b w a split unused));
           own = [];
           is = own-none A s unused;
@@ -178,15 +178,15 @@ module _ {first second used counts heads₀ tails₀ order₀ slots₀ : List �
             (sym (any-append (λ x. sameSet x s) b (w ∷ a)) ∙ ap (λ (l : List TagRecord). numberUsed l s) (sym split) ∙ unused))
 
     -- one that it has
-    step-met : member used n ≡ true → Stepped first (p .seen) s used total u now-heads now-tails now-order now-slots
+    step-met : member used n ≡ true → Stepped first (p .seen) s used total u now-heads now-tails now-ids now-slots
     step-met met =
         let w = f met in
-        let i = subst (λ (l : List ℕ). TakenIn l (tagsAt c second q) heads tails (total .tags) order u now-heads now-tails now-order)
+        let i = subst (λ (l : List ℕ). TakenIn l (tagsAt c second q) heads tails (total .«tag_count») ids u now-heads now-tails now-ids)
         (sym (found met .tags)) (t .met met (found met .count) (found met .place) (there met)) in
         record {
-          one = subst (λ (l : Loaded). OneTaken (pooled A (p .seen ++ (s ∷ []))) l now-heads now-tails now-order) (sym (counts-as true met))
+          one = subst (λ (l : Loaded). OneTaken (pooled A (p .seen ++ (s ∷ []))) l now-heads now-tails now-ids) (sym (counts-as true met))
               (met-taken (p .taken) (w .this) (sym (same-side Right (w .this .side) (w .right))) (tagsAt c second q) i (grew met));
-          size = ap length (t .noted met) ∙ length-set slots (slotOf used n) (pooledMark + u .all) ∙ p .size;
+          size = ap length (t .noted met) ∙ length-set slots (numberSlot used n) (pooledMark + u .all) ∙ p .size;
           words = subst (λ (l : List ℕ). AtSlots (slotWord (p .seen ++ (s ∷ []))) A used l) (sym (written met w))
               (at-slots-put A used slots (slotWord (p .seen)) (slotWord (p .seen ++ (s ∷ []))) once (ready .slotted .noted) smalls (p .size)
               (p .words) (w .before) (w .this) (w .after) (pooledMark + u .all) (w .split) (w .right)
@@ -199,13 +199,13 @@ module _ {first second used counts heads₀ tails₀ order₀ slots₀ : List �
         }
       where
         written : (met : member used n ≡ true) (w : FoundRight A n)
-            → now-slots ≡ set slots (slotOf used (w .this .number)) (pooledMark + u .all)
-        written met w = t .noted met ∙ ap (λ (k : ℕ). set slots (slotOf used k) (pooledMark + u .all)) (sym (w .number))
+            → now-slots ≡ set slots (numberSlot used (w .this .number)) (pooledMark + u .all)
+        written met w = t .noted met ∙ ap (λ (k : ℕ). set slots (numberSlot used k) (pooledMark + u .all)) (sym (w .number))
 
         apart : (x : TagRecord) → (x .number ≡ f met .this .number → ⊥) → sameSet x s ≡ false
         apart x other =
             refuted (sameSet x s)
             (λ yes. other (eqb-true (x .number) n (and-right (sameSide (x .side) side) (eqb (x .number) n) yes) ∙ sym (f met .number)))
 
-    pub stepped : Stepped first (p .seen) s used total u now-heads now-tails now-order now-slots
+    pub stepped : Stepped first (p .seen) s used total u now-heads now-tails now-ids now-slots
     stepped = by-test (member used n) step-met step-alone

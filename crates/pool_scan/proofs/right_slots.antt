@@ -11,6 +11,6 @@ pub mod Putting
 pub mod Walking
 pub mod Noting
 pub mod Counting
-pub mod Placing
+pub mod SlotPlacing
 -- an accepted file's right sets can have slots
 pub mod Accepted

@@ -21,23 +21,23 @@ use Rattle.pool_scan.specs.right_slots.Slots.{AtSlots, Slottable, Slotte
 use Rattle.pool_scan.specs.declared.counting.Second.{Second}
 
 -- the first file was taken in, its repeats are counted, and its right sets have slots
-pub record SecondReady (first : List ℕ) (total : Loaded) (repeats : Repeats) (heads tails order used counts slots : List ℕ)
+pub record SecondReady (first : List ℕ) (total : Loaded) (repeats : Repeats) (heads tails ids used counts slots : List ℕ)
     : Type 0 where
-  pub taken : Taken (records first) total heads tails order
+  pub taken : Taken (records first) total heads tails ids
   pub repeated : repeats ≡ repeatTotals (records first)
   pub slottable : Slottable first
   pub slotted : Slotted first used counts slots
 
 -- the second file: its first fault, or the counts of the pooled records and the repeats of both files. Without a fault they are taken
 -- in, the slots have the lengths of the pooled sets, and the first record whose pooled set is too long is known
-pub record SecondScanned (first second heads tails order used slots : List ℕ) (r : Second) : Type 0 where
+pub record SecondScanned (first second heads tails ids used slots : List ℕ) (r : Second) : Type 0 where
   pub answer : r .answer
       ≡ unless load.Refused (secondFault (records first) (length first) second)
       (load.Loaded (totalsOf (pooled (records first) (records second))) (pooledRepeats (records first) (records second)))
   pub long : secondFault (records first) (length first) second ≡ Passed
       → r .long ≡ firstOverlong (records first) (length first) [] (records second)
   pub taken : secondFault (records first) (length first) second ≡ Passed
-      → Taken (pooled (records first) (records second)) (totalsOf (pooled (records first) (records second))) heads tails order
+      → Taken (pooled (records first) (records second)) (totalsOf (pooled (records first) (records second))) heads tails ids
   pub size : length slots ≡ maxSets
   pub words : secondFault (records first) (length first) second ≡ Passed
       → AtSlots (slotWord (records second)) (records first) used slots

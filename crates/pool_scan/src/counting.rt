@@ -45,7 +45,7 @@ pub fn count_from(before: Loaded, found: Repeats) -> Counted
 // The counts with one more right set of the second file.
 fn grown_by(total: Loaded, united: United) -> Loaded
     requires { ⌜ Limited total ⌝ }
-    requires { ⌜ (united .own ≤ united .all) × (united .all ≤ maxSetLength + maxSetLength) ⌝ }
+    requires { ⌜ (united .first ≤ united .all) × (united .all ≤ maxSetLength + maxSetLength) ⌝ }
     ensures { λ r. ⌜ r ≡ unitedBy total united (united .met) ⌝ }
 {
     if united.met {
@@ -53,8 +53,8 @@ fn grown_by(total: Loaded, united: United) -> Loaded
             left_sets: total.left_sets,
             right_sets: total.right_sets,
             left_entries: total.left_entries,
-            right_entries: total.right_entries + (united.all - united.own),
-            tags: united.tags,
+            right_entries: total.right_entries + (united.all - united.first),
+            tag_count: united.tag_count,
         }
     } else {
         Loaded {
@@ -62,7 +62,7 @@ fn grown_by(total: Loaded, united: United) -> Loaded
             right_sets: total.right_sets + 1,
             left_entries: total.left_entries,
             right_entries: total.right_entries + united.all,
-            tags: united.tags,
+            tag_count: united.tag_count,
         }
     }
 }
@@ -92,7 +92,7 @@ pub fn count_set(before: Counted, united: United, count: usize, place: usize) ->
     let found = before.repeats;
     let repeats = Repeats {
         left: found.left,
-        right: found.right + (count - united.fresh),
+        right: found.right + (count - united.second),
     };
     let was = before.long;
     let long = first_long(was, united.all, place);

@@ -49,12 +49,12 @@ pub fn scan_second(
     slots: &mut [u32],
     heads: &mut [usize; INDEX_ROOM],
     tails: &mut [u32; INDEX_ROOM],
-    order: &mut [u16; INDEX_ROOM],
+    ids: &mut [u16; INDEX_ROOM],
     hints: &mut [u16; HINT_SLOTS],
 ) -> Second
-    requires { ⌜ SecondReady (now first) before found (now heads) (now tails) (now order) (now used) (now counts) (now slots) ⌝ }
+    requires { ⌜ SecondReady (now first) before found (now heads) (now tails) (now ids) (now used) (now counts) (now slots) ⌝ }
     ensures { λ r. ⌜ SecondScanned (now (first .entry)) (now (second .entry)) (now (heads .exit)) (now (tails .exit))
-        (now (order .exit)) (now (used .entry)) (now (slots .exit)) r ⌝ }
+        (now (ids .exit)) (now (used .entry)) (now (slots .exit)) r ⌝ }
 {
     let mut noted = [0u64; NUMBER_WORDS];
     let mut counted = count_from(before, found);
@@ -66,7 +66,7 @@ pub fn scan_second(
             side,
             number,
             count,
-            tags,
+            tags_at,
             next,
         } = answer
         else {
@@ -80,25 +80,25 @@ pub fn scan_second(
                 return refused(Refusal::NumberUsed(place));
             }
             let so_far = counted.total;
-            let n = so_far.tags;
+            let n = so_far.tag_count;
             let united = unite(
                 first,
                 second,
                 number,
-                tags,
+                tags_at,
                 count,
                 used,
                 counts,
                 slots,
                 heads,
                 tails,
-                order,
+                ids,
                 hints,
                 n,
             );
             counted = count_set(counted, united, count, place);
             let total = counted.total;
-            if is_past(total.right_sets, total.right_entries, total.tags) {
+            if is_past(total.right_sets, total.right_entries, total.tag_count) {
                 return refused(Refusal::TooMany(place));
             }
         }

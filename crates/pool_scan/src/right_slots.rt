@@ -15,7 +15,7 @@ ghost use Rattle.bit_sets.specs.BitSets.{member};
 ghost use Rattle.sets.specs.Limits.{maxSets, halfWords};
 ghost use Rattle.sets.specs.declared.Side.the-variants.{Right};
 ghost use Rattle.tag_file.specs.Records.{records, ofSide};
-ghost use Rattle.pool_scan.specs.right_slots.Slots.{numberWords, blockLength, blocks, slotOf, BlocksCounted, NumbersNoted};
+ghost use Rattle.pool_scan.specs.right_slots.Slots.{numberWords, blockLength, blocks, numberSlot, BlocksCounted, NumbersNoted};
 ghost use Rattle.pool_scan.specs.right_slots.Slots.{Slotted, Slottable};
 
 // How many numbers 16 bits have.
@@ -39,9 +39,9 @@ fn ones_before(used: &[u64], w: usize) -> usize
 }
 
 // The slot of a number: how many used numbers are below it.
-pub fn slot_of(used: &[u64], counts: &[u16], number: u16) -> usize
+pub fn number_slot(used: &[u64], counts: &[u16], number: u16) -> usize
     requires { ⌜ BlocksCounted (now used) (now counts) ⌝ }
-    ensures { λ r. ⌜ r ≡ slotOf (now (used .entry)) number ⌝ }
+    ensures { λ r. ⌜ r ≡ numberSlot (now (used .entry)) number ⌝ }
 {
     let n = number as usize;
     let w = n / 64;
@@ -64,7 +64,7 @@ fn note_numbers(file: &[u8], used: &mut [u64])
             side,
             number,
             count: _,
-            tags: _,
+            tags_at: _,
             next,
         } = answer
         else {
@@ -92,7 +92,7 @@ fn block_ones(used: &[u64], b: usize) -> usize
 fn count_blocks(used: &[u64], counts: &mut [u16])
     requires { ⌜ length (now used) ≡ numberWords ⌝ }
     requires { ⌜ length (now counts) ≡ blocks ⌝ }
-    requires { ⌜ slotOf (now used) halfWords ≤ maxSets ⌝ }
+    requires { ⌜ numberSlot (now used) halfWords ≤ maxSets ⌝ }
     ensures { λ _. ⌜ BlocksCounted (now (used .entry)) (now (counts .exit)) ⌝ }
 {
     let mut total: usize = 0;
@@ -117,7 +117,7 @@ fn put_places(file: &[u8], used: &[u64], counts: &[u16], slots: &mut [u32])
             side,
             number,
             count: _,
-            tags: _,
+            tags_at: _,
             next,
         } = answer
         else {
@@ -128,7 +128,7 @@ fn put_places(file: &[u8], used: &[u64], counts: &[u16], slots: &mut [u32])
         if !is_side(Side::Right, side) {
             continue;
         }
-        let slot = slot_of(used, counts, number);
+        let slot = number_slot(used, counts, number);
         slots[slot] = here as u32;
     }
 }

@@ -1,7 +1,7 @@
 // The tags of one right set of the second of two pooled files, taken into the index as a union: if the first file has a set of its
 // number, the tags of that record are marked again, and then the second's that are new.
 use crate::right_slots::POOLED_MARK;
-use crate::right_slots::slot_of;
+use crate::right_slots::number_slot;
 use bit_sets::contains;
 use tag_file::ReadAnswer;
 use tag_file::read_record;
@@ -18,15 +18,15 @@ ghost use lib.ListN.{replicate};
 ghost use Rattle.tag_file.specs.Reading.{tagsAt};
 ghost use Rattle.tag_index.specs.Index.{tableOf};
 ghost use Rattle.tag_index.specs.tag_adding.Adding.{seenWords, AllAdded};
-ghost use Rattle.pool_scan.specs.union.Union.{RecordThere, KnownThere, IndexReady, TagsInside, AddedAlone, AddedBoth};
+ghost use Rattle.pool_scan.specs.union.Union.{WholeRecordAt, KnownRecordAt, IndexReady, TagsInside, AddedAlone, AddedBoth};
 ghost use Rattle.pool_scan.specs.union.Union.{UniteReady, Taking};
 
 // The tags of a set of the second file: how many the index has with them, how many distinct ones the first file's set of its number had,
 // how many the second's record has, how many both have together, and whether there is one.
 pub struct United {
-    pub tags: usize,
-    pub own: usize,
-    pub fresh: usize,
+    pub tag_count: usize,
+    pub first: usize,
+    pub second: usize,
     pub all: usize,
     pub met: bool,
 }
@@ -37,27 +37,30 @@ fn add_first(
     at: usize,
     heads: &mut [usize; INDEX_ROOM],
     tails: &mut [u32; INDEX_ROOM],
-    order: &mut [u16; INDEX_ROOM],
+    ids: &mut [u16; INDEX_ROOM],
     seen: &mut [u64],
     hints: &mut [u16; HINT_SLOTS],
     n: usize,
 ) -> Added
-    requires { ⌜ IndexReady (now heads) (now tails) n (now order) ⌝ }
+    requires { ⌜ IndexReady (now heads) (now tails) n (now ids) ⌝ }
     requires { ⌜ now seen ≡ replicate seenWords 0 ⌝ }
-    ensures { λ r. ⌜ ((count tags : ℕ) → RecordThere (now (first .entry)) at count tags
-        → AllAdded [] (now (first .entry)) tags count n (now (heads .entry)) (now (tails .entry)) (now (order .entry))
-        (r .tags) (r .fresh) (now (heads .exit)) (now (tails .exit)) (now (order .exit)) (now (seen .exit))) ⌝ }
+    ensures { λ r. ⌜ ((count start : ℕ) → WholeRecordAt (now (first .entry)) at count start
+        → AllAdded [] (now (first .entry)) start count n (now (heads .entry)) (now (tails .entry)) (now (ids .entry))
+        (r .«tag_count») (r .distinct) (now (heads .exit)) (now (tails .exit)) (now (ids .exit)) (now (seen .exit))) ⌝ }
 {
     let answer = read_record(first, at);
-    let sum = Added { tags: n, fresh: 0 };
+    let sum = Added {
+        tag_count: n,
+        distinct: 0,
+    };
     match answer {
         ReadAnswer::Record {
             side: _,
             number: _,
             count,
-            tags,
+            tags_at,
             next: _,
-        } => add_tags(first, heads, tails, order, seen, hints, tags, count, sum),
+        } => add_tags(first, heads, tails, ids, seen, hints, tags_at, count, sum),
         ReadAnswer::NoMore => sum,
         ReadAnswer::Refused(_) => sum,
     }
@@ -66,38 +69,41 @@ fn add_first(
 // Takes in the tags of a right set of the second file that is not in the first file.
 fn add_alone(
     second: &[u8],
-    tags: usize,
+    start: usize,
     count: usize,
     heads: &mut [usize; INDEX_ROOM],
     tails: &mut [u32; INDEX_ROOM],
-    order: &mut [u16; INDEX_ROOM],
+    ids: &mut [u16; INDEX_ROOM],
     hints: &mut [u16; HINT_SLOTS],
     n: usize,
 ) -> United
-    requires { ⌜ IndexReady (now heads) (now tails) n (now order) ⌝ }
-    requires { ⌜ TagsInside (now second) tags count ⌝ }
-    ensures { λ r. ⌜ AddedAlone (tagsAt count (now (second .entry)) tags)
-        (now (heads .entry)) (now (tails .entry)) n (now (order .entry)) r
-        (now (heads .exit)) (now (tails .exit)) (now (order .exit)) ⌝ }
+    requires { ⌜ IndexReady (now heads) (now tails) n (now ids) ⌝ }
+    requires { ⌜ TagsInside (now second) start count ⌝ }
+    ensures { λ r. ⌜ AddedAlone (tagsAt count (now (second .entry)) start)
+        (now (heads .entry)) (now (tails .entry)) n (now (ids .entry)) r
+        (now (heads .exit)) (now (tails .exit)) (now (ids .exit)) ⌝ }
 {
     let mut seen = [0u64; SEEN_WORDS];
-    let sum = Added { tags: n, fresh: 0 };
+    let sum = Added {
+        tag_count: n,
+        distinct: 0,
+    };
     let added = add_tags(
         second,
         heads,
         tails,
-        order,
+        ids,
         &mut seen,
         hints,
-        tags,
+        start,
         count,
         sum,
     );
     United {
-        tags: added.tags,
-        own: 0,
-        fresh: added.fresh,
-        all: added.fresh,
+        tag_count: added.tag_count,
+        first: 0,
+        second: added.distinct,
+        all: added.distinct,
         met: false,
     }
 }
@@ -107,39 +113,39 @@ fn add_both(
     first: &[u8],
     at: usize,
     second: &[u8],
-    tags: usize,
+    start: usize,
     count: usize,
     heads: &mut [usize; INDEX_ROOM],
     tails: &mut [u32; INDEX_ROOM],
-    order: &mut [u16; INDEX_ROOM],
+    ids: &mut [u16; INDEX_ROOM],
     hints: &mut [u16; HINT_SLOTS],
     n: usize,
 ) -> United
-    requires { ⌜ IndexReady (now heads) (now tails) n (now order) ⌝ }
-    requires { ⌜ TagsInside (now second) tags count ⌝ }
-    requires { ⌜ KnownThere (now first) at (tableOf (now heads) (now tails) n (now order)) ⌝ }
-    ensures { λ r. ⌜ AddedBoth (now (first .entry)) at (tagsAt count (now (second .entry)) tags)
-        (now (heads .entry)) (now (tails .entry)) n (now (order .entry)) r
-        (now (heads .exit)) (now (tails .exit)) (now (order .exit)) ⌝ }
+    requires { ⌜ IndexReady (now heads) (now tails) n (now ids) ⌝ }
+    requires { ⌜ TagsInside (now second) start count ⌝ }
+    requires { ⌜ KnownRecordAt (now first) at (tableOf (now heads) (now tails) n (now ids)) ⌝ }
+    ensures { λ r. ⌜ AddedBoth (now (first .entry)) at (tagsAt count (now (second .entry)) start)
+        (now (heads .entry)) (now (tails .entry)) n (now (ids .entry)) r
+        (now (heads .exit)) (now (tails .exit)) (now (ids .exit)) ⌝ }
 {
     let mut seen = [0u64; SEEN_WORDS];
-    let own = add_first(first, at, heads, tails, order, &mut seen, hints, n);
+    let before = add_first(first, at, heads, tails, ids, &mut seen, hints, n);
     let both = add_beside(
         second,
         heads,
         tails,
-        order,
+        ids,
         &mut seen,
         hints,
-        tags,
+        start,
         count,
-        own,
+        before,
     );
     United {
-        tags: both.tags,
-        own: own.fresh,
-        fresh: both.own,
-        all: both.fresh,
+        tag_count: both.tag_count,
+        first: before.distinct,
+        second: both.own,
+        all: both.distinct,
         met: true,
     }
 }
@@ -150,40 +156,29 @@ pub fn unite(
     first: &[u8],
     second: &[u8],
     number: u16,
-    tags: usize,
+    start: usize,
     count: usize,
     used: &[u64],
     counts: &[u16],
     slots: &mut [u32],
     heads: &mut [usize; INDEX_ROOM],
     tails: &mut [u32; INDEX_ROOM],
-    order: &mut [u16; INDEX_ROOM],
+    ids: &mut [u16; INDEX_ROOM],
     hints: &mut [u16; HINT_SLOTS],
     n: usize,
 ) -> United
-    requires { ⌜ UniteReady (now first) (now second) number tags count n (now heads) (now tails) (now order)
+    requires { ⌜ UniteReady (now first) (now second) number start count n (now heads) (now tails) (now ids)
         (now used) (now counts) (now slots) ⌝ }
-    ensures { λ r. ⌜ Taking (now (first .entry)) (now (second .entry)) number tags count n
-        (now (heads .entry)) (now (tails .entry)) (now (order .entry)) (now (used .entry)) (now (slots .entry)) r
-        (now (heads .exit)) (now (tails .exit)) (now (order .exit)) (now (slots .exit)) ⌝ }
+    ensures { λ r. ⌜ Taking (now (first .entry)) (now (second .entry)) number start count n
+        (now (heads .entry)) (now (tails .entry)) (now (ids .entry)) (now (used .entry)) (now (slots .entry)) r
+        (now (heads .exit)) (now (tails .exit)) (now (ids .exit)) (now (slots .exit)) ⌝ }
 {
     if !contains(used, number as usize) {
-        return add_alone(second, tags, count, heads, tails, order, hints, n);
+        return add_alone(second, start, count, heads, tails, ids, hints, n);
     }
-    let slot = slot_of(used, counts, number);
+    let slot = number_slot(used, counts, number);
     let at = slots[slot] as usize;
-    let united = add_both(
-        first,
-        at,
-        second,
-        tags,
-        count,
-        heads,
-        tails,
-        order,
-        hints,
-        n,
-    );
+    let united = add_both(first, at, second, start, count, heads, tails, ids, hints, n);
     slots[slot] = POOLED_MARK + united.all as u32;
     united
 }

@@ -102,12 +102,12 @@ pub fn read(file: &[u8], at: usize) -> RecordRead
         side: _,
         number: _,
         count,
-        tags,
+        tags_at,
         next: _,
     } = answer
     else {
         return RecordRead { answer, repeats: 0 };
     };
-    let repeats = count_repeats(file, tags, count);
+    let repeats = count_repeats(file, tags_at, count);
     RecordRead { answer, repeats }
 }

@@ -3,7 +3,7 @@
 -- number twice on a side.
 use mathlib.Core.Path.{_≡_, refl, sym, ap, _∙_}
 use Prim.Native.Nat.{ℕ, _+_, _<_}
-use mathlib.Core.List.{List, [], _∷_, _++_, append-assoc}
+use mathlib.Core.List.{List, [], _∷_, _++_, append-assoc, flatten}
 use mathlib.Core.Bool.{true}
 use native.Mathlib.Omega.{arith}
 use lib.ListN.{length, getD, take, drop, length-append, take-append-drop}
@@ -19,7 +19,7 @@ use Rattle.tag_file.specs.declared.Repeats.{Repeats}
 use Rattle.tag_file.specs.declared.LoadAnswer.the-variants as load
 use Rattle.tag_file.specs.Records.{TagRecord, records, ofSide, allTags, tagTable, setsOfSide}
 use Rattle.tag_file.specs.Repeats.{repeatTotals}
-use Rattle.tag_file.specs.Loading.{Lists, numbersOf, endsFrom, join, filled, totalsOf, loadAnswer, LoadCall}
+use Rattle.tag_file.specs.Loading.{Lists, numbersOf, endsFrom, filled, totalsOf, loadAnswer, LoadCall}
 use Rattle.tag_file.proofs.AnswerLaws.{LoadAccepted, accepted, call-lists}
 use Rattle.tag_file.proofs.FaultFree.{file-free}
 use Rattle.tag_file.proofs.Tables.{rising-collapse}
@@ -59,16 +59,16 @@ over-whole loaded got T = record { leftEnds = refl; leftItems = refl; rightEnds 
 
 -- sets that were joined, whatever stands after their items
 sets-from : (before : List ℕ) (start : ℕ) (sets : List (List ℕ)) (rest : List ℕ) → length before ≡ start
-    → setsFrom start (endsFrom start sets) (before ++ (join sets ++ rest)) ≡ sets
-unfolding setsFrom endsFrom join
+    → setsFrom start (endsFrom start sets) (before ++ (flatten sets ++ rest)) ≡ sets
+unfolding setsFrom endsFrom flatten
 sets-from before start [] rest e = refl
 sets-from before start (set ∷ sets) rest e =
     let next : length (before ++ set) ≡ start + length set = rw (length-append, e) in
-    let again : setsFrom (start + length set) (endsFrom (start + length set) sets) (before ++ (set ++ (join sets ++ rest))) ≡ sets =
-    rw (append-assoc before set (join sets ++ rest)) at (sets-from (before ++ set) (start + length set) sets rest next) in
-    rw (append-assoc set (join sets) rest, between-joined before set (join sets ++ rest) start e, again)
+    let again : setsFrom (start + length set) (endsFrom (start + length set) sets) (before ++ (set ++ (flatten sets ++ rest))) ≡ sets =
+    rw (append-assoc before set (flatten sets ++ rest)) at (sets-from (before ++ set) (start + length set) sets rest next) in
+    rw (append-assoc set (flatten sets) rest, between-joined before set (flatten sets ++ rest) start e, again)
 
-sets-begin : (sets : List (List ℕ)) (items : List ℕ) (n : ℕ) → take n items ≡ join sets → setsOf (endsFrom 0 sets) items ≡ sets
+sets-begin : (sets : List (List ℕ)) (items : List ℕ) (n : ℕ) → take n items ≡ flatten sets → setsOf (endsFrom 0 sets) items ≡ sets
 sets-begin sets items n begins =
     ap (λ (l : List ℕ). setsOf (endsFrom 0 sets) l)
     (sym (take-append-drop n items) ∙ ap (λ (l : List ℕ). l ++ drop n items) begins)
@@ -109,10 +109,10 @@ module _ {rs : List TagRecord} {loaded : Loaded} {got : Lists} (fills : Fills rs
       (ap (λ (c : Loaded). c .«right_sets») (fills .counted)) within
 
   -- the tag of a lesser item is below that of a greater one, as unsigned bytes
-  pub fills-tags-rise : recordsFit rs ≡ true → (i j : ℕ) → i < j → j < loaded .tags
+  pub fills-tags-rise : recordsFit rs ≡ true → (i j : ℕ) → i < j → j < loaded .«tag_count»
       → bytesBelow (tagIn (partsOf loaded got .tags) i) (tagIn (partsOf loaded got .tags) j) ≡ true
   fills-tags-rise fit i j less within =
-      let many : loaded .tags ≡ length (tagTable rs) = ap (λ (c : Loaded). c .tags) (fills .counted) in
+      let many : loaded .«tag_count» ≡ length (tagTable rs) = ap (λ (c : Loaded). c .«tag_count») (fills .counted) in
       ap (λ (l : Lists). bytesBelow (tagIn (l .tags) i) (tagIn (l .tags) j)) (fills .lists)
       ∙ table-order (tagTable rs) (rising-collapse (allTags rs)) (table-fit rs fit) i j less (omega arith)
 
@@ -157,6 +157,6 @@ module _ (file : List ℕ) {lent got : Lists} {loaded : Loaded} {repeats : Repea
   pub load-numbers-distinct : (side : Side) → distinct (numbersOf side (records file)) ≡ true
   load-numbers-distinct side = file-free file (load-accepted .clear) .numbers side
 
-  pub load-tags-rise : ((i : ℕ) → getD file i 0 < 256) → (i j : ℕ) → i < j → j < loaded .tags
+  pub load-tags-rise : ((i : ℕ) → getD file i 0 < 256) → (i j : ℕ) → i < j → j < loaded .«tag_count»
       → bytesBelow (tagIn (partsOf loaded got .tags) i) (tagIn (partsOf loaded got .tags) j) ≡ true
   load-tags-rise low i j less within = fills-tags-rise load-fills (file-fit file low) i j less within

@@ -1,7 +1,7 @@
 -- A record has as many items as distinct tags, where the table has its tags. So the items of a side's sets are as many as the
 -- collapsed entries; and the other lengths of the filled lists.
 use mathlib.Core.Path.{_≡_, refl, sym, ap, _∙_}
-use mathlib.Core.List.{List, [], _∷_, map}
+use mathlib.Core.List.{List, [], _∷_, map, flatten}
 use mathlib.Core.Bool.{Bool, true, false, _&&_, and-false}
 use Prim.Native.Nat.{ℕ, zero, suc, _+_, _*_, _/_, _%_}
 use native.Mathlib.Omega.{arith}
@@ -15,7 +15,7 @@ use Rattle.lists.proofs.Rising.{rising-same, rising-keep}
 use Rattle.sets.specs.declared.Side.{Side}
 use Rattle.tag_file.specs.Format.{tagLength, bytesOf, tagBytes}
 use Rattle.tag_file.specs.Records.{TagRecord, sameSide, ofSide, collapse, allTags, tagTable, itemsOf, entriesOf, setsOfSide}
-use Rattle.tag_file.specs.Loading.{numbersOf, endsFrom, endsOf, join, joinedItems}
+use Rattle.tag_file.specs.Loading.{numbersOf, endsFrom, endsOf, flatItems}
 use Rattle.tag_file.proofs.Tables.{rising-collapse, memb-collapse}
 
 -- ---- the numbers of a rising table that are among others are those others, collapsed
@@ -72,8 +72,8 @@ module _ (side : Side) (rs : List TagRecord) where
 -- over a table that has all tags of the records
 joined-count : (side : Side) (table : List ℕ) (rs : List TagRecord) → rising table ≡ true
     → ((y : ℕ) → memb y (allTags rs) ≡ true → memb y table ≡ true)
-    → length (join (setsOfSide side table rs)) ≡ entriesOf side rs
-unfolding keep sum join allTags
+    → length (flatten (setsOfSide side table rs)) ≡ entriesOf side rs
+unfolding keep sum flatten allTags
 joined-count side table [] r held = refl
 joined-count side table (q ∷ rs) r held = by-mine (sameSide side (q .side)) (joined-count side table rs r others)
   where
@@ -83,13 +83,13 @@ joined-count side table (q ∷ rs) r held = by-mine (sameSide side (q .side)) (j
     others : (y : ℕ) → memb y (allTags rs) ≡ true → memb y table ≡ true
     others y m = held y (memb-append y (q .tags) (allTags rs) ∙ or-right (memb y (q .tags)) (memb y (allTags rs)) m)
 
-    by-mine : (b : Bool) → length (join (setsOfSide side table rs)) ≡ entriesOf side rs
-        → length (join (map (λ (p : TagRecord). itemsOf table (p .tags)) (onto b q (ofSide side rs))))
+    by-mine : (b : Bool) → length (flatten (setsOfSide side table rs)) ≡ entriesOf side rs
+        → length (flatten (map (λ (p : TagRecord). itemsOf table (p .tags)) (onto b q (ofSide side rs))))
         ≡ sum (λ (p : TagRecord). length (collapse (p .tags))) (onto b q (ofSide side rs))
     by-mine true again =
-        length-append (itemsOf table (q .tags)) (join (setsOfSide side table rs)) ∙ rw (item-count table (q .tags) r mine, again)
+        length-append (itemsOf table (q .tags)) (flatten (setsOfSide side table rs)) ∙ rw (item-count table (q .tags) r mine, again)
     by-mine false again = again
 
-pub length-joinedItems : (side : Side) (rs : List TagRecord) → length (joinedItems side rs) ≡ entriesOf side rs
-length-joinedItems side rs =
+pub length-flatItems : (side : Side) (rs : List TagRecord) → length (flatItems side rs) ≡ entriesOf side rs
+length-flatItems side rs =
     joined-count side (tagTable rs) rs (rising-collapse (allTags rs)) (λ y m. memb-collapse y (allTags rs) ∙ m)

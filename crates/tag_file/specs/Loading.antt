@@ -2,7 +2,7 @@
 -- Document 01, "Tag file", and rows 1 to 4 of "When no list is made": "the first record at fault decides, by 1, 2, 3; then 4".
 use Prim.Native.Nat.{ℕ, _+_}
 use mathlib.Core.Path.{_≡_}
-use mathlib.Core.List.{List, [], _∷_, _++_, map}
+use mathlib.Core.List.{List, [], _∷_, _++_, map, flatten}
 use mathlib.Core.Bool.{Bool, not, _&&_, _||_}
 use lib.Dec.{eqb, leb, ltb}
 use lib.ListN.{length}
@@ -76,16 +76,12 @@ unfoldable pub endsFrom : ℕ → List (List ℕ) → List ℕ
 endsFrom start [] = []
 endsFrom start (set ∷ sets) = (start + length set) ∷ endsFrom (start + length set) sets
 
--- the items of sets, one set after the other
-unfoldable pub join : List (List ℕ) → List ℕ
-join [] = []
-join (set ∷ sets) = set ++ join sets
-
 abbrev pub endsOf : Side → List TagRecord → List ℕ
 endsOf side rs = endsFrom 0 (setsOfSide side (tagTable rs) rs)
 
-abbrev pub joinedItems : Side → List TagRecord → List ℕ
-joinedItems side rs = join (setsOfSide side (tagTable rs) rs)
+-- the items of a side, one set after the other
+abbrev pub flatItems : Side → List TagRecord → List ℕ
+flatItems side rs = flatten (setsOfSide side (tagTable rs) rs)
 
 -- what an accepted file fills
 abbrev pub filled : List TagRecord → Lists
@@ -94,10 +90,10 @@ filled rs =
       tags = tagBytes (tagTable rs);
       leftNumbers = numbersOf Left rs;
       leftEnds = endsOf Left rs;
-      leftItems = joinedItems Left rs;
+      leftItems = flatItems Left rs;
       rightNumbers = numbersOf Right rs;
       rightEnds = endsOf Right rs;
-      rightItems = joinedItems Right rs;
+      rightItems = flatItems Right rs;
     }
 
 -- whether a part fits into a lent list
@@ -122,7 +118,7 @@ totalsOf rs =
       «right_sets» = length (ofSide Right rs);
       «left_entries» = entriesOf Left rs;
       «right_entries» = entriesOf Right rs;
-      tags = length (tagTable rs);
+      «tag_count» = length (tagTable rs);
     }
 
 -- the loader's answer: the first record at fault by 1, 2, 3; then 4; else how much was filled, and the repeats

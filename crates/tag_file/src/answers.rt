@@ -17,7 +17,7 @@ pub fn read_words(read: RecordRead) -> [u64; 10]
             side,
             number,
             count,
-            tags,
+            tags_at,
             next,
         } => {
             [
@@ -28,7 +28,7 @@ pub fn read_words(read: RecordRead) -> [u64; 10]
                 side_word(side),
                 number as u64,
                 count as u64,
-                tags as u64,
+                tags_at as u64,
                 next as u64,
                 read.repeats as u64,
             ]
@@ -54,7 +54,7 @@ pub fn load_words(answer: LoadAnswer) -> [u64; 10]
             loaded.right_sets as u64,
             loaded.left_entries as u64,
             loaded.right_entries as u64,
-            loaded.tags as u64,
+            loaded.tag_count as u64,
             repeats.left as u64,
             repeats.right as u64,
         ],

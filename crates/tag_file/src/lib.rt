@@ -14,7 +14,7 @@ pub struct Loaded {
     pub right_sets: usize,
     pub left_entries: usize,
     pub right_entries: usize,
-    pub tags: usize,
+    pub tag_count: usize,
 }
 
 // How many reads of each side's records were repeats: of a tag that the same record had before.
@@ -46,7 +46,7 @@ pub enum ReadAnswer {
         side: Side,
         number: u16,
         count: usize,
-        tags: usize,
+        tags_at: usize,
         next: usize,
     },
     NoMore,
@@ -91,15 +91,15 @@ fn record_at(side: Side, file: &[u8], at: usize) -> ReadAnswer
     let high = byte_at(file, at + 2);
     let low = byte_at(file, at + 3);
     let count = byte_at(file, at + 4);
-    let tags = at + HEAD_LENGTH;
-    let room = file.len() - tags;
+    let tags_at = at + HEAD_LENGTH;
+    let room = file.len() - tags_at;
     if TAG_LENGTH * count <= room {
         ReadAnswer::Record {
             side,
             number: (high * 256 + low) as u16,
             count,
-            tags,
-            next: tags + TAG_LENGTH * count,
+            tags_at,
+            next: tags_at + TAG_LENGTH * count,
         }
     } else {
         ReadAnswer::Refused(Refusal::Malformed(at))

@@ -16,8 +16,8 @@ ghost use Rattle.tag_index.specs.tag_adding.Adding.{Adding, SomeAdding, 
 
 // How many tags the index has, how many distinct ones the set has so far, and how many the record has by itself.
 pub struct AddedBeside {
-    pub tags: usize,
-    pub fresh: usize,
+    pub tag_count: usize,
+    pub distinct: usize,
     pub own: usize,
 }
 
@@ -27,34 +27,38 @@ pub fn add_beside(
     file: &[u8],
     heads: &mut [usize; INDEX_ROOM],
     tails: &mut [u32; INDEX_ROOM],
-    order: &mut [u16; INDEX_ROOM],
+    ids: &mut [u16; INDEX_ROOM],
     seen: &mut [u64],
     hints: &mut [u16; HINT_SLOTS],
     start: usize,
     count: usize,
     sum: Added,
 ) -> AddedBeside
-    requires { ⌜ SomeAdding (now heads) (now tails) (sum .tags) (sum .fresh) (now order) (now seen) ⌝ }
-    requires { ⌜ RoomToAdd (now file) start count (sum .tags) (sum .fresh) ⌝ }
+    requires { ⌜ SomeAdding (now heads) (now tails) (sum .«tag_count») (sum .distinct) (now ids) (now seen) ⌝ }
+    requires { ⌜ RoomToAdd (now file) start count (sum .«tag_count») (sum .distinct) ⌝ }
     ensures { λ r. ⌜ ((done : List ℕ)
-        → Adding done (now (heads .entry)) (now (tails .entry)) (sum .tags) (sum .fresh) (now (order .entry)) (now (seen .entry))
-        → AllAdded done (now (file .entry)) start count (sum .tags) (now (heads .entry)) (now (tails .entry))
-        (now (order .entry)) (r .tags) (r .fresh)
-        (now (heads .exit)) (now (tails .exit)) (now (order .exit)) (now (seen .exit))) ⌝ }
+        → Adding done (now (heads .entry)) (now (tails .entry)) (sum .«tag_count») (sum .distinct) (now (ids .entry)) (now (seen .entry))
+        → AllAdded done (now (file .entry)) start count (sum .«tag_count») (now (heads .entry)) (now (tails .entry))
+        (now (ids .entry)) (r .«tag_count») (r .distinct)
+        (now (heads .exit)) (now (tails .exit)) (now (ids .exit)) (now (seen .exit))) ⌝ }
     ensures { λ r. ⌜ r .own ≡ length (collapse (tagsAt count (now (file .entry)) start)) ⌝ }
 {
     let mut alone = [0u64; SEEN_WORDS];
-    let mut tags = sum.tags;
-    let mut fresh = sum.fresh;
+    let mut tag_count = sum.tag_count;
+    let mut distinct = sum.distinct;
     let mut own = 0;
     let mut k = 0;
     while k < count {
         let place = start + TAG_LENGTH * k;
-        let found = take_tag(file, heads, tails, order, hints, place, tags);
-        tags = found.tags;
-        fresh = fresh + see(seen, found.id);
+        let found = take_tag(file, heads, tails, ids, hints, place, tag_count);
+        tag_count = found.tag_count;
+        distinct = distinct + see(seen, found.id);
         own = own + see(&mut alone, found.id);
         k += 1;
     }
-    AddedBeside { tags, fresh, own }
+    AddedBeside {
+        tag_count,
+        distinct,
+        own,
+    }
 }

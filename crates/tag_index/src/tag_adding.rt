@@ -36,8 +36,8 @@ pub fn see(seen: &mut [u64], id: usize) -> usize
 
 // How many tags the index has, and how many distinct ones the set has so far.
 pub struct Added {
-    pub tags: usize,
-    pub fresh: usize,
+    pub tag_count: usize,
+    pub distinct: usize,
 }
 
 // Adds the tags of a record, the first at start, to the index and to a set. The set may have tags from a record before: `sum` counts
@@ -46,30 +46,33 @@ pub fn add_tags(
     file: &[u8],
     heads: &mut [usize; INDEX_ROOM],
     tails: &mut [u32; INDEX_ROOM],
-    order: &mut [u16; INDEX_ROOM],
+    ids: &mut [u16; INDEX_ROOM],
     seen: &mut [u64],
     hints: &mut [u16; HINT_SLOTS],
     start: usize,
     count: usize,
     sum: Added,
 ) -> Added
-    requires { ⌜ SomeAdding (now heads) (now tails) (sum .tags) (sum .fresh) (now order) (now seen) ⌝ }
-    requires { ⌜ RoomToAdd (now file) start count (sum .tags) (sum .fresh) ⌝ }
+    requires { ⌜ SomeAdding (now heads) (now tails) (sum .«tag_count») (sum .distinct) (now ids) (now seen) ⌝ }
+    requires { ⌜ RoomToAdd (now file) start count (sum .«tag_count») (sum .distinct) ⌝ }
     ensures { λ r. ⌜ ((done : List ℕ)
-        → Adding done (now (heads .entry)) (now (tails .entry)) (sum .tags) (sum .fresh) (now (order .entry)) (now (seen .entry))
-        → AllAdded done (now (file .entry)) start count (sum .tags) (now (heads .entry)) (now (tails .entry))
-        (now (order .entry)) (r .tags) (r .fresh)
-        (now (heads .exit)) (now (tails .exit)) (now (order .exit)) (now (seen .exit))) ⌝ }
+        → Adding done (now (heads .entry)) (now (tails .entry)) (sum .«tag_count») (sum .distinct) (now (ids .entry)) (now (seen .entry))
+        → AllAdded done (now (file .entry)) start count (sum .«tag_count») (now (heads .entry)) (now (tails .entry))
+        (now (ids .entry)) (r .«tag_count») (r .distinct)
+        (now (heads .exit)) (now (tails .exit)) (now (ids .exit)) (now (seen .exit))) ⌝ }
 {
-    let mut tags = sum.tags;
-    let mut fresh = sum.fresh;
+    let mut tag_count = sum.tag_count;
+    let mut distinct = sum.distinct;
     let mut k = 0;
     while k < count {
         let place = start + TAG_LENGTH * k;
-        let found = take_tag(file, heads, tails, order, hints, place, tags);
-        tags = found.tags;
-        fresh = fresh + see(seen, found.id);
+        let found = take_tag(file, heads, tails, ids, hints, place, tag_count);
+        tag_count = found.tag_count;
+        distinct = distinct + see(seen, found.id);
         k += 1;
     }
-    Added { tags, fresh }
+    Added {
+        tag_count,
+        distinct,
+    }
 }

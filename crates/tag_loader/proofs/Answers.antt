@@ -20,7 +20,7 @@ use Rattle.tag_file.proofs.FaultLaws.{fault-clears}
 use Rattle.tag_file.proofs.AnswerLaws.{tested-refused, tested-loaded, accepts, refuses-short, refuses-fault}
 use Rattle.tag_scan.specs.totals.Totals.{Limited}
 use Rattle.tag_scan.specs.Scan.{Scanned}
-use Rattle.tag_loader.specs.lent_lists.Room.{hasRoom, AllCleared}
+use Rattle.tag_loader.specs.lent_lists.LentLists.{roomIn, hasRoom, AllCleared}
 use Rattle.tag_loader.specs.Passes.{AllFilled, Fillable}
 use Rattle.tag_loader.proofs.Rooms.{room-counted}
 
@@ -41,9 +41,9 @@ call-refused why is zeros e z =
     }
 
 -- a file at fault: the refusal of the first pass is the answer
-pub call-fault : {file heads tails order : List ℕ} {before after : Lists} {r : LoadAnswer} (why : Refusal)
-    → Scanned file heads tails order r → r ≡ load.Refused why → AllCleared before after → LoadCall file before after r
-call-fault {file} {heads} {tails} {order} {before} {after} {r} why s e z =
+pub call-fault : {file heads tails ids : List ℕ} {before after : Lists} {r : LoadAnswer} (why : Refusal)
+    → Scanned file heads tails ids r → r ≡ load.Refused why → AllCleared before after → LoadCall file before after r
+call-fault {file} {heads} {tails} {ids} {before} {after} {r} why s e z =
     let fault =
     tested-refused (fileFault file) (totalsOf (records file)) (repeatTotals (records file)) why (sym (s .answer) ∙ e) in
     call-refused why (refuses-fault file before why fault) (fault-clears file why fault) e z
@@ -54,8 +54,8 @@ pub record Sound (file : List ℕ) (total : Loaded) (repeats : Repeats) : Type 0
   pub counts : total ≡ totalsOf (records file)
   pub repeated : repeats ≡ repeatTotals (records file)
 
-module _ {file heads tails order : List ℕ} {r : LoadAnswer} {total : Loaded} {repeats : Repeats}
-    (s : Scanned file heads tails order r) (e : r ≡ load.Loaded total repeats) where
+module _ {file heads tails ids : List ℕ} {r : LoadAnswer} {total : Loaded} {repeats : Repeats}
+    (s : Scanned file heads tails ids r) (e : r ≡ load.Loaded total repeats) where
   sound : Sound file total repeats
   sound =
       let all =
@@ -66,30 +66,25 @@ module _ {file heads tails order : List ℕ} {r : LoadAnswer} {total : Loaded} {
   sound-limited = subst (λ (t : Loaded). Limited t) (sym (sound .counts)) (s .taken (sound .clean) .limited)
 
   module _ (lent : Lists) where
-    abbrev roomOf : Loaded → Bool
-    roomOf t =
-        hasRoom t (length (lent .tags)) (length (lent .leftNumbers)) (length (lent .leftEnds)) (length (lent .leftItems))
-        (length (lent .rightNumbers)) (length (lent .rightEnds)) (length (lent .rightItems))
-
-    same-room : roomOf total ≡ roomFor (filled (records file)) lent
-    same-room = ap (λ (t : Loaded). roomOf t) (sound .counts) ∙ room-counted (records file) lent
+    same-room : hasRoom total (roomIn lent) ≡ roomFor (filled (records file)) lent
+    same-room = ap (λ (t : Loaded). hasRoom t (roomIn lent)) (sound .counts) ∙ room-counted (records file) lent
 
     -- a list is too short
-    pub call-short : {b : Bool} {after : Lists} → b ≡ roomOf total → not b ≡ true → AllCleared lent after
+    pub call-short : {b : Bool} {after : Lists} → b ≡ hasRoom total (roomIn lent) → not b ≡ true → AllCleared lent after
         → LoadCall file lent after (load.Refused ShortOutput)
     call-short {b} is short z =
         call-refused ShortOutput (refuses-short file lent (sound .clean) (sym same-room ∙ sym is ∙ not-true b short)) refl refl z
 
     -- there is room
-    module _ {b : Bool} (is : b ≡ roomOf total) (enough : not b ≡ false) where
+    module _ {b : Bool} (is : b ≡ hasRoom total (roomIn lent)) (enough : not b ≡ false) where
       room-here : roomFor (filled (records file)) lent ≡ true
       room-here = sym same-room ∙ sym is ∙ not-false b enough
 
-      pub room-fillable : Fillable file heads tails order (total .tags) lent
+      pub room-fillable : Fillable file heads tails ids (total .«tag_count») lent
       room-fillable =
           record {
             taken = s .taken (sound .clean);
-            count = ap (λ (q : Loaded). q .tags) (sound .counts);
+            count = ap (λ (q : Loaded). q .«tag_count») (sound .counts);
             room = room-here;
           }
 

@@ -20,7 +20,7 @@ pub record AllFilled (rs : List TagRecord) (before after : Lists) : Type 0 where
   pub rightItems-filled : after .rightItems ≡ filledOver (filled rs .rightItems) (before .rightItems)
 
 -- the n tags and the counts of a file's records were taken in, and the lists are long enough
-pub record Fillable (file heads tails order : List ℕ) (n : ℕ) (lent : Lists) : Type 0 where
-  pub taken : Taken (records file) (totalsOf (records file)) heads tails order
+pub record Fillable (file heads tails ids : List ℕ) (n : ℕ) (lent : Lists) : Type 0 where
+  pub taken : Taken (records file) (totalsOf (records file)) heads tails ids
   pub count : n ≡ length (tagTable (records file))
   pub room : roomFor (filled (records file)) lent ≡ true

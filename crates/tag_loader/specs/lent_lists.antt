@@ -1,2 +1,2 @@
 -- Contents: what the functions of this module promise.
-pub mod Room
+pub mod LentLists

@@ -7,7 +7,7 @@ use tag_file::TAG_LENGTH;
 ghost use mathlib.Core.Path.{_≡_};
 ghost use Rattle.tag_file.specs.Loading.{lentLists, returnedLists};
 ghost use Rattle.tag_scan.specs.totals.Totals.{Limited};
-ghost use Rattle.tag_loader.specs.lent_lists.Room.{sideFits, SideCleared, AllCleared, hasRoom};
+ghost use Rattle.tag_loader.specs.lent_lists.LentLists.{sideFits, SideCleared, AllCleared, hasRoom};
 
 // Whether lists of these lengths hold the numbers, ends and items of a side.
 fn side_fits(sets: usize, entries: usize, numbers: usize, ends: usize, items: usize) -> bool
@@ -45,29 +45,31 @@ pub fn clear_lists(
     clear_side(right_numbers, right_ends, right_items);
 }
 
+// The lengths of the seven lists.
+pub struct LoadRoom {
+    pub tags: usize,
+    pub left_numbers: usize,
+    pub left_ends: usize,
+    pub left_items: usize,
+    pub right_numbers: usize,
+    pub right_ends: usize,
+    pub right_items: usize,
+}
+
 // Whether lists of these lengths hold what was counted.
-pub fn has_room(
-    total: Loaded,
-    tags: usize,
-    left_numbers: usize,
-    left_ends: usize,
-    left_items: usize,
-    right_numbers: usize,
-    right_ends: usize,
-    right_items: usize,
-) -> bool
+pub fn has_room(total: Loaded, room: LoadRoom) -> bool
     requires { ⌜ Limited total ⌝ }
-    ensures { λ r. ⌜ r ≡ hasRoom total tags «left_numbers» «left_ends» «left_items» «right_numbers» «right_ends» «right_items» ⌝ }
+    ensures { λ r. ⌜ r ≡ hasRoom total room ⌝ }
 {
-    if tags < TAG_LENGTH * total.tags {
+    if room.tags < TAG_LENGTH * total.tag_count {
         return false;
     }
     let left = side_fits(
         total.left_sets,
         total.left_entries,
-        left_numbers,
-        left_ends,
-        left_items,
+        room.left_numbers,
+        room.left_ends,
+        room.left_items,
     );
     if !left {
         return false;
@@ -75,8 +77,8 @@ pub fn has_room(
     side_fits(
         total.right_sets,
         total.right_entries,
-        right_numbers,
-        right_ends,
-        right_items,
+        room.right_numbers,
+        room.right_ends,
+        room.right_items,
     )
 }

@@ -2,6 +2,7 @@
 // Then `lent_lists` tests the room, `tag_table` writes the tags, and `fill` goes through the file again for each side, record by
 // record (`record_items`). It allocates nothing beyond its own arrays.
 use crate::fill::fill_side;
+use crate::lent_lists::LoadRoom;
 use crate::lent_lists::clear_lists;
 use crate::lent_lists::has_room;
 use crate::tag_table::fill_tags;
@@ -32,14 +33,14 @@ fn scan(
     file: &[u8],
     heads: &mut [usize; INDEX_ROOM],
     tails: &mut [u32; INDEX_ROOM],
-    order: &mut [u16; INDEX_ROOM],
+    ids: &mut [u16; INDEX_ROOM],
     hints: &mut [u16; HINT_SLOTS],
 ) -> LoadAnswer
-    requires { ⌜ Lengths (now heads) (now tails) (now order) ⌝ }
-    ensures { λ r. ⌜ Scanned (now (file .entry)) (now (heads .exit)) (now (tails .exit)) (now (order .exit)) r ⌝ }
+    requires { ⌜ Lengths (now heads) (now tails) (now ids) ⌝ }
+    ensures { λ r. ⌜ Scanned (now (file .entry)) (now (heads .exit)) (now (tails .exit)) (now (ids .exit)) r ⌝ }
 {
     let mut used = [0u64; USED_WORDS];
-    scan_records(file, &mut used, heads, tails, order, hints)
+    scan_records(file, &mut used, heads, tails, ids, hints)
 }
 
 // The second pass: fills the seven lists.
@@ -47,7 +48,7 @@ fn fill_lists(
     file: &[u8],
     heads: &[usize; INDEX_ROOM],
     tails: &[u32; INDEX_ROOM],
-    order: &[u16; INDEX_ROOM],
+    ids: &[u16; INDEX_ROOM],
     hints: &[u16; HINT_SLOTS],
     n: usize,
     tags: &mut [u8],
@@ -58,20 +59,20 @@ fn fill_lists(
     right_ends: &mut [u32],
     right_items: &mut [u16],
 )
-    requires { ⌜ Fillable (now file) (now heads) (now tails) (now order) n
+    requires { ⌜ Fillable (now file) (now heads) (now tails) (now ids) n
         (listsNow tags «left_numbers» «left_ends» «left_items» «right_numbers» «right_ends» «right_items») ⌝ }
     ensures { λ _. ⌜ AllFilled (records (now (file .entry)))
         (lentLists tags «left_numbers» «left_ends» «left_items» «right_numbers» «right_ends» «right_items»)
         (returnedLists tags «left_numbers» «left_ends» «left_items» «right_numbers» «right_ends» «right_items») ⌝ }
 {
     let mut ranks = [0u16; INDEX_ROOM];
-    rank_ids(order, n, &mut ranks);
-    fill_tags(heads, tails, order, n, tags);
+    rank_ids(ids, n, &mut ranks);
+    fill_tags(heads, tails, ids, n, tags);
     fill_side(
         file,
         heads,
         tails,
-        order,
+        ids,
         &ranks,
         hints,
         n,
@@ -84,7 +85,7 @@ fn fill_lists(
         file,
         heads,
         tails,
-        order,
+        ids,
         &ranks,
         hints,
         n,
@@ -112,9 +113,9 @@ pub fn load(
 {
     let mut heads = [0usize; INDEX_ROOM];
     let mut tails = [0u32; INDEX_ROOM];
-    let mut order = [0u16; INDEX_ROOM];
+    let mut ids = [0u16; INDEX_ROOM];
     let mut hints = [NO_ID; HINT_SLOTS];
-    let answer = scan(file, &mut heads, &mut tails, &mut order, &mut hints);
+    let answer = scan(file, &mut heads, &mut tails, &mut ids, &mut hints);
     let LoadAnswer::Loaded(total, _) = answer else {
         clear_lists(
             tags,
@@ -127,16 +128,16 @@ pub fn load(
         );
         return answer;
     };
-    if !has_room(
-        total,
-        tags.len(),
-        left_numbers.len(),
-        left_ends.len(),
-        left_items.len(),
-        right_numbers.len(),
-        right_ends.len(),
-        right_items.len(),
-    ) {
+    let room = LoadRoom {
+        tags: tags.len(),
+        left_numbers: left_numbers.len(),
+        left_ends: left_ends.len(),
+        left_items: left_items.len(),
+        right_numbers: right_numbers.len(),
+        right_ends: right_ends.len(),
+        right_items: right_items.len(),
+    };
+    if !has_room(total, room) {
         clear_lists(
             tags,
             left_numbers,
@@ -148,12 +149,12 @@ pub fn load(
         );
         return LoadAnswer::Refused(Refusal::ShortOutput);
     }
-    let n = total.tags;
+    let n = total.tag_count;
     fill_lists(
         file,
         &heads,
         &tails,
-        &order,
+        &ids,
         &hints,
         n,
         tags,

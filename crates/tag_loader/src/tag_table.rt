@@ -37,19 +37,19 @@ fn put_tag(head: usize, tail: u32, tags: &mut [u8], at: usize) -> usize
 pub fn fill_tags(
     heads: &[usize; INDEX_ROOM],
     tails: &[u32; INDEX_ROOM],
-    order: &[u16; INDEX_ROOM],
+    ids: &[u16; INDEX_ROOM],
     n: usize,
     tags: &mut [u8],
 )
-    requires { ⌜ Sorted (now heads) (now tails) n (now order) ⌝ }
-    requires { ⌜ length (tagBytes (tableOf (now heads) (now tails) n (now order))) ≤ length (now tags) ⌝ }
+    requires { ⌜ Sorted (now heads) (now tails) n (now ids) ⌝ }
+    requires { ⌜ length (tagBytes (tableOf (now heads) (now tails) n (now ids))) ≤ length (now tags) ⌝ }
     ensures { λ _. ⌜ now (tags .exit)
-        ≡ filledOver (tagBytes (tableOf (now (heads .entry)) (now (tails .entry)) n (now (order .entry)))) (now (tags .entry)) ⌝ }
+        ≡ filledOver (tagBytes (tableOf (now (heads .entry)) (now (tails .entry)) n (now (ids .entry)))) (now (tags .entry)) ⌝ }
 {
     let mut i = 0;
     let mut at = 0;
     while i < n {
-        let id = order[i] as usize;
+        let id = ids[i] as usize;
         at = put_tag(heads[id], tails[id], tags, at);
         i += 1;
     }

@@ -12,8 +12,8 @@ use Rattle.tag_file.specs.declared.LoadAnswer.the-variants as load
 use Rattle.tag_file.specs.Format.{tagBytes}
 use Rattle.tag_file.specs.Records.{TagRecord, records, tagTable}
 use Rattle.tag_file.specs.Loading.{Lists, filled, totalsOf, loadAnswer, lentAfter, listsBy, numbersOf}
-use Rattle.tag_file.specs.Loading.{endsOf, joinedItems}
-use Rattle.tag_file.proofs.ItemCount.{length-tagBytes, length-numbersOf, length-endsOf, length-joinedItems}
+use Rattle.tag_file.specs.Loading.{endsOf, flatItems}
+use Rattle.tag_file.proofs.ItemCount.{length-tagBytes, length-numbersOf, length-endsOf, length-flatItems}
 use Rattle.tag_round_trip.specs.Trips.{partsOf, Fills, loadedFrom}
 
 -- seven equal lists
@@ -37,10 +37,10 @@ parts-by rs lent answer counts repeats e =
     (part-filled _ _ _ (tagBytes (tagTable rs)) (lent .tags) _ e (length-tagBytes (tagTable rs)))
     (part-filled _ _ _ (numbersOf Left rs) (lent .leftNumbers) _ e (length-numbersOf Left rs))
     (part-filled _ _ _ (endsOf Left rs) (lent .leftEnds) _ e (length-endsOf Left rs))
-    (part-filled _ _ _ (joinedItems Left rs) (lent .leftItems) _ e (length-joinedItems Left rs))
+    (part-filled _ _ _ (flatItems Left rs) (lent .leftItems) _ e (length-flatItems Left rs))
     (part-filled _ _ _ (numbersOf Right rs) (lent .rightNumbers) _ e (length-numbersOf Right rs))
     (part-filled _ _ _ (endsOf Right rs) (lent .rightEnds) _ e (length-endsOf Right rs))
-    (part-filled _ _ _ (joinedItems Right rs) (lent .rightItems) _ e (length-joinedItems Right rs))
+    (part-filled _ _ _ (flatItems Right rs) (lent .rightItems) _ e (length-flatItems Right rs))
 
 pub lists-fill : (rs : List TagRecord) (lent got : Lists) (answer : LoadAnswer) (counts : Loaded) (repeats : Repeats)
     → answer ≡ load.Loaded counts repeats → counts ≡ totalsOf rs → got ≡ listsBy answer (filled rs) lent → Fills rs counts got

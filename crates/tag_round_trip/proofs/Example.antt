@@ -3,7 +3,7 @@
 -- second.
 use mathlib.Core.Path.{_≡_, refl}
 use Prim.Native.Nat.{ℕ}
-use mathlib.Core.List.{List, [], _∷_, _++_}
+use mathlib.Core.List.{List, [], _∷_, _++_, flatten}
 use Rattle.lists.specs.Lists.{keep, memb, sum, range, any, prefix}
 use Rattle.sets.specs.Collections.{setsFrom}
 use Rattle.sets.specs.declared.Tested.the-variants.{Passed}
@@ -11,7 +11,7 @@ use Rattle.tag_file.specs.Format.{valueFrom, bytesOf, tagBytes}
 use Rattle.tag_file.specs.Reading.{readAt, tagsAt}
 use Rattle.tag_file.specs.Records.{records, recordsFrom, insert, insertAll, allTags, itemsOf}
 use Rattle.tag_file.specs.Repeats.{repeatsIn, repeatTotals, noRepeats}
-use Rattle.tag_file.specs.Loading.{filled, fileFault, firstFault, faultOf, tooMany, endsFrom, join}
+use Rattle.tag_file.specs.Loading.{filled, fileFault, firstFault, faultOf, tooMany, endsFrom}
 use Rattle.tag_writer_spec.specs.Writer.{recordsOf, fileBytes}
 
 -- a tag: eleven zero bytes and the one shown
@@ -33,7 +33,7 @@ example-accepted = refl
 
 example-written : fileBytes (filled (records file)) ≡ rewritten-file
 unfolding file tag rewritten-file readAt tagsAt recordsFrom valueFrom insert insertAll allTags itemsOf
-    keep memb range prefix endsFrom join setsFrom tagBytes bytesOf recordsOf fileBytes
+    keep memb range prefix endsFrom flatten setsFrom tagBytes bytesOf recordsOf fileBytes
 example-written = refl
 
 -- tag 1 stands twice in right set 9

@@ -1,7 +1,7 @@
 -- What the writer makes of a loaded file's lists: the rewritten records. And neither side has a fault, so that it writes them.
 use mathlib.Core.Path.{_≡_, refl, sym, ap, _∙_}
 use Prim.Native.Nat.{ℕ, suc, _+_, _≤_}
-use mathlib.Core.List.{List, [], _∷_, _++_, map, append-assoc}
+use mathlib.Core.List.{List, [], _∷_, _++_, map, append-assoc, flatten}
 use mathlib.Core.Bool.{Bool, true, _||_}
 use native.Mathlib.Omega.{arith}
 use borrow.Author.Tests.{le-leb, leb-true}
@@ -22,10 +22,10 @@ use Rattle.sets.specs.declared.Tested.the-variants.{Passed}
 use Rattle.sets.proofs.Good.{not-bad}
 use Rattle.tag_file.specs.Format.{tagBytes}
 use Rattle.tag_file.specs.Records.{TagRecord, sameSide, ofSide, collapse, allTags, tagTable, itemsOf, entriesOf, setsOfSide}
-use Rattle.tag_file.specs.Loading.{endsFrom, join, numbersOf, endsOf, joinedItems, filled}
+use Rattle.tag_file.specs.Loading.{endsFrom, numbersOf, endsOf, flatItems, filled}
 use Rattle.tag_file.proofs.Tables.{rising-collapse, memb-collapse}
 use Rattle.tag_file.proofs.RecordLaws.{same-side}
-use Rattle.tag_file.proofs.ItemCount.{length-numbersOf, length-endsOf, length-joinedItems}
+use Rattle.tag_file.proofs.ItemCount.{length-numbersOf, length-endsOf, length-flatItems}
 use Rattle.tag_writer_spec.specs.Writer.{itemTags, numberedTest}
 use Rattle.tag_writer_spec.proofs.Tests.{side-even}
 use Rattle.tag_round_trip.specs.Rewritten.{sideRecords, recordsOfLists, collapsed, collapsedSide, rewritten}
@@ -101,56 +101,56 @@ module _ (side : Side) (table : List ℕ) (r : rising table ≡ true) where
 
 -- good sets that were joined, within the limits, have no bad one among them
 good-joined : (T k start : ℕ) (before : List ℕ) (sets : List (List ℕ)) → length before ≡ start → k + length sets ≤ maxSets
-    → start + length (join sets) ≤ maxEntries → all (goodItems T) sets ≡ true
-    → firstBadFrom T k start (endsFrom start sets) (before ++ join sets) ≡ Good
-unfolding firstBadFrom endsFrom join all
+    → start + length (flatten sets) ≤ maxEntries → all (goodItems T) sets ≡ true
+    → firstBadFrom T k start (endsFrom start sets) (before ++ flatten sets) ≡ Good
+unfolding firstBadFrom endsFrom flatten all
 good-joined T k start before [] e places entries good = refl
 good-joined T k start before (set ∷ sets) e places entries good =
-    let items = before ++ (set ++ join sets) in
-    let long : length items ≡ start + (length set + length (join sets)) = rw (length-append, length-append set (join sets), e) in
-    let all-long : length (set ++ join sets) ≡ length set + length (join sets) = length-append set (join sets) in
+    let items = before ++ (set ++ flatten sets) in
+    let long : length items ≡ start + (length set + length (flatten sets)) = rw (length-append, length-append set (flatten sets), e) in
+    let all-long : length (set ++ flatten sets) ≡ length set + length (flatten sets) = length-append set (flatten sets) in
     let next : length (before ++ set) ≡ start + length set = rw (length-append, e) in
     let end-good : goodEnd start (start + length set) items ≡ true =
     and-both (le-leb start (start + length set) (omega arith))
     (and-both (le-leb (start + length set) maxEntries (omega arith))
     (le-leb (start + length set) (length items) (omega arith))) in
     let set-good : goodItems T (between start (start + length set) items) ≡ true =
-    ap (goodItems T) (between-joined before set (join sets) start e) ∙ and-left (goodItems T set) (all (goodItems T) sets) good in
+    ap (goodItems T) (between-joined before set (flatten sets) start e) ∙ and-left (goodItems T set) (all (goodItems T) sets) good in
     let here = not-bad T k start (start + length set) items (omega arith) (and-both end-good set-good) in
     let again = good-joined T (suc k) (start + length set) (before ++ set) sets next (omega arith) (omega arith)
     (and-right (goodItems T set) (all (goodItems T) sets) good) in
-    rw here (rw (append-assoc before set (join sets)) at again)
+    rw here (rw (append-assoc before set (flatten sets)) at again)
 
 module _ (rs : List TagRecord) where
   own-tags : (side : Side) → all (λ r. subset (r .tags) (tagTable rs)) (ofSide side rs) ≡ true
   own-tags side = all-keep (λ r. subset (r .tags) (tagTable rs)) (λ r. sameSide side (r .side)) rs (tags-in-table rs)
 
   -- the sets of a side, from its ends and items
-  side-sets : (side : Side) → setsOf (endsOf side rs) (joinedItems side rs) ≡ setsOfSide side (tagTable rs) rs
+  side-sets : (side : Side) → setsOf (endsOf side rs) (flatItems side rs) ≡ setsOfSide side (tagTable rs) rs
   side-sets side = sets-joined (setsOfSide side (tagTable rs) rs)
 
   -- no set of a side is bad, within the limits
   module _ (side : Side) (few : setsFew rs ≡ true) (places : length (ofSide side rs) ≤ maxSets)
       (entries : entriesOf side rs ≤ maxEntries) where
-    pub sets-unbad : firstBad (length (tagTable rs)) (endsOf side rs) (joinedItems side rs) ≡ Good
+    pub sets-unbad : firstBad (length (tagTable rs)) (endsOf side rs) (flatItems side rs) ≡ Good
     sets-unbad =
         let table = tagTable rs in
         let sets = setsOfSide side table rs in
         let n : length sets ≡ length (ofSide side rs) = length-map (ofSide side rs) (λ r. itemsOf table (r .tags)) in
-        let m : length (join sets) ≡ entriesOf side rs = length-joinedItems side rs in
+        let m : length (flatten sets) ≡ entriesOf side rs = length-flatItems side rs in
         good-joined (length table) 0 0 [] sets refl (omega arith) (omega arith)
         (sets-good side table (rising-collapse (allTags rs)) (ofSide side rs) (own-tags side)
         (all-keep (λ r. leb (length (collapse (r .tags))) maxSetLength) (λ r. sameSide side (r .side)) rs few))
 
-    pub side-good : numberedTest (length (tagTable rs)) side (numbersOf side rs) (endsOf side rs) (joinedItems side rs) ≡ Passed
+    pub side-good : numberedTest (length (tagTable rs)) side (numbersOf side rs) (endsOf side rs) (flatItems side rs) ≡ Passed
     side-good =
-        sym (side-even (length (tagTable rs)) side (numbersOf side rs) (endsOf side rs) (joinedItems side rs)
+        sym (side-even (length (tagTable rs)) side (numbersOf side rs) (endsOf side rs) (flatItems side rs)
         (ap (noBadSet side) sets-unbad) (length-numbersOf side rs ∙ sym (length-endsOf side rs)))
 
   -- the same of records that have no more tags than the greatest set length
   pub side-unbad : (side : Side) → all (λ r. leb (length (r .tags)) maxSetLength) rs ≡ true
       → length (ofSide side rs) ≤ maxSets → entriesOf side rs ≤ maxEntries
-      → firstBad (length (tagTable rs)) (endsOf side rs) (joinedItems side rs) ≡ Good
+      → firstBad (length (tagTable rs)) (endsOf side rs) (flatItems side rs) ≡ Good
   side-unbad side few places entries = sets-unbad side (sets-few rs few) places entries
 
   pub lists-records : tagsFit (tagTable rs) ≡ true → recordsOfLists (filled rs) ≡ rewritten rs
@@ -158,7 +158,7 @@ module _ (rs : List TagRecord) where
   lists-records fit = rw (of-side Left, of-side Right)
     where
       of-side : (side : Side)
-          → sideRecords side (tagBytes (tagTable rs)) (numbersOf side rs) (setsOf (endsOf side rs) (joinedItems side rs))
+          → sideRecords side (tagBytes (tagTable rs)) (numbersOf side rs) (setsOf (endsOf side rs) (flatItems side rs))
           ≡ collapsedSide side rs
       of-side side =
           ap (sideRecords side (tagBytes (tagTable rs)) (numbersOf side rs)) (side-sets side)

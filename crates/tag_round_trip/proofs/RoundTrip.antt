@@ -134,7 +134,7 @@ module _ (rs : List TagRecord) (so : Loadable rs) (counts : Loaded) (got : Lists
   -- the same of two calls, by what their contracts say: a write of what was filled that is accepted, and a load of what was
   -- written into lists that are long enough
   pub fills-again : (out wrote : List ℕ) (n : ℕ) (again more : Lists) (answer : LoadAnswer)
-      → WriteCall (counts .tags) (partsOf counts got) out wrote (write.Written n)
+      → WriteCall (counts .«tag_count») (partsOf counts got) out wrote (write.Written n)
       → LoadCall (take n wrote) again more answer → roomFor (partsOf counts got) again ≡ true
       → (answer ≡ load.Loaded counts noRepeats) × (partsOf counts more ≡ partsOf counts got)
   fills-again out wrote n again more answer second third room =
@@ -142,8 +142,8 @@ module _ (rs : List TagRecord) (so : Loadable rs) (counts : Loaded) (got : Lists
       let same = fills .lists in
       let counted = sym (fills .counted) in
       let wrote-it : writeAnswer (length (tagTable rs)) (filled rs) (length out) ≡ write.Written n =
-      ap (λ (c : Loaded). writeAnswer (c .tags) (filled rs) (length out)) counted
-      ∙ ap (λ (l : Lists). writeAnswer (counts .tags) l (length out)) (sym same) ∙ sym (second .answered) in
+      ap (λ (c : Loaded). writeAnswer (c .«tag_count») (filled rs) (length out)) counted
+      ∙ ap (λ (l : Lists). writeAnswer (counts .«tag_count») l (length out)) (sym same) ∙ sym (second .answered) in
       let parts = written-room rs so (length out) n wrote-it in
       let output : take n wrote ≡ bytes =
       ap (take n)
@@ -189,7 +189,7 @@ written-repeats file lent counts repeats low e =
 pub calls-round-trip : (file : List ℕ) (lent got : Lists) (counts : Loaded) (repeats : Repeats) (out wrote : List ℕ) (n : ℕ)
     (again more : Lists) (answer : LoadAnswer) → ((i : ℕ) → getD file i 0 < 256)
     → LoadCall file lent got (load.Loaded counts repeats)
-    → WriteCall (counts .tags) (partsOf counts got) out wrote (write.Written n)
+    → WriteCall (counts .«tag_count») (partsOf counts got) out wrote (write.Written n)
     → LoadCall (take n wrote) again more answer → roomFor (partsOf counts got) again ≡ true
     → (answer ≡ load.Loaded counts noRepeats) × (partsOf counts more ≡ partsOf counts got)
 calls-round-trip file lent got counts repeats out wrote n again more answer low first second third room =

@@ -19,7 +19,7 @@ use Rattle.tag_writer_spec.specs.Writer.{fileBytes, writeAnswer, writtenFile}
 abbrev pub partsOf : Loaded → Lists → Lists
 partsOf counts l =
     record {
-      tags = take (tagLength * counts .tags) (l .tags);
+      tags = take (tagLength * counts .«tag_count») (l .tags);
       leftNumbers = take (counts .«left_sets») (l .leftNumbers);
       leftEnds = take (counts .«left_sets») (l .leftEnds);
       leftItems = take (counts .«left_entries») (l .leftItems);
@@ -49,5 +49,5 @@ pub record Loads (file : List ℕ) (lent : Lists) (counts : Loaded) (repeats : R
 -- the round trip from lists that were loaded, through an output list: the writer writes the file, and every load of it into lists
 -- that are long enough is accepted with the same counts and no repeats, and fills the same lists
 pub record Trip (counts : Loaded) (got : Lists) (out : List ℕ) : Type 0 where
-  pub written : writeAnswer (counts .tags) got (length out) ≡ write.Written (length (fileBytes got))
-  pub again : (lent : Lists) → roomFor got lent ≡ true → Loads (writtenTo (counts .tags) got out) lent counts noRepeats got
+  pub written : writeAnswer (counts .«tag_count») got (length out) ≡ write.Written (length (fileBytes got))
+  pub again : (lent : Lists) → roomFor got lent ≡ true → Loads (writtenTo (counts .«tag_count») got out) lent counts noRepeats got

@@ -29,7 +29,7 @@ use Rattle.tag_file.proofs.RecordLaws.{records-next, totalLength-last}
 use Rattle.tag_file.proofs.FaultLaws.{fault-used, fault-none}
 use Rattle.tag_file.proofs.RepeatLaws.{repeats-are, repeats-bound}
 use Rattle.tag_index.specs.tag_adding.Adding.{Adding, RoomToAdd, AllAdded}
-use Rattle.tag_index.proofs.tag_adding.AddLaws.{added-fresh}
+use Rattle.tag_index.proofs.tag_adding.AddLaws.{added-distinct}
 use Rattle.tag_scan.specs.used_numbers.Keys.{keyOf}
 use Rattle.tag_scan.proofs.used_numbers.Numbers.{Noted, noted-step, noted-tells}
 use Rattle.tag_scan.specs.totals.Totals.{grownBy, isOver, wordNumbers, repeatedBy, RepeatsRoom}
@@ -41,19 +41,19 @@ use Rattle.tag_scan.proofs.Taking.{taken-over, taken-next}
 abbrev lastRefusal : List ℕ → Tested
 lastRefusal file = refusalOf (readAt file (totalLength (records file)))
 
-pub record Scanning (file used heads tails order : List ℕ) (total : Loaded) (repeats : Repeats) (at : ℕ) : Type 0 where
+pub record Scanning (file used heads tails ids : List ℕ) (total : Loaded) (repeats : Repeats) (at : ℕ) : Type 0 where
   pub seen : List TagRecord
   pub split : records file ≡ seen ++ recordsAt file at
   pub place : at ≡ totalLength seen
   pub fault : fileFault file ≡ firstFault seen (recordsAt file at) (lastRefusal file)
   pub noted : Noted used seen
-  pub taken : Taken seen total heads tails order
+  pub taken : Taken seen total heads tails ids
   pub repeated : repeats ≡ repeatTotals seen
 
-pub scanning-start : (file used heads tails order : List ℕ) {total : Loaded} → Taken [] total heads tails order → Noted used []
-    → Scanning file used heads tails order total noRepeats 0
+pub scanning-start : (file used heads tails ids : List ℕ) {total : Loaded} → Taken [] total heads tails ids → Noted used []
+    → Scanning file used heads tails ids total noRepeats 0
 unfolding fileFault sum keep
-scanning-start file used heads tails order {total} taken noted =
+scanning-start file used heads tails ids {total} taken noted =
     record { seen = []; split = refl; place = refl; fault = refl; noted = noted; taken = taken; repeated = refl }
 
 -- a record that passes a limit
@@ -63,26 +63,26 @@ unfolding faultOf
 fault-past seen r free past = rw (free, past)
 
 -- a fault is what the file is refused with
-scanning-refused : {file heads tails order : List ℕ} (why : Refusal) → fileFault file ≡ Failed why
-    → Scanned file heads tails order (load.Refused why)
+scanning-refused : {file heads tails ids : List ℕ} (why : Refusal) → fileFault file ≡ Failed why
+    → Scanned file heads tails ids (load.Refused why)
 scanning-refused {file} why e = record { answer = rw e; taken = λ n. never (sym e ∙ n) }
   where
     never : {A : Type 0} {w : Refusal} → Failed w ≡ Passed → A
     never e = let z : _≡_ {A = ℕ} 0 1 = cc in absurd (omega arith)
 
-module _ {file used heads tails order : List ℕ} {total : Loaded} {repeats : Repeats} {at : ℕ}
-    (s : Scanning file used heads tails order total repeats at) where
+module _ {file used heads tails ids : List ℕ} {total : Loaded} {repeats : Repeats} {at : ℕ}
+    (s : Scanning file used heads tails ids total repeats at) where
   -- the reading ended: there are no records from here on
   pub scanning-stop : (a : ReadAnswer) → readAt file at ≡ a → recordsAt file at ≡ []
-      → Scanned file heads tails order (unless load.Refused (refusalOf a) (load.Loaded total repeats))
+      → Scanned file heads tails ids (unless load.Refused (refusalOf a) (load.Loaded total repeats))
   unfolding firstFault
   scanning-stop a e stop =
       record {
         answer = ap (λ (t : Tested). unless load.Refused t (load.Loaded total repeats)) (sym ends)
             ∙ ap₂ (λ (t : Loaded) (q : Repeats). unless load.Refused (fileFault file) (load.Loaded t q))
             (s .taken .counts ∙ ap totalsOf (sym all)) (s .repeated ∙ ap repeatTotals (sym all));
-        taken = λ n. subst (λ (rs : List TagRecord). Taken rs (totalsOf rs) heads tails order) (sym all)
-            (subst (λ (t : Loaded). Taken (s .seen) t heads tails order) (s .taken .counts) (s .taken));
+        taken = λ n. subst (λ (rs : List TagRecord). Taken rs (totalsOf rs) heads tails ids) (sym all)
+            (subst (λ (t : Loaded). Taken (s .seen) t heads tails ids) (s .taken .counts) (s .taken));
       }
     where
       all : records file ≡ s .seen
@@ -111,10 +111,10 @@ module _ {file used heads tails order : List ℕ} {total : Loaded} {repeats : Re
       tells = sym (noted-tells this small (s .noted))
 
       -- the record's number was used
-      pub scanning-used : member used (keyOf side n) ≡ true → Scanned file heads tails order (load.Refused (NumberUsed at))
+      pub scanning-used : member used (keyOf side n) ≡ true → Scanned file heads tails ids (load.Refused (NumberUsed at))
       scanning-used t = scanning-refused (NumberUsed at) (here ∙ rw (fault-used (s .seen) this (tells ∙ t), ← s .place))
 
-    pub scanning-room : c ≤ maxSetLength → RoomToAdd file p c (total .tags) 0
+    pub scanning-room : c ≤ maxSetLength → RoomToAdd file p c (total .«tag_count») 0
     scanning-room few =
         record {
           inside = omega (arith, read-past file at e, read-within file at e);
@@ -122,18 +122,18 @@ module _ {file used heads tails order : List ℕ} {total : Loaded} {repeats : Re
           count-room = omega arith;
         }
 
-    module _ {tags fresh : ℕ} {now-heads now-tails now-order now-marks : List ℕ}
-        (added : AllAdded [] file p c (total .tags) heads tails order tags fresh now-heads now-tails now-order now-marks) where
-      pub fresh-few : {marks : List ℕ} → Adding [] heads tails (total .tags) 0 order marks → c ≤ maxSetLength
-          → fresh ≤ maxSetLength
-      fresh-few a few = omega (arith, added-fresh a added)
+    module _ {tagCount distinct : ℕ} {now-heads now-tails now-ids now-marks : List ℕ}
+        (added : AllAdded [] file p c (total .«tag_count») heads tails ids tagCount distinct now-heads now-tails now-ids now-marks) where
+      pub distinct-few : {marks : List ℕ} → Adding [] heads tails (total .«tag_count») 0 ids marks → c ≤ maxSetLength
+          → distinct ≤ maxSetLength
+      distinct-few a few = omega (arith, added-distinct a added)
 
       -- its repeats are those of its tags that are not distinct
-      here-repeats : c - fresh ≡ repeatsIn (tagsAt c file p)
-      here-repeats = repeats-are (tagsAt c file p) c fresh (length-tagsAt c file p) (added .adding .counted)
+      here-repeats : c - distinct ≡ repeatsIn (tagsAt c file p)
+      here-repeats = repeats-are (tagsAt c file p) c distinct (length-tagsAt c file p) (added .adding .counted)
 
       -- they lie in the file with those before
-      pub repeats-room : length file < wordNumbers → RepeatsRoom repeats (c - fresh)
+      pub repeats-room : length file < wordNumbers → RepeatsRoom repeats (c - distinct)
       repeats-room fits =
           record {
             left = omega (
@@ -157,7 +157,7 @@ module _ {file used heads tails order : List ℕ} {total : Loaded} {repeats : Re
           }
 
       module _ (small : n < halfWords) (free : member used (keyOf side n) ≡ false) {now-total : Loaded}
-          (grew : now-total ≡ grownBy total side tags fresh) where
+          (grew : now-total ≡ grownBy total side tagCount distinct) where
         -- what the limits say of it
         limit : isOver now-total side ≡ tooMany side (s .seen ++ (this ∷ []))
         limit =
@@ -165,14 +165,14 @@ module _ {file used heads tails order : List ℕ} {total : Loaded} {repeats : Re
             ∙ taken-over (s .taken) this (added .adding .sorted) (added .table) (added .adding .counted)
 
         -- the record passes a limit
-        pub scanning-past : isOver now-total side ≡ true → Scanned file now-heads now-tails now-order (load.Refused (TooMany at))
+        pub scanning-past : isOver now-total side ≡ true → Scanned file now-heads now-tails now-ids (load.Refused (TooMany at))
         scanning-past t =
             scanning-refused (TooMany at)
             (here ∙ rw (fault-past (s .seen) this (tells small ∙ free) (sym limit ∙ t), ← s .place))
 
         pub scanning-next : {now-used : List ℕ} {now-repeats : Repeats} → Inserted used (keyOf side n) now-used
-            → isOver now-total side ≡ false → now-repeats ≡ repeatedBy repeats side (c - fresh)
-            → Scanning file now-used now-heads now-tails now-order now-total now-repeats next
+            → isOver now-total side ≡ false → now-repeats ≡ repeatedBy repeats side (c - distinct)
+            → Scanning file now-used now-heads now-tails now-ids now-total now-repeats next
         scanning-next noted few rose =
             record {
               seen = s .seen ++ (this ∷ []);
@@ -183,6 +183,6 @@ module _ {file used heads tails order : List ℕ} {total : Loaded} {repeats : Re
               noted = noted-step this small (s .noted) noted;
               taken = taken-next (s .taken) this (added .adding .sorted) (added .table) (added .adding .counted) grew
                   (sym (ap (λ (t : Loaded). isOver t side) grew) ∙ few);
-              repeated = rose ∙ ap (λ (q : Repeats). repeatedBy q side (c - fresh)) (s .repeated)
-                  ∙ grown-repeats (s .seen) this (c - fresh) here-repeats;
+              repeated = rose ∙ ap (λ (q : Repeats). repeatedBy q side (c - distinct)) (s .repeated)
+                  ∙ grown-repeats (s .seen) this (c - distinct) here-repeats;
             }

@@ -18,19 +18,19 @@ use Rattle.tag_scan.specs.totals.Totals.{Limited}
 -- ---- the state: records that were taken in
 
 -- the lengths of the index's arrays
-pub record Lengths (heads tails order : List ℕ) : Type 0 where
+pub record Lengths (heads tails ids : List ℕ) : Type 0 where
   pub heads-full : length heads ≡ indexRoom
   pub tails-full : length tails ≡ indexRoom
-  pub order-full : length order ≡ indexRoom
+  pub ids-full : length ids ≡ indexRoom
 
 -- the counts are those of the records, within the limits, and the index has their tags
-pub record Taken (rs : List TagRecord) (total : Loaded) (heads tails order : List ℕ) : Type 0 where
+pub record Taken (rs : List TagRecord) (total : Loaded) (heads tails ids : List ℕ) : Type 0 where
   pub counts : total ≡ totalsOf rs
   pub limited : Limited total
-  pub sorted : Sorted heads tails (total .tags) order
-  pub table : tableOf heads tails (total .tags) order ≡ tagTable rs
+  pub sorted : Sorted heads tails (total .«tag_count») ids
+  pub table : tableOf heads tails (total .«tag_count») ids ≡ tagTable rs
 
 -- ---- what the pass promises: the first fault of the file, or the counts and the repeats of its records; and then they are taken in
-pub record Scanned (file heads tails order : List ℕ) (r : LoadAnswer) : Type 0 where
+pub record Scanned (file heads tails ids : List ℕ) (r : LoadAnswer) : Type 0 where
   pub answer : r ≡ unless load.Refused (fileFault file) (load.Loaded (totalsOf (records file)) (repeatTotals (records file)))
-  pub taken : fileFault file ≡ Passed → Taken (records file) (totalsOf (records file)) heads tails order
+  pub taken : fileFault file ≡ Passed → Taken (records file) (totalsOf (records file)) heads tails ids

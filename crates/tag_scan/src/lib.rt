@@ -31,19 +31,19 @@ pub fn scan_records(
     used: &mut [u64],
     heads: &mut [usize; INDEX_ROOM],
     tails: &mut [u32; INDEX_ROOM],
-    order: &mut [u16; INDEX_ROOM],
+    ids: &mut [u16; INDEX_ROOM],
     hints: &mut [u16; HINT_SLOTS],
 ) -> LoadAnswer
-    requires { ⌜ Lengths (now heads) (now tails) (now order) ⌝ }
+    requires { ⌜ Lengths (now heads) (now tails) (now ids) ⌝ }
     requires { ⌜ now used ≡ replicate usedWords 0 ⌝ }
-    ensures { λ r. ⌜ Scanned (now (file .entry)) (now (heads .exit)) (now (tails .exit)) (now (order .exit)) r ⌝ }
+    ensures { λ r. ⌜ Scanned (now (file .entry)) (now (heads .exit)) (now (tails .exit)) (now (ids .exit)) r ⌝ }
 {
     let mut total = Loaded {
         left_sets: 0,
         right_sets: 0,
         left_entries: 0,
         right_entries: 0,
-        tags: 0,
+        tag_count: 0,
     };
     let mut repeats = Repeats { left: 0, right: 0 };
     let mut at = 0;
@@ -53,7 +53,7 @@ pub fn scan_records(
             side,
             number,
             count,
-            tags,
+            tags_at,
             next,
         } = answer
         else {
@@ -64,17 +64,17 @@ pub fn scan_records(
         }
         let mut seen = [0u64; SEEN_WORDS];
         let sum = Added {
-            tags: total.tags,
-            fresh: 0,
+            tag_count: total.tag_count,
+            distinct: 0,
         };
         let added = add_tags(
             file,
             heads,
             tails,
-            order,
+            ids,
             &mut seen,
             hints,
-            tags,
+            tags_at,
             count,
             sum,
         );
@@ -82,7 +82,7 @@ pub fn scan_records(
         if is_over(total, side) {
             return LoadAnswer::Refused(Refusal::TooMany(at));
         }
-        repeats = repeated(repeats, side, count - added.fresh);
+        repeats = repeated(repeats, side, count - added.distinct);
         at = next;
     }
 }

@@ -23,23 +23,23 @@ const MAX_TAGS: usize = MAX_ITEMS as usize;
 // The counts with one more record of a side.
 pub fn grown(total: Loaded, side: Side, added: Added) -> Loaded
     requires { ⌜ Limited total ⌝ }
-    requires { ⌜ added .fresh ≤ maxSetLength ⌝ }
-    ensures { λ r. ⌜ r ≡ grownBy total side (added .tags) (added .fresh) ⌝ }
+    requires { ⌜ added .distinct ≤ maxSetLength ⌝ }
+    ensures { λ r. ⌜ r ≡ grownBy total side (added .«tag_count») (added .distinct) ⌝ }
 {
     match side {
         Side::Left => Loaded {
             left_sets: total.left_sets + 1,
             right_sets: total.right_sets,
-            left_entries: total.left_entries + added.fresh,
+            left_entries: total.left_entries + added.distinct,
             right_entries: total.right_entries,
-            tags: added.tags,
+            tag_count: added.tag_count,
         },
         Side::Right => Loaded {
             left_sets: total.left_sets,
             right_sets: total.right_sets + 1,
             left_entries: total.left_entries,
-            right_entries: total.right_entries + added.fresh,
-            tags: added.tags,
+            right_entries: total.right_entries + added.distinct,
+            tag_count: added.tag_count,
         },
     }
 }
@@ -62,10 +62,10 @@ pub fn repeated(repeats: Repeats, side: Side, more: usize) -> Repeats
 }
 
 // Whether counts exceed a limit.
-pub fn is_past(sets: usize, entries: usize, tags: usize) -> bool
-    ensures { λ r. ⌜ r ≡ passes sets entries tags ⌝ }
+pub fn is_past(sets: usize, entries: usize, tag_count: usize) -> bool
+    ensures { λ r. ⌜ r ≡ passes sets entries «tag_count» ⌝ }
 {
-    sets > MAX_SETS || (entries > MAX_ENTRIES || tags > MAX_TAGS)
+    sets > MAX_SETS || (entries > MAX_ENTRIES || tag_count > MAX_TAGS)
 }
 
 // The same, for one side.
@@ -73,8 +73,8 @@ pub fn is_over(total: Loaded, side: Side) -> bool
     ensures { λ r. ⌜ r ≡ isOver total side ⌝ }
 {
     match side {
-        Side::Left => is_past(total.left_sets, total.left_entries, total.tags),
-        Side::Right => is_past(total.right_sets, total.right_entries, total.tags),
+        Side::Left => is_past(total.left_sets, total.left_entries, total.tag_count),
+        Side::Right => is_past(total.right_sets, total.right_entries, total.tag_count),
     }
 }
 
@@ -89,7 +89,7 @@ pub fn stopped(answer: ReadAnswer, total: Loaded, repeats: Repeats) -> LoadAnswe
             side: _,
             number: _,
             count: _,
-            tags: _,
+            tags_at: _,
             next: _,
         } => LoadAnswer::Loaded(total, repeats),
     }

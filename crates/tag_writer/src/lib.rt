@@ -12,7 +12,7 @@ ghost use lib.ListN.{length};
 ghost use Rattle.tag_file.specs.Loading.{lentLists, listsNow};
 ghost use Rattle.tag_writer_spec.specs.Writer.{fileBytes, tableTest, numberedTest, listsTest};
 ghost use Rattle.tag_writer_spec.specs.Writer.{writtenWithin, fileAfter, WriteCall};
-ghost use Rattle.tag_writer_spec.specs.Room.{GoodLists};
+ghost use Rattle.tag_writer_spec.specs.Inner.{GoodLists};
 
 pub mod record_writer;
 

@@ -9,7 +9,7 @@ ghost use Rattle.sets.specs.Limits.{maxSets, maxEntries, maxSetLength};
 ghost use Rattle.sets.specs.Collections.{between, setsOf, entries};
 ghost use Rattle.tag_file.specs.Format.{tagLength, headLength, recordLength, tagBytes, mark, recordHead, recordBytes};
 ghost use Rattle.tag_writer_spec.specs.Writer.{itemTags, recordsOf};
-ghost use Rattle.tag_writer_spec.specs.Room.{ItemsFit, GoodSide};
+ghost use Rattle.tag_writer_spec.specs.Inner.{ItemsFit, GoodSide};
 
 // The bytes of a tag.
 pub const TAG_LENGTH: usize = 12;

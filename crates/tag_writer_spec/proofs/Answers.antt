@@ -22,7 +22,7 @@ use Rattle.tag_file.specs.Loading.{Lists}
 use Rattle.tag_writer_spec.specs.declared.WriteAnswer.{WriteAnswer}
 use Rattle.tag_writer_spec.specs.declared.WriteAnswer.the-variants.{Written, Refused}
 use lib.Seq.{sets}
-use Rattle.tag_writer_spec.specs.Room.{GoodSide, GoodLists}
+use Rattle.tag_writer_spec.specs.Inner.{GoodSide, GoodLists}
 use Rattle.tag_writer_spec.specs.Writer.{recordsOf, leftBytes, rightBytes, fileBytes, listsTest, writtenWithin, writeAnswer}
 use Rattle.tag_writer_spec.specs.Writer.{fileAfter, WriteCall}
 use Rattle.lists.proofs.Filling.{sets-then, sets-front}

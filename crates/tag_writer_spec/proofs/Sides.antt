@@ -16,7 +16,7 @@ use Rattle.sets.proofs.Between.{length-between}
 use Rattle.sets.proofs.Good.{GoodSet, good-cons, good-rest}
 use Rattle.tag_file.specs.Format.{tagLength, headLength, recordLength, recordBytes}
 use Rattle.tag_file.proofs.ItemCount.{length-tagBytes}
-use Rattle.tag_writer_spec.specs.Room.{ItemsFit}
+use Rattle.tag_writer_spec.specs.Inner.{ItemsFit}
 use Rattle.tag_writer_spec.specs.Writer.{itemTags, recordsOf}
 use Rattle.tag_writer_spec.proofs.Records.{length-head, length-itemTags}
 

@@ -22,7 +22,7 @@ use Rattle.inputs.specs.Tests.{itemsTest, sideTest}
 use Rattle.sets.proofs.Testing.{both-passed, refuse-passed, failed-same}
 use Rattle.tag_file.specs.Format.{tagLength}
 use Rattle.tag_file.specs.Loading.{Lists}
-use Rattle.tag_writer_spec.specs.Room.{GoodSide, GoodLists}
+use Rattle.tag_writer_spec.specs.Inner.{GoodSide, GoodLists}
 use Rattle.tag_writer_spec.specs.Writer.{tableTest, numbersTest, numberedTest, listsTest, roomTest}
 
 -- ---- the cases

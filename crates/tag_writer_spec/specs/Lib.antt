@@ -1,3 +1,3 @@
 -- Contents: document 01, "Tag file", the writer; then what the inner functions ask for.
 pub mod Writer
-pub mod Room
+pub mod Inner

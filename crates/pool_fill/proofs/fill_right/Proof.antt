@@ -26,25 +26,25 @@ use Rattle.pool_fill.proofs.fill_right.Statement.{statement}
 use Rattle.pool_fill.proofs.fill_right.Tie as tie
 
 abbrev Inv-loop : tie.InvT-loop
-Inv-loop first second heads tails order ranks hints n used counts slots₀ numbers₀ ends₀ items₀ marks₀ done₀ at₀
+Inv-loop first second heads tails ids ranks hints n used counts slots₀ numbers₀ ends₀ items₀ marks₀ done₀ at₀
     slots numbers ends items marks done at =
-    FirstWalk first second (tableOf heads tails n order) used slots₀ numbers₀ ends₀ items₀ slots numbers ends items marks done at
+    FirstWalk first second (tableOf heads tails n ids) used slots₀ numbers₀ ends₀ items₀ slots numbers ends items marks done at
 
 abbrev μ-loop : tie.MeasureT-loop
-μ-loop first second heads tails order ranks hints n used counts slots₀ numbers₀ ends₀ items₀ marks₀ done₀ at₀
+μ-loop first second heads tails ids ranks hints n used counts slots₀ numbers₀ ends₀ items₀ marks₀ done₀ at₀
     slots numbers ends items marks done at =
     length first - at
 
 -- the lists at the function's start are not among these: what holds where the loop starts, of whichever lists, holds on
 abbrev Inv-loop2 : tie.InvT-loop2
-Inv-loop2 first second heads tails order ranks hints n used counts slots numbers₀ ends₀ items₀ marks₀ done₀ at on₀
+Inv-loop2 first second heads tails ids ranks hints n used counts slots numbers₀ ends₀ items₀ marks₀ done₀ at on₀
     numbers ends items marks done on =
     (n₀ e₀ i₀ : List ℕ)
-    → SecondWalk first second (tableOf heads tails n order) used n₀ e₀ i₀ slots numbers₀ ends₀ items₀ marks₀ done₀ on₀
-    → SecondWalk first second (tableOf heads tails n order) used n₀ e₀ i₀ slots numbers ends items marks done on
+    → SecondWalk first second (tableOf heads tails n ids) used n₀ e₀ i₀ slots numbers₀ ends₀ items₀ marks₀ done₀ on₀
+    → SecondWalk first second (tableOf heads tails n ids) used n₀ e₀ i₀ slots numbers ends items marks done on
 
 abbrev μ-loop2 : tie.MeasureT-loop2
-μ-loop2 first second heads tails order ranks hints n used counts slots numbers₀ ends₀ items₀ marks₀ done₀ at on₀
+μ-loop2 first second heads tails ids ranks hints n used counts slots numbers₀ ends₀ items₀ marks₀ done₀ at on₀
     numbers ends items marks done on =
     length second - on
 
@@ -76,7 +76,7 @@ bytes a i = a .before .before .before .before .before .before .before .before .s
 second-walk : (a : tie.At-loop2 Inv-loop μ-loop Inv-loop2 μ-loop2)
     → let s = second-start-of a .args in
     let l = a .loop2 in
-    SecondWalk (s .first .now) (s .second .now) (tableOf (s .heads .now) (s .tails .now) (s .n) (s .order .now)) (s .used .now)
+    SecondWalk (s .first .now) (s .second .now) (tableOf (s .heads .now) (s .tails .now) (s .n) (s .ids .now)) (s .used .now)
     (s .numbers .now) (s .ends .now) (s .items .now) (a .before .before .before .loop .slots)
     (l .numbers) (l .ends) (l .items) (l .marks) (l .done) (l .on)
 second-walk a =

@@ -12,10 +12,10 @@ use Rattle.tag_index.proofs.Ids.{sorted-size}
 use Rattle.tag_loader.specs.record_items.Marks.{markWords, Unmarked, MarkedMore, TagsKnown}
 use Rattle.tag_loader.proofs.record_items.Marks.{more-fresh, marked-items}
 
-module _ {file heads tails : List ℕ} {n : ℕ} {order ranks : List ℕ} {start count : ℕ}
-    (known : TagsKnown file heads tails n order ranks start count) where
+module _ {file heads tails : List ℕ} {n : ℕ} {ids ranks : List ℕ} {start count : ℕ}
+    (known : TagsKnown file heads tails n ids ranks start count) where
   abbrev table : List ℕ
-  table = tableOf heads tails n order
+  table = tableOf heads tails n ids
 
   abbrev new : List ℕ
   new = tagsAt count file start

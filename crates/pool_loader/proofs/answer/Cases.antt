@@ -1,7 +1,6 @@
 -- The answer by the lengths of the lists, case by case.
 use mathlib.Core.Path.{_≡_, sym, _∙_}
 use mathlib.Core.Bool.{Bool, true, false, not}
-use Prim.Native.Nat.{ℕ}
 use borrow.Author.Tests.{not-true, not-false}
 use Rattle.sets.specs.declared.Refusal.{Refusal}
 use Rattle.sets.specs.declared.Refusal.the-variants.{ShortOutput}
@@ -11,22 +10,22 @@ use Rattle.tag_file.specs.declared.Loaded.{Loaded}
 use Rattle.tag_file.specs.declared.Repeats.{Repeats}
 use Rattle.tag_file.specs.declared.LoadAnswer.{LoadAnswer}
 use Rattle.tag_file.specs.declared.LoadAnswer.the-variants as load
-use Rattle.tag_loader.specs.lent_lists.Room.{hasRoom}
+use Rattle.tag_loader.specs.declared.lent_lists.LoadRoom.{LoadRoom}
+use Rattle.tag_loader.specs.lent_lists.LentLists.{hasRoom}
 use Rattle.pool_loader.specs.answer.Deciding.{decided}
 
-module _ (answer : LoadAnswer) (long : Tested) (tags leftNumbers leftEnds leftItems rightNumbers rightEnds rightItems : ℕ) {t : Loaded}
-    {repeats : Repeats} (is : answer ≡ load.Loaded t repeats) {b : Bool}
-    (told : b ≡ hasRoom t tags leftNumbers leftEnds leftItems rightNumbers rightEnds rightItems) where
+module _ (answer : LoadAnswer) (long : Tested) (room : LoadRoom) {t : Loaded} {repeats : Repeats}
+    (is : answer ≡ load.Loaded t repeats) {b : Bool} (told : b ≡ hasRoom t room) where
   abbrev here : LoadAnswer
-  here = decided answer long tags leftNumbers leftEnds leftItems rightNumbers rightEnds rightItems
+  here = decided answer long room
 
   pub decided-short : not b ≡ true → load.Refused ShortOutput ≡ here
   decided-short f =
-      let room : hasRoom t tags leftNumbers leftEnds leftItems rightNumbers rightEnds rightItems ≡ false = sym told ∙ not-true b f in
-      rw (is, room)
+      let short : hasRoom t room ≡ false = sym told ∙ not-true b f in
+      rw (is, short)
 
   module _ (enough : not b ≡ false) where
-    room-is : hasRoom t tags leftNumbers leftEnds leftItems rightNumbers rightEnds rightItems ≡ true
+    room-is : hasRoom t room ≡ true
     room-is = sym told ∙ not-false b enough
 
     pub decided-long : {why : Refusal} → long ≡ Failed why → load.Refused why ≡ here

@@ -10,7 +10,7 @@ scan-first-requires c κs =
     record {
       heads-full = length-replicate {A = ℕ} indexRoom 0;
       tails-full = length-replicate {A = ℕ} indexRoom 0;
-      order-full = length-replicate {A = ℕ} indexRoom 0;
+      ids-full = length-replicate {A = ℕ} indexRoom 0;
     }
 
 pool-second-requires : tie.Need-pool-second-requires

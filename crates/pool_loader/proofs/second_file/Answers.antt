@@ -22,44 +22,31 @@ use Rattle.pool_loader_spec.specs.Pooling.{pooledRecords, pooledRepeats, second
 use Rattle.pool_loader_spec.proofs.Answers.{answer-accepted}
 use Rattle.tag_scan.specs.totals.Totals.{Limited}
 use Rattle.tag_scan.specs.Scan.{Taken, Scanned}
+use Rattle.tag_loader.specs.declared.lent_lists.LoadRoom.{LoadRoom}
+use Rattle.tag_loader.specs.lent_lists.LentLists.{roomIn}
 use Rattle.tag_loader.proofs.Rooms.{room-counted}
 use Rattle.pool_scan.specs.right_slots.Slots.{NumbersNoted, BlocksCounted}
 use Rattle.pool_loader.specs.answer.Deciding.{decided, LimitedIf}
 use Rattle.pool_scan.specs.declared.counting.Second.{Second}
 use Rattle.pool_scan.specs.Second.{SecondScanned}
-use Rattle.pool_loader.specs.second_file.Judging.{PoolFillable, PoolDecided, LentLengths}
-
--- lists have their own lengths
-pub own-lengths : (lent : Lists)
-    → LentLengths lent (length (lent .tags)) (length (lent .leftNumbers)) (length (lent .leftEnds)) (length (lent .leftItems))
-    (length (lent .rightNumbers)) (length (lent .rightEnds)) (length (lent .rightItems))
-own-lengths lent =
-    record {
-      for-tags = refl;
-      for-leftNumbers = refl;
-      for-leftEnds = refl;
-      for-leftItems = refl;
-      for-rightNumbers = refl;
-      for-rightEnds = refl;
-      for-rightItems = refl;
-    }
+use Rattle.pool_loader.specs.second_file.Judging.{PoolFillable, PoolDecided}
 
 -- ---- the first file
 
 -- it has no fault, was taken in, and its repeats are counted
-pub record FirstTaken (first : List ℕ) (total : Loaded) (repeats : Repeats) (heads tails order : List ℕ) : Type 0 where
+pub record FirstTaken (first : List ℕ) (total : Loaded) (repeats : Repeats) (heads tails ids : List ℕ) : Type 0 where
   pub clean : fileFault first ≡ Passed
-  pub taken : Taken (records first) total heads tails order
+  pub taken : Taken (records first) total heads tails ids
   pub repeated : repeats ≡ repeatTotals (records first)
 
-pub first-taken : (first : List ℕ) {heads tails order : List ℕ} {r : LoadAnswer} (total : Loaded) (repeats : Repeats)
-    → Scanned first heads tails order r → r ≡ load.Loaded total repeats → FirstTaken first total repeats heads tails order
-first-taken first {heads} {tails} {order} total repeats s e =
+pub first-taken : (first : List ℕ) {heads tails ids : List ℕ} {r : LoadAnswer} (total : Loaded) (repeats : Repeats)
+    → Scanned first heads tails ids r → r ≡ load.Loaded total repeats → FirstTaken first total repeats heads tails ids
+first-taken first {heads} {tails} {ids} total repeats s e =
     let parts =
     tested-loaded (fileFault first) (totalsOf (records first)) (repeatTotals (records first)) total repeats (sym (s .answer) ∙ e) in
     record {
       clean = parts .0;
-      taken = subst (λ (t : Loaded). Taken (records first) t heads tails order) (sym (parts .1)) (s .taken (parts .0));
+      taken = subst (λ (t : Loaded). Taken (records first) t heads tails ids) (sym (parts .1)) (s .taken (parts .0));
       repeated = parts .2;
     }
 
@@ -69,9 +56,9 @@ module _ (first second : List ℕ) (lent : Lists) where
   answer-fault why e = rw e
 
   -- its fault is the answer
-  pub first-refused : {heads tails order used counts slots : List ℕ} {r : LoadAnswer} (why : Refusal)
-      → Scanned first heads tails order r → r ≡ load.Refused why
-      → PoolDecided first second heads tails order used counts slots lent r
+  pub first-refused : {heads tails ids used counts slots : List ℕ} {r : LoadAnswer} (why : Refusal)
+      → Scanned first heads tails ids r → r ≡ load.Refused why
+      → PoolDecided first second heads tails ids used counts slots lent r
   first-refused why s e =
       record {
         answered = e ∙ sym (answer-fault why (tested-refused (fileFault first) (totalsOf (records first))
@@ -81,8 +68,8 @@ module _ (first second : List ℕ) (lent : Lists) where
 
 -- ---- the second file
 
-module _ (first second : List ℕ) {heads tails order used slots : List ℕ} {r : Second} (clean : fileFault first ≡ Passed)
-    (s : SecondScanned first second heads tails order used slots r) where
+module _ (first second : List ℕ) {heads tails ids used slots : List ℕ} {r : Second} (clean : fileFault first ≡ Passed)
+    (s : SecondScanned first second heads tails ids used slots r) where
   pub second-limited : LimitedIf (r .answer)
   second-limited t repeats e =
       let parts = tested-loaded (secondFault (records first) (length first) second) (totalsOf (pooledRecords first second))
@@ -90,25 +77,20 @@ module _ (first second : List ℕ) {heads tails order used slots : List ℕ} {r 
       subst (λ (q : Loaded). Limited q) (sym (parts .1)) (s .taken (parts .0) .limited)
 
   module _ (lent : Lists) where
-    abbrev roomOf : LoadAnswer → Tested → LoadAnswer
-    roomOf answer long =
-        decided answer long (length (lent .tags)) (length (lent .leftNumbers)) (length (lent .leftEnds)) (length (lent .leftItems))
-        (length (lent .rightNumbers)) (length (lent .rightEnds)) (length (lent .rightItems))
-
-    pub decided-is : roomOf (r .answer) (r .long) ≡ pooledAnswer first second lent
+    pub decided-is : decided (r .answer) (r .long) (roomIn lent) ≡ pooledAnswer first second lent
     unfolding pooledAnswer
     decided-is = by-fault (secondFault (records first) (length first) second) refl
       where
         by-fault : (t : Tested) → secondFault (records first) (length first) second ≡ t
-            → roomOf (r .answer) (r .long) ≡ pooledAnswer first second lent
+            → decided (r .answer) (r .long) (roomIn lent) ≡ pooledAnswer first second lent
         by-fault (Failed why) e =
             let is : r .answer ≡ load.Refused why = s .answer ∙ rw e in
-            ap (λ (a : LoadAnswer). roomOf a (r .long)) is ∙ rw (clean, e)
+            ap (λ (a : LoadAnswer). decided a (r .long) (roomIn lent)) is ∙ rw (clean, e)
         by-fault Passed e =
             let totals = totalsOf (pooledRecords first second) in
             let repeats = pooledRepeats (records first) (records second) in
             let is : r .answer ≡ load.Loaded totals repeats = s .answer ∙ rw e in
-            ap₂ roomOf is (s .long e)
+            ap₂ (λ (a : LoadAnswer) (t : Tested). decided a t (roomIn lent)) is (s .long e)
             ∙ ap (λ (b : Bool). unless load.Refused (refuseIf (not b) ShortOutput)
             (unless load.Refused (firstOverlong (records first) (length first) [] (records second)) (load.Loaded totals repeats)))
             (room-counted (pooledRecords first second) lent)
@@ -116,14 +98,14 @@ module _ (first second : List ℕ) {heads tails order used slots : List ℕ} {r 
 
     pub pool-fillable : {counts : List ℕ} (total : Loaded) (repeats : Repeats) → NumbersNoted (records first) used
         → BlocksCounted used counts → pooledAnswer first second lent ≡ load.Loaded total repeats
-        → PoolFillable first second heads tails order (total .tags) used counts slots lent
+        → PoolFillable first second heads tails ids (total .«tag_count») used counts slots lent
     pool-fillable total repeats noted counted e =
         let a = answer-accepted first second lent total repeats e in
         record {
           clean = clean;
           clean-second = a .clean-second;
           taken = s .taken (a .clean-second);
-          count = sym (ap (λ (t : Loaded). t .tags) (a .counts));
+          count = sym (ap (λ (t : Loaded). t .«tag_count») (a .counts));
           room = a .room;
           noted = noted;
           counted = counted;
@@ -132,21 +114,10 @@ module _ (first second : List ℕ) {heads tails order used slots : List ℕ} {r 
         }
 
     -- what is decided by the lengths of the lists is decided for them
-    pub second-decided : {counts : List ℕ} {answer : LoadAnswer}
-        {tags leftNumbers leftEnds leftItems rightNumbers rightEnds rightItems : ℕ} → NumbersNoted (records first) used
-        → BlocksCounted used counts → LentLengths lent tags leftNumbers leftEnds leftItems rightNumbers rightEnds rightItems
-        → answer ≡ decided (r .answer) (r .long) tags leftNumbers leftEnds leftItems rightNumbers rightEnds rightItems
-        → PoolDecided first second heads tails order used counts slots lent answer
-    second-decided {answer = answer} noted counted l told =
+    pub second-decided : {counts : List ℕ} {answer : LoadAnswer} {room : LoadRoom} → NumbersNoted (records first) used
+        → BlocksCounted used counts → room ≡ roomIn lent → answer ≡ decided (r .answer) (r .long) room
+        → PoolDecided first second heads tails ids used counts slots lent answer
+    second-decided {answer = answer} noted counted same told =
         let is : answer ≡ pooledAnswer first second lent =
-        rw (
-          told,
-          l .for-tags,
-          l .for-leftNumbers,
-          l .for-leftEnds,
-          l .for-leftItems,
-          l .for-rightNumbers,
-          l .for-rightEnds,
-          l .for-rightItems,
-        ) decided-is in
+        told ∙ ap (decided (r .answer) (r .long)) same ∙ decided-is in
         record { answered = is; fillable = λ total repeats e. pool-fillable total repeats noted counted (sym is ∙ e) }

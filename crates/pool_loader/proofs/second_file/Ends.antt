@@ -10,7 +10,7 @@ use Rattle.tag_file.specs.declared.LoadAnswer.the-variants as load
 use Rattle.tag_file.specs.Loading.{Lists}
 use Rattle.pool_loader_spec.specs.Pooling.{pooledRecords, pooledAnswer, PooledCall}
 use Rattle.pool_loader_spec.proofs.Answers.{answer-clears}
-use Rattle.tag_loader.specs.lent_lists.Room.{AllCleared}
+use Rattle.tag_loader.specs.lent_lists.LentLists.{AllCleared}
 use Rattle.tag_loader.specs.Passes.{AllFilled}
 
 module _ (first second : List ℕ) (lent : Lists) where

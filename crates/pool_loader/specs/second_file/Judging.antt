@@ -15,20 +15,22 @@ use Rattle.tag_file.specs.Records.{records, tagTable}
 use Rattle.tag_file.specs.Loading.{Lists, fileFault, filled, roomFor, totalsOf}
 use Rattle.pool_loader_spec.specs.Pooling.{pooledRecords, secondFault, pooledAnswer}
 use Rattle.tag_scan.specs.Scan.{Scanned, Taken}
+use Rattle.tag_loader.specs.declared.lent_lists.LoadRoom.{LoadRoom}
+use Rattle.tag_loader.specs.lent_lists.LentLists.{roomIn}
 use Rattle.pool_scan.specs.right_slots.Slots.{numberWords, blocks, NumbersNoted, BlocksCounted, AtSlots, slotWord}
 
 -- the first file was scanned, no number is noted, and there is room for the slots
-pub record JudgeReady (answer : LoadAnswer) (first heads tails order used counts slots : List ℕ) : Type 0 where
-  pub scanned : Scanned first heads tails order answer
+pub record JudgeReady (answer : LoadAnswer) (first heads tails ids used counts slots : List ℕ) : Type 0 where
+  pub scanned : Scanned first heads tails ids answer
   pub unused : used ≡ replicate numberWords 0
   pub counts-size : length counts ≡ blocks
   pub slots-size : length slots ≡ maxSets
 
 -- both files were taken in without fault, the slots have the lengths of the pooled sets, and the lists are long enough
-pub record PoolFillable (first second heads tails order : List ℕ) (n : ℕ) (used counts slots : List ℕ) (lent : Lists) : Type 0 where
+pub record PoolFillable (first second heads tails ids : List ℕ) (n : ℕ) (used counts slots : List ℕ) (lent : Lists) : Type 0 where
   pub clean : fileFault first ≡ Passed
   pub clean-second : secondFault (records first) (length first) second ≡ Passed
-  pub taken : Taken (pooledRecords first second) (totalsOf (pooledRecords first second)) heads tails order
+  pub taken : Taken (pooledRecords first second) (totalsOf (pooledRecords first second)) heads tails ids
   pub count : n ≡ length (tagTable (pooledRecords first second))
   pub room : roomFor (filled (pooledRecords first second)) lent ≡ true
   pub noted : NumbersNoted (records first) used
@@ -37,23 +39,12 @@ pub record PoolFillable (first second heads tails order : List ℕ) (n : ℕ) (u
   pub words : AtSlots (slotWord (records second)) (records first) used slots
 
 -- the answer is decided, and where it accepts, the lists can be filled
-pub record PoolDecided (first second heads tails order used counts slots : List ℕ) (lent : Lists) (answer : LoadAnswer) : Type 0 where
+pub record PoolDecided (first second heads tails ids used counts slots : List ℕ) (lent : Lists) (answer : LoadAnswer) : Type 0 where
   pub answered : answer ≡ pooledAnswer first second lent
   pub fillable : (total : Loaded) (repeats : Repeats) → answer ≡ load.Loaded total repeats
-      → PoolFillable first second heads tails order (total .tags) used counts slots lent
-
--- lists of these lengths
-pub record LentLengths (lent : Lists) (tags leftNumbers leftEnds leftItems rightNumbers rightEnds rightItems : ℕ) : Type 0 where
-  pub for-tags : tags ≡ length (lent .tags)
-  pub for-leftNumbers : leftNumbers ≡ length (lent .leftNumbers)
-  pub for-leftEnds : leftEnds ≡ length (lent .leftEnds)
-  pub for-leftItems : leftItems ≡ length (lent .leftItems)
-  pub for-rightNumbers : rightNumbers ≡ length (lent .rightNumbers)
-  pub for-rightEnds : rightEnds ≡ length (lent .rightEnds)
-  pub for-rightItems : rightItems ≡ length (lent .rightItems)
+      → PoolFillable first second heads tails ids (total .«tag_count») used counts slots lent
 
 -- the answer is decided for all lists of these lengths
-abbrev pub Judged : List ℕ → List ℕ → List ℕ → List ℕ → List ℕ → List ℕ → List ℕ → List ℕ → ℕ → ℕ → ℕ → ℕ → ℕ → ℕ → ℕ → LoadAnswer → Type 0
-Judged first second heads tails order used counts slots tags leftNumbers leftEnds leftItems rightNumbers rightEnds rightItems answer =
-    (lent : Lists) → LentLengths lent tags leftNumbers leftEnds leftItems rightNumbers rightEnds rightItems
-    → PoolDecided first second heads tails order used counts slots lent answer
+abbrev pub Judged : List ℕ → List ℕ → List ℕ → List ℕ → List ℕ → List ℕ → List ℕ → List ℕ → LoadRoom → LoadAnswer → Type 0
+Judged first second heads tails ids used counts slots room answer =
+    (lent : Lists) → room ≡ roomIn lent → PoolDecided first second heads tails ids used counts slots lent answer

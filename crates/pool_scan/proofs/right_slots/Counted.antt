@@ -14,7 +14,7 @@ use Rattle.bit_sets.proofs.Counted.{count-word}
 use Rattle.sets.specs.Limits.{maxSets, halfWords}
 use Rattle.tag_file.proofs.Tables.{three-ways}
 use Rattle.tag_file.specs.Records.{TagRecord}
-use Rattle.pool_scan.specs.right_slots.Slots.{blockLength, slotOf, NumbersNoted}
+use Rattle.pool_scan.specs.right_slots.Slots.{blockLength, numberSlot, NumbersNoted}
 
 -- a small number taken once or not at all
 pub product-fits : {r m : ℕ} → r ≤ 64 → m < 2 → r * m < 2 ^ 64
@@ -27,41 +27,41 @@ product-fits {r} {m} few small = by-digit m small
 
 module _ (used : List ℕ) where
   -- a range of numbers more
-  pub slot-add : (a n : ℕ) → slotOf used (a + n) ≡ slotOf used a + count (member used) (range a n)
-  unfolding slotOf
+  pub slot-add : (a n : ℕ) → numberSlot used (a + n) ≡ numberSlot used a + count (member used) (range a n)
+  unfolding numberSlot
   slot-add a n =
       let from-zero : 0 + a ≡ a = omega arith in
       ap (count (member used)) (range-append 0 a n) ∙ count-append (member used) (upto a) (range (0 + a) n)
       ∙ ap (λ (k : ℕ). count (member used) (upto a) + count (member used) (range k n)) from-zero
 
-  pub slot-start : slotOf used 0 ≡ 0
-  unfolding slotOf count range
+  pub slot-start : numberSlot used 0 ≡ 0
+  unfolding numberSlot count range
   slot-start = refl
 
-  pub slot-rising : (a b : ℕ) → a ≤ b → slotOf used a ≤ slotOf used b
+  pub slot-rising : (a b : ℕ) → a ≤ b → numberSlot used a ≤ numberSlot used b
   slot-rising a b le =
       let all : a + (b - a) ≡ b = omega arith in
-      omega (arith, slot-add a (b - a), ap (slotOf used) all)
+      omega (arith, slot-add a (b - a), ap (numberSlot used) all)
 
-  pub slot-bound : (a : ℕ) → slotOf used a ≤ a
-  unfolding slotOf
+  pub slot-bound : (a : ℕ) → numberSlot used a ≤ a
+  unfolding numberSlot
   slot-bound a = omega (arith, count-bound (member used) (upto a), length-range 0 a)
 
   -- one more for a used number
-  slot-next : (x : ℕ) → member used x ≡ true → slotOf used (x + 1) ≡ slotOf used x + 1
+  slot-next : (x : ℕ) → member used x ≡ true → numberSlot used (x + 1) ≡ numberSlot used x + 1
   unfolding count range
-  slot-next x there = slot-add x 1 ∙ ap (λ (b : Bool). slotOf used x + (one b + 0)) there
+  slot-next x there = slot-add x 1 ∙ ap (λ (b : Bool). numberSlot used x + (one b + 0)) there
 
-  pub slot-less : (x y : ℕ) → member used x ≡ true → x < y → slotOf used x < slotOf used y
+  pub slot-less : (x y : ℕ) → member used x ≡ true → x < y → numberSlot used x < numberSlot used y
   slot-less x y there less = omega (arith, slot-next x there, slot-rising (x + 1) y (omega arith))
 
-  pub slot-injective : (x y : ℕ) → member used x ≡ true → member used y ≡ true → slotOf used x ≡ slotOf used y → x ≡ y
+  pub slot-injective : (x y : ℕ) → member used x ≡ true → member used y ≡ true → numberSlot used x ≡ numberSlot used y → x ≡ y
   slot-injective x y at-x at-y same =
       three-ways x y (λ less. absurd (omega (arith, slot-less x y at-x less))) (λ e. e)
       (λ more. absurd (omega (arith, slot-less y x at-y more)))
 
   pub slot-below : {rs : List TagRecord} → NumbersNoted rs used → (x : ℕ) → x < halfWords → member used x ≡ true
-      → slotOf used x < maxSets
+      → numberSlot used x < maxSets
   slot-below noted x small there = omega (arith, noted .few, slot-less x halfWords there small)
 
   -- ---- by words
@@ -84,10 +84,10 @@ module _ (used : List ℕ) where
       by-half (suc (suc h)) e = absurd (omega arith)
 
   -- a slot by the counts of its block, of the words of the block before it, and of its own word
-  pub slot-parts : (n start before below : ℕ) → start ≡ slotOf used (blockLength * (n / 128))
+  pub slot-parts : (n start before below : ℕ) → start ≡ numberSlot used (blockLength * (n / 128))
       → before ≡ count (member used) (range (blockLength * (n / 64 / 2)) (64 * (n / 64 % 2)))
       → below ≡ count (bitAt (getD used (n / 64) 0)) (upto (n % 64))
-      → start + before + below ≡ slotOf used n
+      → start + before + below ≡ numberSlot used n
   slot-parts n start before below at-start is-before is-below =
       let w = n / 64 in
       let first : blockLength * (w / 2) ≡ blockLength * (n / 128) = omega arith in
@@ -98,10 +98,10 @@ module _ (used : List ℕ) where
         at-start,
         is-before,
         is-below,
-        ap (slotOf used) first,
+        ap (numberSlot used) first,
         slot-add (blockLength * (w / 2)) (64 * (w % 2)),
-        ap (slotOf used) mid,
+        ap (numberSlot used) mid,
         slot-add (64 * w) (n % 64),
-        ap (slotOf used) end,
+        ap (numberSlot used) end,
         word-ones w (n % 64) (omega arith),
       )

@@ -13,7 +13,7 @@ use Rattle.lists.proofs.Counting.{count-bound}
 use Rattle.lists.proofs.Ranges.{length-range}
 use Rattle.bit_sets.specs.BitSets.{bitAt, member}
 use Rattle.sets.specs.Limits.{maxSets, halfWords}
-use Rattle.pool_scan.specs.right_slots.Slots.{numberWords, blockLength, blocks, slotOf, BlocksCounted}
+use Rattle.pool_scan.specs.right_slots.Slots.{numberWords, blockLength, blocks, numberSlot, BlocksCounted}
 use Rattle.pool_scan.proofs.right_slots.Counted.{slot-add, slot-start, slot-rising, word-ones}
 
 -- a block's members, word by word
@@ -34,7 +34,7 @@ block-words used b first second is-first is-second =
       ap (λ (k : ℕ). count (member used) (range k 64)) mid,
       slot-add used (blockLength * b) 64,
       slot-add used (blockLength * b + 64) 64,
-      ap (slotOf used) end,
+      ap (numberSlot used) end,
       slot-add used (blockLength * b) blockLength,
     )
 
@@ -46,15 +46,15 @@ block-few used b r is =
 pub record Counting (used counts : List ℕ) (total b : ℕ) : Type 0 where
   pub size : length counts ≡ blocks
   pub within : b ≤ blocks
-  pub sum : total ≡ slotOf used (blockLength * b)
-  pub done : (j : ℕ) → j < b → getD counts j 0 ≡ slotOf used (blockLength * j)
+  pub sum : total ≡ numberSlot used (blockLength * b)
+  pub done : (j : ℕ) → j < b → getD counts j 0 ≡ numberSlot used (blockLength * j)
 
 pub counting-start : (used counts : List ℕ) → length counts ≡ blocks → Counting used counts 0 0
 counting-start used counts long =
     record { size = long; within = omega arith; sum = sym (slot-start used); done = λ j h. absurd (omega arith) }
 
 module _ {used counts : List ℕ} {total b : ℕ} (w : Counting used counts total b) where
-  pub counting-bound : slotOf used halfWords ≤ maxSets → total ≤ maxSets
+  pub counting-bound : numberSlot used halfWords ≤ maxSets → total ≤ maxSets
   counting-bound few = omega (arith, w .sum, few, slot-rising used (blockLength * b) halfWords (omega (arith, w .within)))
 
   pub counting-step : (r : ℕ) → b < blocks → r ≡ count (member used) (range (blockLength * b) blockLength)
@@ -64,17 +64,17 @@ module _ {used counts : List ℕ} {total b : ℕ} (w : Counting used counts tota
       record {
         size = length-set counts b total ∙ w .size;
         within = omega arith;
-        sum = omega (arith, w .sum, is, slot-add used (blockLength * b) blockLength, ap (slotOf used) next);
+        sum = omega (arith, w .sum, is, slot-add used (blockLength * b) blockLength, ap (numberSlot used) next);
         done = λ j h. by-test (eqb j b) (λ t. this j (eqb-true j b t)) (λ t. other j h (eqb-false j b t));
       }
     where
-      this : (j : ℕ) → j ≡ b → getD (set counts b total) j 0 ≡ slotOf used (blockLength * j)
+      this : (j : ℕ) → j ≡ b → getD (set counts b total) j 0 ≡ numberSlot used (blockLength * j)
       this j e =
           ap (λ (k : ℕ). getD (set counts b total) k 0) e
           ∙ getD-set-same counts b total 0 (omega (arith, w .size)) ∙ w .sum
-          ∙ ap (λ (k : ℕ). slotOf used (blockLength * k)) (sym e)
+          ∙ ap (λ (k : ℕ). numberSlot used (blockLength * k)) (sym e)
 
-      other : (j : ℕ) → j < b + 1 → (j ≡ b → ⊥) → getD (set counts b total) j 0 ≡ slotOf used (blockLength * j)
+      other : (j : ℕ) → j < b + 1 → (j ≡ b → ⊥) → getD (set counts b total) j 0 ≡ numberSlot used (blockLength * j)
       other j h ne = getD-set-other counts b j total 0 ne ∙ w .done j (omega arith)
 
   pub counting-end : length used ≡ numberWords → blocks ≤ b → BlocksCounted used counts

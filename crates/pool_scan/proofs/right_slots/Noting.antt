@@ -20,7 +20,7 @@ use Rattle.tag_file.specs.Records.{TagRecord, recordsAt, records, sameSide, ofS
 use Rattle.tag_file.specs.Loading.{numbersOf}
 use Rattle.tag_file.specs.declared.ReadAnswer.the-variants.{Record}
 use Rattle.tag_file.proofs.FaultFree.{side-other, side-own, numbers-own}
-use Rattle.pool_scan.specs.right_slots.Slots.{numberWords, slotOf, NumbersNoted}
+use Rattle.pool_scan.specs.right_slots.Slots.{numberWords, numberSlot, NumbersNoted}
 use Rattle.pool_scan.proofs.right_slots.Walking.{Walking, walking-start, walking-step, walking-end, this}
 
 -- the numbers of the right sets seen are members
@@ -29,13 +29,13 @@ pub record Noting (file used : List ℕ) (at : ℕ) : Type 0 where
   pub walk : Walking file seen at
   pub wide : length used ≡ numberWords
   pub has : (x : ℕ) → member used x ≡ memb x (numbersOf Right seen)
-  pub few : slotOf used halfWords ≤ length (ofSide Right seen)
+  pub few : numberSlot used halfWords ≤ length (ofSide Right seen)
 
 pub noting-wide : {used : List ℕ} → used ≡ replicate numberWords 0 → length used ≡ numberWords
 noting-wide e = ap length e ∙ length-replicate {A = ℕ} numberWords 0
 
 pub noting-start : (file : List ℕ) {used : List ℕ} → used ≡ replicate numberWords 0 → Noting file used 0
-unfolding slotOf memb keep
+unfolding numberSlot memb keep
 noting-start file {used} e =
     record {
       seen = [];
@@ -76,7 +76,7 @@ module _ {file used : List ℕ} {at : ℕ} (w : Noting file used at) where
 
     -- a right set's record
     pub noting-own : {is : List ℕ} → sameSide Right side ≡ true → Inserted used n is → Noting file is next
-    unfolding memb slotOf
+    unfolding memb numberSlot
     noting-own {is} right put =
         record {
           seen = w .seen ++ (here ∷ []);
@@ -94,7 +94,7 @@ module _ {file used : List ℕ} {at : ℕ} (w : Noting file used at) where
             ∙ sym (memb-append x (numbersOf Right (w .seen)) (n ∷ []))
             ∙ ap (memb x) (sym (numbers-own Right (w .seen) here right))
 
-        few-now : slotOf is halfWords ≤ length (ofSide Right (w .seen ++ (here ∷ [])))
+        few-now : numberSlot is halfWords ≤ length (ofSide Right (w .seen ++ (here ∷ [])))
         few-now =
             omega (
               arith,

@@ -26,11 +26,11 @@ use Rattle.pool_scan.proofs.scan_second.Statement.{statement}
 use Rattle.pool_scan.proofs.scan_second.Tie as tie
 
 abbrev Inv-loop : tie.InvT-loop
-Inv-loop first second used counts slots₀ heads₀ tails₀ order₀ hints₀ noted₀ counted₀ at₀ slots heads tails order hints noted counted at =
-    Passing first second noted used heads tails order slots counted at
+Inv-loop first second used counts slots₀ heads₀ tails₀ ids₀ hints₀ noted₀ counted₀ at₀ slots heads tails ids hints noted counted at =
+    Passing first second noted used heads tails ids slots counted at
 
 abbrev μ-loop : tie.MeasureT-loop
-μ-loop first second used counts slots₀ heads₀ tails₀ order₀ hints₀ noted₀ counted₀ at₀ slots heads tails order hints noted counted at =
+μ-loop first second used counts slots₀ heads₀ tails₀ ids₀ hints₀ noted₀ counted₀ at₀ slots heads tails ids hints noted counted at =
     length second - at
 
 -- the call, from a turn of the loop
@@ -56,11 +56,18 @@ abbrev answered : tie.Else3 Inv-loop μ-loop → tie.After-answer Inv-loop μ-lo
 answered e = e .before .before .before .before .before .before .before
 
 abbrev turn : tie.Else3 Inv-loop μ-loop → tie.At-loop Inv-loop μ-loop
-turn e = e .before .before .before .before .before .before .before .before .before .before .before
+turn e = answered e .before .before .before .before
 
 -- it is of the right side
 right : (a : tie.Then2 Inv-loop μ-loop) → sameSide Right (a .before .before .before .answer .given .0 .0) ≡ true
 right a = sym (a .before .is-side .ensures) ∙ a .if2 .taken
+
+right-here : (e : tie.Else3 Inv-loop μ-loop) → sameSide Right (answered e .answer .given .0 .0) ≡ true
+right-here e = right (e .before .before .before .before)
+
+-- the same, once its tags were taken in
+abbrev taken : tie.After-unite Inv-loop μ-loop → tie.Else3 Inv-loop μ-loop
+taken u = u .before .before .before .before .before .before .before
 
 -- its number was not noted
 free : (e : tie.Else3 Inv-loop μ-loop) → member (turn e .loop .noted) (answered e .answer .given .0 .1 .0) ≡ false
@@ -68,7 +75,7 @@ free e = sym (e .before .before .claim .ensures .before) ∙ e .if3 .left
 
 -- the first file has bytes
 bytes : (e : tie.Else3 Inv-loop μ-loop) (i : ℕ) → getD (called (turn e) .args .first .now) i 0 < 256
-bytes e i = e .before .before .before .before .before .before .before .before .before .before .before .before .before .before .before .before .before .shared-slice-known .given i .fits
+bytes e i = turn e .before .before .before .before .before .before .shared-slice-known .given i .fits
 
 count-from-requires : tie.Need-count-from-requires Inv-loop μ-loop
 count-from-requires c κs = tt
@@ -132,7 +139,7 @@ same-length-3 c = let a = c .before .before .before .before .before .before .bef
 returns-3 : tie.Need-returns-3 Inv-loop μ-loop
 returns-3 c =
     let a = c .before .before .before .before .before .before .before .before in
-    let l = c .before .before .before .before .before .before .before .before .before .before .before .before .loop in
+    let l = a .before .before .before .before .loop in
     passing-used (l .inv) (read a) (right (c .before .before .before .before .before)) (small a) (sym (c .before .before .before .claim .ensures .before) ∙ c .before .if3 .taken) (l .inv .size)
     (c .refused2 .ensures ∙ ap (λ (k : ℕ). load.Refused (NumberUsed k)) (a .before .before .wrapping-add-usize .ensures))
 
@@ -140,17 +147,18 @@ unite-requires : tie.Need-unite-requires Inv-loop μ-loop
 unite-requires c κs =
     let e = c .before .before .before .before .before .before in
     let a = answered e in
-    step-ready (called (turn e) .pre) (bytes e) (turn e .loop .inv) (read a) (right (e .before .before .before .before)) (small a) (free e) (few a)
+    step-ready (called (turn e) .pre) (bytes e) (turn e .loop .inv) (read a) (right-here e) (small a) (free e) (few a)
 
 count-set-requires : tie.Need-count-set-requires Inv-loop μ-loop
 count-set-requires c κs =
-    let e = c .before .before .before .before .before .before .before .before .before in
+    let u = c .before .before in
+    let e = taken u in
     let a = answered e in
     let s = called (turn e) in
     let inv = turn e .loop .inv in
-    let taking = c .before .before .unite .ensures in
-    let bounds = step-bounds (s .pre) (bytes e) inv (read a) (right (e .before .before .before .before)) (small a) (free e) taking in
-    let one = stepped (s .pre) (bytes e) inv (read a) (right (e .before .before .before .before)) (small a) (free e) taking in
+    let taking = u .unite .ensures in
+    let bounds = step-bounds (s .pre) (bytes e) inv (read a) (right-here e) (small a) (free e) taking in
+    let one = stepped (s .pre) (bytes e) inv (read a) (right-here e) (small a) (free e) taking in
     let more = passing-repeats inv (read a) (one .distinct) (omega (arith, s .good .0)) (omega (arith, s .good .1 .0)) in
     record {
       limited = inv .taken .limited;
@@ -168,39 +176,40 @@ refused-requires-3 c κs = tt
 
 same-length-4 : tie.Need-same-length-4 Inv-loop μ-loop
 same-length-4 c =
-    let e = c .before .before .before .before .before .before .before .before .before .before .before .before .before .before in
+    let u = c .before .before .before .before .before .before .before in
+    let e = taken u in
     let a = answered e in
     let s = called (turn e) in
-    let one = stepped (s .pre) (bytes e) (turn e .loop .inv) (read a) (right (e .before .before .before .before)) (small a) (free e) (c .before .before .before .before .before .before .before .unite .ensures) in
+    let one = stepped (s .pre) (bytes e) (turn e .loop .inv) (read a) (right-here e) (small a) (free e) (u .unite .ensures) in
     one .size ∙ sym (s .pre .slotted .size)
 
 returns-4 : tie.Need-returns-4 Inv-loop μ-loop
 returns-4 c =
-    let e = c .before .before .before .before .before .before .before .before .before .before .before .before .before .before in
+    let u = c .before .before .before .before .before .before .before in
+    let e = taken u in
     let a = answered e in
     let s = called (turn e) in
     let inv = turn e .loop .inv in
-    let u = c .before .before .before .before .before .before .before .unite in
-    let one = stepped (s .pre) (bytes e) inv (read a) (right (e .before .before .before .before)) (small a) (free e) (u .ensures) in
-    passing-past inv (read a) (right (e .before .before .before .before)) (small a) (free e) (u .result) (one .one) (one .size)
+    let one = stepped (s .pre) (bytes e) inv (read a) (right-here e) (small a) (free e) (u .unite .ensures) in
+    passing-past inv (read a) (right-here e) (small a) (free e) (u .unite .result) (one .one) (one .size)
     (sym (ap (λ (k : Counted). overOf (k .total)) (c .before .before .before .before .count-set .ensures)) ∙ sym (c .before .before .is-past .ensures) ∙ c .before .if4 .taken)
     (c .refused3 .ensures ∙ ap (λ (k : ℕ). load.Refused (TooMany k)) (a .before .before .wrapping-add-usize .ensures))
 
 loop-less : tie.Need-loop-less Inv-loop μ-loop
-loop-less c = read-less _ _ (read (answered (c .before .before .before .before .before .before .before .before .before .before .before .before .before)))
+loop-less c = read-less _ _ (read (answered (taken (c .before .before .before .before .before .before))))
 
 loop-again : tie.Need-loop-again Inv-loop μ-loop
 loop-again c =
-    let e = c .before .before .before .before .before .before .before .before .before .before .before .before .before in
+    let u = c .before .before .before .before .before .before in
+    let e = taken u in
     let a = answered e in
     let s = called (turn e) in
     let inv = turn e .loop .inv in
-    let u = c .before .before .before .before .before .before .unite in
     let set = c .before .before .before .count-set .ensures in
-    let one = stepped (s .pre) (bytes e) inv (read a) (right (e .before .before .before .before)) (small a) (free e) (u .ensures) in
+    let one = stepped (s .pre) (bytes e) inv (read a) (right-here e) (small a) (free e) (u .unite .ensures) in
     passing-by
-    (set ∙ ap (countedBy (turn e .loop .counted) (u .result) (a .answer .given .0 .1 .1 .0)) (a .before .before .wrapping-add-usize .ensures))
-    (passing-next inv (read a) (right (e .before .before .before .before)) (small a) (free e) (u .result) (one .one) (one .size)
+    (set ∙ ap (countedBy (turn e .loop .counted) (u .unite .result) (a .answer .given .0 .1 .1 .0)) (a .before .before .wrapping-add-usize .ensures))
+    (passing-next inv (read a) (right-here e) (small a) (free e) (u .unite .result) (one .one) (one .size)
     (sym (ap (λ (k : Counted). overOf (k .total)) set) ∙ sym (c .before .is-past .ensures) ∙ c .if4 .left)
     (e .before .before .claim .ensures .noted) (one .distinct) (one .words) (one .is) (one .counted))
 

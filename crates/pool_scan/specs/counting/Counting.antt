@@ -25,8 +25,8 @@ unitedBy t u true =
       «left_sets» = t .«left_sets»;
       «right_sets» = t .«right_sets»;
       «left_entries» = t .«left_entries»;
-      «right_entries» = t .«right_entries» + (u .all - u .own);
-      tags = u .tags;
+      «right_entries» = t .«right_entries» + (u .all - u .first);
+      «tag_count» = u .«tag_count»;
     }
 unitedBy t u false =
     record {
@@ -34,7 +34,7 @@ unitedBy t u false =
       «right_sets» = t .«right_sets» + 1;
       «left_entries» = t .«left_entries»;
       «right_entries» = t .«right_entries» + u .all;
-      tags = u .tags;
+      «tag_count» = u .«tag_count»;
     }
 
 -- with one more right set of the second file, of so many tags, whose record is at a place
@@ -42,17 +42,17 @@ abbrev pub countedBy : Counted → United → ℕ → ℕ → Counted
 countedBy c u count place =
     record {
       total = unitedBy (c .total) u (u .met);
-      repeats = record { left = c .repeats .left; right = c .repeats .right + (count - u .fresh) };
+      repeats = record { left = c .repeats .left; right = c .repeats .right + (count - u .second) };
       long = unless Failed (c .long) (refuseIf (ltb maxSetLength (u .all)) (Overlong place));
     }
 
 -- its counts fit
 pub record CountReady (c : Counted) (u : United) (count : ℕ) : Type 0 where
   pub limited : Limited (c .total)
-  pub less : u .own ≤ u .all
+  pub less : u .first ≤ u .all
   pub few : u .all ≤ maxSetLength + maxSetLength
-  pub distinct : u .fresh ≤ count
-  pub fits : c .repeats .right + (count - u .fresh) < wordNumbers
+  pub distinct : u .second ≤ count
+  pub fits : c .repeats .right + (count - u .second) < wordNumbers
 
 -- the answer at the end of a file without fault
 abbrev pub acceptedBy : Counted → Second

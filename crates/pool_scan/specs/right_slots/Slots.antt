@@ -25,20 +25,20 @@ abbrev pub blocks : ℕ
 blocks = halfWords / blockLength
 
 -- the slot of a number: how many used numbers are below it
-unfoldable pub slotOf : List ℕ → ℕ → ℕ
-slotOf used number = count (member used) (upto number)
+unfoldable pub numberSlot : List ℕ → ℕ → ℕ
+numberSlot used number = count (member used) (upto number)
 
 -- the slots at which the blocks begin
 pub record BlocksCounted (used counts : List ℕ) : Type 0 where
   pub wide : length used ≡ numberWords
   pub size : length counts ≡ blocks
-  pub at : (b : ℕ) → b < blocks → getD counts b 0 ≡ slotOf used (blockLength * b)
+  pub at : (b : ℕ) → b < blocks → getD counts b 0 ≡ numberSlot used (blockLength * b)
 
 -- the numbers of the right sets among records, and nothing else, are members; there are no more of them than right sets may be
 pub record NumbersNoted (rs : List TagRecord) (used : List ℕ) : Type 0 where
   pub wide : length used ≡ numberWords
   pub has : (x : ℕ) → x < halfWords → member used x ≡ memb x (numbersOf Right rs)
-  pub few : slotOf used halfWords ≤ maxSets
+  pub few : numberSlot used halfWords ≤ maxSets
 
 -- no record has the number of an earlier one of its side
 abbrev pub NumbersOnce : List TagRecord → Type 0
@@ -48,7 +48,7 @@ NumbersOnce rs = (before : List TagRecord) (r : TagRecord) (after : List TagReco
 -- the slot of each right set among records has a word, by the records before it and itself
 abbrev pub AtSlots : (List TagRecord → TagRecord → ℕ) → List TagRecord → List ℕ → List ℕ → Type 0
 AtSlots word rs used slots = (before : List TagRecord) (r : TagRecord) (after : List TagRecord) → rs ≡ before ++ (r ∷ after)
-    → sameSide Right (r .side) ≡ true → getD slots (slotOf used (r .number)) 0 ≡ word before r
+    → sameSide Right (r .side) ≡ true → getD slots (numberSlot used (r .number)) 0 ≡ word before r
 
 -- the slots of a file's right sets, each with its record's byte place
 pub record Slotted (file used counts slots : List ℕ) : Type 0 where
@@ -60,7 +60,7 @@ pub record Slotted (file used counts slots : List ℕ) : Type 0 where
 -- the slots can be looked up, and this number has one
 pub record HasSlot (used counts slots : List ℕ) (number : ℕ) : Type 0 where
   pub counted : BlocksCounted used counts
-  pub within : slotOf used number < length slots
+  pub within : numberSlot used number < length slots
 
 -- a file whose right sets can have slots: not too many, each number once, and places that fit
 pub record Slottable (file : List ℕ) : Type 0 where

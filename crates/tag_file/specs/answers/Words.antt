@@ -22,6 +22,6 @@ readWords read = wordsRead (read .answer) (read .repeats)
 abbrev pub loadWords : LoadAnswer → List ℕ
 loadWords (load.Loaded loaded repeats) =
     acceptedWords
-    (loaded .«left_sets» ∷ loaded .«right_sets» ∷ loaded .«left_entries» ∷ loaded .«right_entries» ∷ loaded .tags
+    (loaded .«left_sets» ∷ loaded .«right_sets» ∷ loaded .«left_entries» ∷ loaded .«right_entries» ∷ loaded .«tag_count»
     ∷ repeats .left ∷ repeats .right ∷ [])
 loadWords (load.Refused why) = refusedWords why 7

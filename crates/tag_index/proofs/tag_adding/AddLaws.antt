@@ -34,8 +34,8 @@ tagsAt-next k file start = ap (λ (m : ℕ). tagsAt m file start) (add-one k) �
 -- ---- one more tag among those of a set
 
 -- a set starts without tags: none is seen
-pub adding-start : {heads tails order : List ℕ} {n : ℕ} → Sorted heads tails n order
-    → Adding [] heads tails n 0 order (replicate seenWords 0)
+pub adding-start : {heads tails ids : List ℕ} {n : ℕ} → Sorted heads tails n ids
+    → Adding [] heads tails n 0 ids (replicate seenWords 0)
 unfolding insertAll memb
 adding-start s =
     record {
@@ -48,42 +48,42 @@ adding-start s =
     }
 
 -- the tag x was taken into the index, and its id is seen
-module _ {done heads tails : List ℕ} {tags fresh : ℕ} {order seen : List ℕ} (a : Adding done heads tails tags fresh order seen)
-    {x : ℕ} {found : Found} {now-heads now-tails now-order : List ℕ}
-    (o : OneTaken x tags heads tails order found now-heads now-tails now-order) where
+module _ {done heads tails : List ℕ} {tagCount distinct : ℕ} {ids seen : List ℕ} (a : Adding done heads tails tagCount distinct ids seen)
+    {x : ℕ} {found : Found} {now-heads now-tails now-ids : List ℕ}
+    (o : OneTaken x tagCount heads tails ids found now-heads now-tails now-ids) where
   abbrev next : List ℕ
   next = done ++ (x ∷ [])
 
   abbrev was : List ℕ
-  was = tableOf heads tails tags order
+  was = tableOf heads tails tagCount ids
 
   -- the index has as many tags as before, or one more
-  now-more : tags ≤ found .tags
+  now-more : tagCount ≤ found .«tag_count»
   now-more =
       omega (arith, sorted-size (o .sorted), ap length (o .table), length-insert x was (a .sorted .rises), sorted-size (a .sorted))
 
   -- a new id has a tag that the index had not, and so the set has not
-  new-absent : (j : ℕ) → tags ≤ j → j < found .tags → memb (tagOfId now-heads now-tails j) done ≡ false
+  new-absent : (j : ℕ) → tagCount ≤ j → j < found .«tag_count» → memb (tagOfId now-heads now-tails j) done ≡ false
   new-absent j low high =
       let y = tagOfId now-heads now-tails j in
       refuted (memb y done) (λ m.
       let q = memb-place y was (a .held y m) in
-      let at-low : q .at < tags = omega (arith, q .below, sorted-size (a .sorted)) in
-      let id-low = a .sorted .listed .ids (q .at) at-low in
-      let same : getD order (q .at) 0 ≡ j =
-      same-id (o .sorted) (getD order (q .at) 0) j (omega (arith, id-low, now-more)) high
-      (o .others (getD order (q .at) 0) id-low ∙ sym (sorted-at (a .sorted) (q .at) at-low) ∙ q .here) in
+      let at-low : q .at < tagCount = omega (arith, q .below, sorted-size (a .sorted)) in
+      let id-low = a .sorted .listed .small (q .at) at-low in
+      let same : getD ids (q .at) 0 ≡ j =
+      same-id (o .sorted) (getD ids (q .at) 0) j (omega (arith, id-low, now-more)) high
+      (o .others (getD ids (q .at) 0) id-low ∙ sym (sorted-at (a .sorted) (q .at) at-low) ∙ q .here) in
       omega (arith, id-low))
 
   -- what was seen before, by the ids of now
-  was-marked : (j : ℕ) → j < found .tags → member seen j ≡ memb (tagOfId now-heads now-tails j) done
+  was-marked : (j : ℕ) → j < found .«tag_count» → member seen j ≡ memb (tagOfId now-heads now-tails j) done
   was-marked j h =
-      by-test (ltb j tags)
-      (λ t. a .marks j (ltb-true j tags t) ∙ ap (λ (y : ℕ). memb y done) (sym (o .others j (ltb-true j tags t))))
-      (λ f. a .unmarked j (ltb-false j tags f) ∙ sym (new-absent j (ltb-false j tags f) h))
+      by-test (ltb j tagCount)
+      (λ t. a .marks j (ltb-true j tagCount t) ∙ ap (λ (y : ℕ). memb y done) (sym (o .others j (ltb-true j tagCount t))))
+      (λ f. a .unmarked j (ltb-false j tagCount f) ∙ sym (new-absent j (ltb-false j tagCount f) h))
 
   pub adding-step : {r : ℕ} {is : List ℕ} → Seen seen (found .id) r is
-      → Adding next now-heads now-tails (found .tags) (fresh + r) now-order is
+      → Adding next now-heads now-tails (found .«tag_count») (distinct + r) now-ids is
   adding-step {r} {is} s =
       record {
         sorted = o .sorted;
@@ -92,45 +92,45 @@ module _ {done heads tails : List ℕ} {tags fresh : ℕ} {order seen : List ℕ
             ∙ sym (memb-last (tagOfId now-heads now-tails j) done x);
         unmarked = λ j g. s .marked .holds j ∙ rw (ne-eqb j (found .id) (λ e. omega (arith, o .within)), a .unmarked j (omega (arith, now-more)));
         held = held-next;
-        counted = ap (λ (k : ℕ). fresh + k) (s .counted ∙ ap (λ (b : Bool). one (not b)) (was-marked (found .id) (o .within) ∙ ap (λ (y : ℕ). memb y done) (o .is)))
+        counted = ap (λ (k : ℕ). distinct + k) (s .counted ∙ ap (λ (b : Bool). one (not b)) (was-marked (found .id) (o .within) ∙ ap (λ (y : ℕ). memb y done) (o .is)))
             ∙ ap (λ (m : ℕ). m + one (not (memb x done))) (a .counted) ∙ sym (collapse-last done x);
       }
     where
-      this : (j : ℕ) → j < found .tags → eqb j (found .id) ≡ eqb (tagOfId now-heads now-tails j) x
+      this : (j : ℕ) → j < found .«tag_count» → eqb j (found .id) ≡ eqb (tagOfId now-heads now-tails j) x
       this j g =
           same-test (eqb j (found .id)) (eqb (tagOfId now-heads now-tails j) x)
           (λ t. eq-eqb (tagOfId now-heads now-tails j) x (ap (tagOfId now-heads now-tails) (eqb-true j (found .id) t) ∙ o .is))
           (λ t. eq-eqb j (found .id)
           (same-id (o .sorted) j (found .id) g (o .within) (eqb-true (tagOfId now-heads now-tails j) x t ∙ sym (o .is))))
 
-      held-next : (y : ℕ) → memb y next ≡ true → memb y (tableOf now-heads now-tails (found .tags) now-order) ≡ true
-      held-next y m = ap (memb y) (o .table) ∙ memb-insert y x (tableOf heads tails tags order) ∙ here (eqb y x) refl
+      held-next : (y : ℕ) → memb y next ≡ true → memb y (tableOf now-heads now-tails (found .«tag_count») now-ids) ≡ true
+      held-next y m = ap (memb y) (o .table) ∙ memb-insert y x (tableOf heads tails tagCount ids) ∙ here (eqb y x) refl
         where
-          here : (b : Bool) → eqb y x ≡ b → (b || memb y (tableOf heads tails tags order)) ≡ true
+          here : (b : Bool) → eqb y x ≡ b → (b || memb y (tableOf heads tails tagCount ids)) ≡ true
           here true t = refl
           here false f =
               a .held y (sym (or-false (memb y done)) ∙ ap (λ (b : Bool). memb y done || b) (sym f) ∙ sym (memb-last y done x) ∙ m)
 
 -- ---- how many more there are with some tags more
 
-module _ {done heads tails : List ℕ} {n old : ℕ} {order seen : List ℕ} (a : Adding done heads tails n old order seen) (xs : List ℕ)
-    {tags : ℕ} {now-heads now-tails now-order : List ℕ} where
+module _ {done heads tails : List ℕ} {n old : ℕ} {ids seen : List ℕ} (a : Adding done heads tails n old ids seen) (xs : List ℕ)
+    {tagCount : ℕ} {now-heads now-tails now-ids : List ℕ} where
   -- in the index
-  tags-most : Sorted now-heads now-tails tags now-order
-      → tableOf now-heads now-tails tags now-order ≡ insertAll (tableOf heads tails n order) xs → tags ≤ n + length xs
+  tags-most : Sorted now-heads now-tails tagCount now-ids
+      → tableOf now-heads now-tails tagCount now-ids ≡ insertAll (tableOf heads tails n ids) xs → tagCount ≤ n + length xs
   tags-most s e =
       omega (
         arith,
         sorted-size s,
         ap length e,
-        length-insertAll-bound (tableOf heads tails n order) xs,
+        length-insertAll-bound (tableOf heads tails n ids) xs,
         sorted-size (a .sorted),
       )
 
   -- among the distinct ones of the set
-  fresh-most : {fresh : ℕ} {now-seen : List ℕ} → Adding (done ++ xs) now-heads now-tails tags fresh now-order now-seen
-      → fresh ≤ old + length xs
-  fresh-most b =
+  distinct-most : {distinct : ℕ} {now-seen : List ℕ} → Adding (done ++ xs) now-heads now-tails tagCount distinct now-ids now-seen
+      → distinct ≤ old + length xs
+  distinct-most b =
       omega (
         arith,
         b .counted,
@@ -141,61 +141,61 @@ module _ {done heads tails : List ℕ} {n old : ℕ} {order seen : List ℕ} (a 
 
 -- ---- the tags of a record one after the other: the invariant of `add_tags`, with its start, step and end
 
-pub record Going (done file : List ℕ) (start count n : ℕ) (was-heads was-tails was-order : List ℕ) (k tags fresh : ℕ)
-    (heads tails order seen : List ℕ) : Type 0 where
-  pub adding : Adding (done ++ tagsAt k file start) heads tails tags fresh order seen
-  pub table : tableOf heads tails tags order ≡ insertAll (tableOf was-heads was-tails n was-order) (tagsAt k file start)
+pub record Going (done file : List ℕ) (start count n : ℕ) (was-heads was-tails was-ids : List ℕ) (k tagCount distinct : ℕ)
+    (heads tails ids seen : List ℕ) : Type 0 where
+  pub adding : Adding (done ++ tagsAt k file start) heads tails tagCount distinct ids seen
+  pub table : tableOf heads tails tagCount ids ≡ insertAll (tableOf was-heads was-tails n was-ids) (tagsAt k file start)
   pub within : k ≤ count
 
-module _ {done file : List ℕ} {start count n old : ℕ} {was-heads was-tails was-order was-seen : List ℕ}
-    (a : Adding done was-heads was-tails n old was-order was-seen) where
-  pub going-start : Going done file start count n was-heads was-tails was-order 0 n old was-heads was-tails was-order was-seen
+module _ {done file : List ℕ} {start count n old : ℕ} {was-heads was-tails was-ids was-seen : List ℕ}
+    (a : Adding done was-heads was-tails n old was-ids was-seen) where
+  pub going-start : Going done file start count n was-heads was-tails was-ids 0 n old was-heads was-tails was-ids was-seen
   unfolding tagsAt insertAll
   going-start =
       record {
-        adding = subst (λ (l : List ℕ). Adding l was-heads was-tails n old was-order was-seen) (sym (append-nil done)) a;
+        adding = subst (λ (l : List ℕ). Adding l was-heads was-tails n old was-ids was-seen) (sym (append-nil done)) a;
         table = refl;
         within = omega arith;
       }
 
-  module _ {k tags fresh : ℕ} {heads tails order seen : List ℕ}
-      (g : Going done file start count n was-heads was-tails was-order k tags fresh heads tails order seen) where
-    pub going-tags : tags ≤ n + k
+  module _ {k tagCount distinct : ℕ} {heads tails ids seen : List ℕ}
+      (g : Going done file start count n was-heads was-tails was-ids k tagCount distinct heads tails ids seen) where
+    pub going-tags : tagCount ≤ n + k
     going-tags = omega (arith, tags-most a (tagsAt k file start) (g .adding .sorted) (g .table), length-tagsAt k file start)
 
-    pub going-fresh : fresh ≤ old + k
-    going-fresh = omega (arith, fresh-most a (tagsAt k file start) (g .adding), length-tagsAt k file start)
+    pub going-distinct : distinct ≤ old + k
+    going-distinct = omega (arith, distinct-most a (tagsAt k file start) (g .adding), length-tagsAt k file start)
 
-    pub going-step : {found : Found} {r : ℕ} {now-heads now-tails now-order now-seen : List ℕ} → k < count
-        → OneTaken (tagAt file (pastTags start k)) tags heads tails order found now-heads now-tails now-order
+    pub going-step : {found : Found} {r : ℕ} {now-heads now-tails now-ids now-seen : List ℕ} → k < count
+        → OneTaken (tagAt file (pastTags start k)) tagCount heads tails ids found now-heads now-tails now-ids
         → Seen seen (found .id) r now-seen
-        → Going done file start count n was-heads was-tails was-order (k + 1) (found .tags) (fresh + r)
-        now-heads now-tails now-order now-seen
-    going-step {found} {r} {now-heads} {now-tails} {now-order} {now-seen} h o s =
+        → Going done file start count n was-heads was-tails was-ids (k + 1) (found .«tag_count») (distinct + r)
+        now-heads now-tails now-ids now-seen
+    going-step {found} {r} {now-heads} {now-tails} {now-ids} {now-seen} h o s =
         let x = tagAt file (pastTags start k) in
         let more : (done ++ tagsAt k file start) ++ (x ∷ []) ≡ done ++ tagsAt (k + 1) file start =
         append-assoc done (tagsAt k file start) (x ∷ []) ∙ ap (λ (l : List ℕ). done ++ l) (sym (tagsAt-next k file start))
         in
         record {
-          adding = subst (λ (l : List ℕ). Adding l now-heads now-tails (found .tags) (fresh + r) now-order now-seen) more
+          adding = subst (λ (l : List ℕ). Adding l now-heads now-tails (found .«tag_count») (distinct + r) now-ids now-seen) more
               (adding-step (g .adding) o s);
           table = o .table ∙ ap (insert x) (g .table)
-              ∙ sym (insertAll-last (tableOf was-heads was-tails n was-order) (tagsAt k file start) x)
-              ∙ sym (ap (insertAll (tableOf was-heads was-tails n was-order)) (tagsAt-next k file start));
+              ∙ sym (insertAll-last (tableOf was-heads was-tails n was-ids) (tagsAt k file start) x)
+              ∙ sym (ap (insertAll (tableOf was-heads was-tails n was-ids)) (tagsAt-next k file start));
           within = omega arith;
         }
 
-    pub going-end : count ≤ k → AllAdded done file start count n was-heads was-tails was-order tags fresh heads tails order seen
+    pub going-end : count ≤ k → AllAdded done file start count n was-heads was-tails was-ids tagCount distinct heads tails ids seen
     going-end past =
         let here : k ≡ count = omega (arith, g .within) in
         record {
-          adding = subst (λ (m : ℕ). Adding (done ++ tagsAt m file start) heads tails tags fresh order seen) here (g .adding);
-          table = g .table ∙ ap (λ (m : ℕ). insertAll (tableOf was-heads was-tails n was-order) (tagsAt m file start)) here;
+          adding = subst (λ (m : ℕ). Adding (done ++ tagsAt m file start) heads tails tagCount distinct ids seen) here (g .adding);
+          table = g .table ∙ ap (λ (m : ℕ). insertAll (tableOf was-heads was-tails n was-ids) (tagsAt m file start)) here;
         }
 
-  module _ {tags fresh : ℕ} {heads tails order seen : List ℕ}
-      (all : AllAdded done file start count n was-heads was-tails was-order tags fresh heads tails order seen) where
-    pub added-tags : tags ≤ n + count
+  module _ {tagCount distinct : ℕ} {heads tails ids seen : List ℕ}
+      (all : AllAdded done file start count n was-heads was-tails was-ids tagCount distinct heads tails ids seen) where
+    pub added-tags : tagCount ≤ n + count
     added-tags =
         omega (
           arith,
@@ -203,5 +203,5 @@ module _ {done file : List ℕ} {start count n old : ℕ} {was-heads was-tails w
           length-tagsAt count file start,
         )
 
-    pub added-fresh : fresh ≤ old + count
-    added-fresh = omega (arith, fresh-most a (tagsAt count file start) (all .adding), length-tagsAt count file start)
+    pub added-distinct : distinct ≤ old + count
+    added-distinct = omega (arith, distinct-most a (tagsAt count file start) (all .adding), length-tagsAt count file start)

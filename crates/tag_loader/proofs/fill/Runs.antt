@@ -1,6 +1,6 @@
 -- The lists of a side by records: one record in front, and nothing where it is of the other side.
 use mathlib.Core.Path.{_≡_, refl, sym, ap}
-use mathlib.Core.List.{List, [], _∷_, _++_, map, append-nil}
+use mathlib.Core.List.{List, [], _∷_, _++_, map, append-nil, flatten}
 use mathlib.Core.Bool.{Bool, true, false}
 use Prim.Native.Nat.{ℕ, _+_}
 use native.Mathlib.Nat.{add-zero}
@@ -8,11 +8,11 @@ use lib.ListN.{length}
 use Rattle.lists.specs.Lists.{onto, keep}
 use Rattle.sets.specs.declared.Side.{Side}
 use Rattle.tag_file.specs.Records.{TagRecord, sameSide, ofSide, itemsOf, setsOfSide}
-use Rattle.tag_file.specs.Loading.{numbersOf, endsFrom, join}
+use Rattle.tag_file.specs.Loading.{numbersOf, endsFrom}
 
-pub join-one : (set : List ℕ) → join (set ∷ []) ≡ set
-unfolding join
-join-one set = append-nil set
+pub flatten-one : (set : List ℕ) → flatten (set ∷ []) ≡ set
+unfolding flatten
+flatten-one set = append-nil set
 
 module _ (side : Side) (r : TagRecord) (rs : List TagRecord) where
   pub numbers-cons : numbersOf side (r ∷ rs) ≡ onto (sameSide side (r .side)) (r .number) [] ++ numbersOf side rs
@@ -35,20 +35,20 @@ module _ (side : Side) (r : TagRecord) (rs : List TagRecord) where
       by-mine false = refl
 
 module _ (mine : Bool) (set : List ℕ) (sets : List (List ℕ)) where
-  pub join-onto : join (onto mine set [] ++ sets) ≡ join (onto mine set []) ++ join sets
-  unfolding join
-  join-onto = by-mine mine
+  pub flatten-onto : flatten (onto mine set [] ++ sets) ≡ flatten (onto mine set []) ++ flatten sets
+  unfolding flatten
+  flatten-onto = by-mine mine
     where
-      by-mine : (b : Bool) → join (onto b set [] ++ sets) ≡ join (onto b set []) ++ join sets
-      by-mine true = ap (λ (l : List ℕ). l ++ join sets) (sym (append-nil set))
+      by-mine : (b : Bool) → flatten (onto b set [] ++ sets) ≡ flatten (onto b set []) ++ flatten sets
+      by-mine true = ap (λ (l : List ℕ). l ++ flatten sets) (sym (append-nil set))
       by-mine false = refl
 
   pub ends-onto : (e : ℕ) → endsFrom e (onto mine set [] ++ sets)
-      ≡ onto mine (e + length set) [] ++ endsFrom (e + length (join (onto mine set []))) sets
-  unfolding endsFrom join
+      ≡ onto mine (e + length set) [] ++ endsFrom (e + length (flatten (onto mine set []))) sets
+  unfolding endsFrom flatten
   ends-onto e = by-mine mine
     where
       by-mine : (b : Bool)
-          → endsFrom e (onto b set [] ++ sets) ≡ onto b (e + length set) [] ++ endsFrom (e + length (join (onto b set []))) sets
+          → endsFrom e (onto b set [] ++ sets) ≡ onto b (e + length set) [] ++ endsFrom (e + length (flatten (onto b set []))) sets
       by-mine true = ap (λ (l : List ℕ). (e + length set) ∷ endsFrom (e + length l) sets) (sym (append-nil set))
       by-mine false = ap (λ (k : ℕ). endsFrom k sets) (sym (add-zero e))

@@ -43,12 +43,12 @@ module _ (side : Side) (rs : List TagRecord) (r : TagRecord) where
       ∙ ap (λ (k : ℕ). entriesOf side rs + k) (add-zero (length (collapse (r .tags))))
 
 -- the counts grow by the record's
-pub grown-counts : (rs : List TagRecord) (r : TagRecord) (tags fresh : ℕ)
-    → tags ≡ length (tagTable (rs ++ (r ∷ []))) → fresh ≡ length (collapse (r .tags))
-    → grownBy (totalsOf rs) (r .side) tags fresh ≡ totalsOf (rs ++ (r ∷ []))
-grown-counts rs r tags fresh et ef = by-side (r .side) refl
+pub grown-counts : (rs : List TagRecord) (r : TagRecord) (tagCount distinct : ℕ)
+    → tagCount ≡ length (tagTable (rs ++ (r ∷ []))) → distinct ≡ length (collapse (r .tags))
+    → grownBy (totalsOf rs) (r .side) tagCount distinct ≡ totalsOf (rs ++ (r ∷ []))
+grown-counts rs r tagCount distinct et ef = by-side (r .side) refl
   where
-    by-side : (s : Side) → r .side ≡ s → grownBy (totalsOf rs) s tags fresh ≡ totalsOf (rs ++ (r ∷ []))
+    by-side : (s : Side) → r .side ≡ s → grownBy (totalsOf rs) s tagCount distinct ≡ totalsOf (rs ++ (r ∷ []))
     by-side Left e =
         rw (
           sets-same Left rs r (ap (sameSide Left) e),
@@ -77,9 +77,9 @@ grown-repeats rs r more em = by-side (r .side) refl
     by-side Right e =
         rw (repeats-same Right rs r (ap (sameSide Right) e), repeats-other Left rs r (ap (sameSide Left) e), em)
 
-pub grown-tags : (t : Loaded) (side : Side) (tags fresh : ℕ) → grownBy t side tags fresh .tags ≡ tags
-grown-tags t Left tags fresh = refl
-grown-tags t Right tags fresh = refl
+pub grown-tags : (t : Loaded) (side : Side) (tagCount distinct : ℕ) → grownBy t side tagCount distinct .«tag_count» ≡ tagCount
+grown-tags t Left tagCount distinct = refl
+grown-tags t Right tagCount distinct = refl
 
 pub over-tooMany : (side : Side) (rs : List TagRecord) → isOver (totalsOf rs) side ≡ tooMany side rs
 unfolding tooMany
@@ -87,29 +87,29 @@ over-tooMany Left rs = refl
 over-tooMany Right rs = refl
 
 -- within the limits with one more record, where it passes none
-pub limited-grown : (t : Loaded) (side : Side) (tags fresh : ℕ) → Limited t
-    → isOver (grownBy t side tags fresh) side ≡ false → Limited (grownBy t side tags fresh)
-limited-grown t Left tags fresh l f =
+pub limited-grown : (t : Loaded) (side : Side) (tagCount distinct : ℕ) → Limited t
+    → isOver (grownBy t side tagCount distinct) side ≡ false → Limited (grownBy t side tagCount distinct)
+limited-grown t Left tagCount distinct l f =
     let a = ltb maxSets (t .«left_sets» + 1) in
-    let b = ltb maxEntries (t .«left_entries» + fresh) in
-    let d = ltb maxItems tags in
+    let b = ltb maxEntries (t .«left_entries» + distinct) in
+    let d = ltb maxItems tagCount in
     let later = or-right-false a (b || d) f in
     record {
       left-sets = ltb-false maxSets (t .«left_sets» + 1) (or-left-false a (b || d) f);
       right-sets = l .right-sets;
-      left-entries = ltb-false maxEntries (t .«left_entries» + fresh) (or-left-false b d later);
+      left-entries = ltb-false maxEntries (t .«left_entries» + distinct) (or-left-false b d later);
       right-entries = l .right-entries;
-      tags = ltb-false maxItems tags (or-right-false b d later);
+      tags = ltb-false maxItems tagCount (or-right-false b d later);
     }
-limited-grown t Right tags fresh l f =
+limited-grown t Right tagCount distinct l f =
     let a = ltb maxSets (t .«right_sets» + 1) in
-    let b = ltb maxEntries (t .«right_entries» + fresh) in
-    let d = ltb maxItems tags in
+    let b = ltb maxEntries (t .«right_entries» + distinct) in
+    let d = ltb maxItems tagCount in
     let later = or-right-false a (b || d) f in
     record {
       left-sets = l .left-sets;
       right-sets = ltb-false maxSets (t .«right_sets» + 1) (or-left-false a (b || d) f);
       left-entries = l .left-entries;
-      right-entries = ltb-false maxEntries (t .«right_entries» + fresh) (or-left-false b d later);
-      tags = ltb-false maxItems tags (or-right-false b d later);
+      right-entries = ltb-false maxEntries (t .«right_entries» + distinct) (or-left-false b d later);
+      tags = ltb-false maxItems tagCount (or-right-false b d later);
     }

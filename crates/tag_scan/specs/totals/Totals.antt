@@ -12,31 +12,31 @@ use Rattle.tag_file.specs.declared.Repeats.{Repeats}
 
 -- the counts with one more record of a side: the index has so many tags, and the record so many distinct ones
 abbrev pub grownBy : Loaded → Side → ℕ → ℕ → Loaded
-grownBy t Left tags fresh =
+grownBy t Left tagCount distinct =
     record {
       «left_sets» = t .«left_sets» + 1;
       «right_sets» = t .«right_sets»;
-      «left_entries» = t .«left_entries» + fresh;
+      «left_entries» = t .«left_entries» + distinct;
       «right_entries» = t .«right_entries»;
-      tags = tags;
+      «tag_count» = tagCount;
     }
-grownBy t Right tags fresh =
+grownBy t Right tagCount distinct =
     record {
       «left_sets» = t .«left_sets»;
       «right_sets» = t .«right_sets» + 1;
       «left_entries» = t .«left_entries»;
-      «right_entries» = t .«right_entries» + fresh;
-      tags = tags;
+      «right_entries» = t .«right_entries» + distinct;
+      «tag_count» = tagCount;
     }
 
 -- whether counts pass a limit
 abbrev pub passes : ℕ → ℕ → ℕ → Bool
-passes sets entries tags = ltb maxSets sets || (ltb maxEntries entries || ltb maxItems tags)
+passes sets entries tagCount = ltb maxSets sets || (ltb maxEntries entries || ltb maxItems tagCount)
 
 -- the same, for one side
 abbrev pub isOver : Loaded → Side → Bool
-isOver t Left = passes (t .«left_sets») (t .«left_entries») (t .tags)
-isOver t Right = passes (t .«right_sets») (t .«right_entries») (t .tags)
+isOver t Left = passes (t .«left_sets») (t .«left_entries») (t .«tag_count»)
+isOver t Right = passes (t .«right_sets») (t .«right_entries») (t .«tag_count»)
 
 -- the counts are within the limits
 pub record Limited (t : Loaded) : Type 0 where
@@ -44,7 +44,7 @@ pub record Limited (t : Loaded) : Type 0 where
   pub right-sets : t .«right_sets» ≤ maxSets
   pub left-entries : t .«left_entries» ≤ maxEntries
   pub right-entries : t .«right_entries» ≤ maxEntries
-  pub tags : t .tags ≤ maxItems
+  pub tags : t .«tag_count» ≤ maxItems
 
 -- ---- repeats
 

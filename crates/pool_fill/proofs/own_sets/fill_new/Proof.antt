@@ -14,7 +14,7 @@ mark-tags-requires c κs =
       start .pre .0,
       record {
         done = [];
-        marked = unmarked-marked (tableOf (a .heads .now) (a .tails .now) (a .n) (a .order .now)) (start .pre .1 .0);
+        marked = unmarked-marked (tableOf (a .heads .now) (a .tails .now) (a .n) (a .ids .now)) (start .pre .1 .0);
       },
     )
 

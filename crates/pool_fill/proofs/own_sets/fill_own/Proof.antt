@@ -14,7 +14,7 @@ mark-tags-requires c κs =
       start .pre .0,
       record {
         done = [];
-        marked = unmarked-marked (tableOf (a .heads .now) (a .tails .now) (a .n) (a .order .now)) (start .pre .1 .0);
+        marked = unmarked-marked (tableOf (a .heads .now) (a .tails .now) (a .n) (a .ids .now)) (start .pre .1 .0);
       },
     )
 
@@ -24,7 +24,7 @@ put-own-requires c κs =
     let at-mark = at-slot .before .before .before in
     let start = at-mark .before .before .before .before .before .before .before .before .before .before in
     let m = at-mark .mark-tags .ensures in
-    let slot = at-slot .slot-of .ensures in (
+    let slot = at-slot .number-slot .ensures in (
       fresh-wide (start .pre .0) (start .pre .1 .0) m,
       (rw slot (start .pre .1 .1 .0 .within), rw (slot, fresh-items (start .pre .0) (start .pre .1 .0) m) (start .pre .1 .1 .1)),
     )
@@ -37,7 +37,7 @@ returns c =
     let start = at-mark .before .before .before .before .before .before .before .before .before .before in
     let m = at-mark .mark-tags .ensures in
     let p = put .put-own .ensures in
-    (p .0, rw (at-slot .slot-of .ensures, fresh-items (start .pre .0) (start .pre .1 .0) m) at (p .1))
+    (p .0, rw (at-slot .number-slot .ensures, fresh-items (start .pre .0) (start .pre .1 .0) m) at (p .1))
 
 pub fill-own-spec : {M : Type 1} → statement M
 fill-own-spec =

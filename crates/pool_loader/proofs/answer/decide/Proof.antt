@@ -10,15 +10,15 @@ has-room-requires c κs =
 
 returns-2 : tie.Need-returns-2
 returns-2 c =
-    decided-short _ _ _ _ _ _ _ _ _ (c .before .before .before .answer .given .1) (c .before .has-room .ensures) (c .if1 .taken)
+    decided-short _ _ _ (c .before .before .before .answer .given .1) (c .before .has-room .ensures) (c .if1 .taken)
 
 returns-3 : tie.Need-returns-3
 returns-3 c =
-    decided-long _ _ _ _ _ _ _ _ _ (c .before .before .before .before .before .before .answer .given .1) (c .before .before .before .before .has-room .ensures) (c .before .before .before .if1 .left) (c .before .long .given .1)
+    decided-long _ _ _ (c .before .before .before .before .before .before .answer .given .1) (c .before .before .before .before .has-room .ensures) (c .before .before .before .if1 .left) (c .before .long .given .1)
 
 returns-4 : tie.Need-returns-4
 returns-4 c =
-    decided-loaded _ _ _ _ _ _ _ _ _ (c .before .before .before .before .before .answer .given .1) (c .before .before .before .has-room .ensures) (c .before .before .if1 .left) (c .enum-told2 .given .1)
+    decided-loaded _ _ _ (c .before .before .before .before .before .answer .given .1) (c .before .before .before .has-room .ensures) (c .before .before .if1 .left) (c .enum-told2 .given .1)
 
 pub decide-spec : {M : Type 1} → statement M
 decide-spec =

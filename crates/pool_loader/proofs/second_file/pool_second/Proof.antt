@@ -5,7 +5,6 @@ use lib.ListN.{length-replicate}
 use Rattle.sets.specs.Limits.{maxSets}
 use Rattle.tag_file.specs.Loading.{Lists, listsOf}
 use Rattle.pool_scan.specs.right_slots.Slots.{blocks}
-use Rattle.pool_loader.proofs.second_file.Answers.{own-lengths}
 use Rattle.pool_loader.proofs.second_file.Ends.{call-refused, call-filled}
 use borrow.Author.Needs.{needs}
 use Rattle.pool_loader.proofs.second_file.pool_second.Statement.{statement}
@@ -59,14 +58,14 @@ returns c =
     let at-judge = at-told .before .before in
     let s = at-judge .before .before .before .before .before .before .before .before .before .before .before .before .before .before .before .before .before in
     let told = at-told .enum-told .given in
-    call-refused (s .args .first .now) (s .args .second .now) (lent s) (told .0 .0) (at-judge .judge .ensures (lent s) (own-lengths (lent s)) .answered) (told .1)
+    call-refused (s .args .first .now) (s .args .second .now) (lent s) (told .0 .0) (at-judge .judge .ensures (lent s) refl .answered) (told .1)
     (cleared c .clear-lists .ensures)
 
 fill-pooled-requires : tie.Need-fill-pooled-requires
 fill-pooled-requires c κs =
     let at-judge = c .before .before .before .before .before .before .before .before .before .before .before .before .before .before .before .before .before in
     let l = lent (at-judge .before .before .before .before .before .before .before .before .before .before .before .before .before .before .before .before .before) in
-    at-judge .judge .ensures l (own-lengths l) .fillable _ _ (c .before .before .before .before .before .before .before .before .before .before .before .before .before .before .before .judged .given .1)
+    at-judge .judge .ensures l refl .fillable _ _ (c .before .before .before .before .before .before .before .before .before .before .before .before .before .before .before .judged .given .1)
 
 -- where `fill_pooled` has come back
 abbrev filled : tie.After-slice-known21 → tie.After-fill-pooled
@@ -99,7 +98,7 @@ returns-2 c =
     let at-judge = at-judged .before .before in
     let s = at-judge .before .before .before .before .before .before .before .before .before .before .before .before .before .before .before .before .before in
     call-filled (s .args .first .now) (s .args .second .now) (lent s) _ _
-    (sym (at-judge .judge .ensures (lent s) (own-lengths (lent s)) .answered) ∙ at-judged .judged .given .1)
+    (sym (at-judge .judge .ensures (lent s) refl .answered) ∙ at-judged .judged .given .1)
     (filled c .fill-pooled .ensures)
 
 pub pool-second-spec : {M : Type 1} → statement M

@@ -1,4 +1,4 @@
--- `pool_scan::right_slots::put_places` meets its contract. The invariant: the right sets seen have their places in their slots (`Placing`). The
+-- `pool_scan::right_slots::put_places` meets its contract. The invariant: the right sets seen have their places in their slots (`SlotPlacing`). The
 -- measure is how many bytes are left.
 use mathlib.Core.Path.{_≡_, sym, subst, _∙_}
 use mathlib.Core.Bool.{true}
@@ -13,12 +13,12 @@ use Rattle.tag_file.specs.declared.ReadAnswer.the-variants.{Record}
 use Rattle.tag_file.proofs.Ended.{no-records}
 use Rattle.tag_file.proofs.RecordLaws.{read-less, read-length}
 use Rattle.pool_scan.proofs.right_slots.Walking.{walking-step, walking-within}
-use Rattle.pool_scan.proofs.right_slots.Placing.{Placing, placing-start, placing-end, placing-other, placing-room, placing-own}
+use Rattle.pool_scan.proofs.right_slots.SlotPlacing.{SlotPlacing, placing-start, placing-end, placing-other, placing-room, placing-own}
 use Rattle.pool_scan.proofs.right_slots.put_places.Statement.{statement}
 use Rattle.pool_scan.proofs.right_slots.put_places.Tie as tie
 
 abbrev Inv-loop : tie.InvT-loop
-Inv-loop file used counts slots₀ at₀ slots at = Placing file used slots at
+Inv-loop file used counts slots₀ at₀ slots at = SlotPlacing file used slots at
 
 abbrev μ-loop : tie.MeasureT-loop
 μ-loop file used counts slots₀ at₀ slots at = length file - at
@@ -36,21 +36,21 @@ byte : (a : tie.After-answer Inv-loop μ-loop) (i : ℕ)
 byte a i = a .before .before .before .before .before .before .before .shared-slice-known .given i .fits
 
 -- a right set's record, and its slot
-abbrev told : tie.After-slot-of Inv-loop μ-loop → tie.After-answer Inv-loop μ-loop
+abbrev told : tie.After-number-slot Inv-loop μ-loop → tie.After-answer Inv-loop μ-loop
 told c = c .before .before .before .before
 
-is-right : (c : tie.After-slot-of Inv-loop μ-loop) → sameSide Right (told c .answer .given .0 .0) ≡ true
+is-right : (c : tie.After-number-slot Inv-loop μ-loop) → sameSide Right (told c .answer .given .0 .0) ≡ true
 is-right c =
     let side = c .before .before .is-side in
     sym (side .ensures) ∙ not-false (side .result) (c .before .if1 .left)
 
-room : (c : tie.After-slot-of Inv-loop μ-loop) → c .slot-of .result < length (told c .before .before .before .loop .slots)
+room : (c : tie.After-number-slot Inv-loop μ-loop) → c .number-slot .result < length (told c .before .before .before .loop .slots)
 room c =
     let at-loop = told c .before .before .before in
     let start = at-loop .before .before .before .before .before in
     omega (
       arith,
-      c .slot-of .ensures,
+      c .number-slot .ensures,
       placing-room (at-loop .loop .inv) (read (told c)) (start .pre .1 .0) (byte (told c)) (is-right c),
     )
 
@@ -96,8 +96,8 @@ loop-again c =
     let side = c .before .is-side in
     placing-other (told .before .before .before .loop .inv) (read told) (sym (side .ensures) ∙ not-true (side .result) (c .if1 .taken))
 
-slot-of-requires : tie.Need-slot-of-requires Inv-loop μ-loop
-slot-of-requires c κs = c .before .before .before .before .before .before .before .before .before .before .before .pre .1 .1 .0
+number-slot-requires : tie.Need-number-slot-requires Inv-loop μ-loop
+number-slot-requires c κs = c .before .before .before .before .before .before .before .before .before .before .before .pre .1 .1 .0
 
 cast-slots : tie.Need-cast-slots Inv-loop μ-loop
 cast-slots c =
@@ -122,12 +122,12 @@ loop-again-2 c =
     let start = at-loop .before .before .before .before .before in
     let next = told c .answer .given .0 .1 .1 .1 .1 .0 in
     subst
-    (λ (k : ℕ). Placing (start .args .file .now) (start .args .used .now) (set (at-loop .loop .slots) k (at-loop .loop .at)) next)
-    (sym (c .slot-of .ensures))
+    (λ (k : ℕ). SlotPlacing (start .args .file .now) (start .args .used .now) (set (at-loop .loop .slots) k (at-loop .loop .at)) next)
+    (sym (c .number-slot .ensures))
     (placing-own (at-loop .loop .inv) (read (told c)) (start .pre .1 .0) (byte (told c)) (is-right c) (start .pre .0 .once))
 
 pub put-places-spec : {M : Type 1} → statement M
 put-places-spec =
     tie.close
     (tie.spec Inv-loop μ-loop loop-holds read-record-requires enum-known-answer same-length returns is-side-requires loop-less
-    loop-again slot-of-requires cast-slots mul-slots slice-write-slots loop-less-2 loop-again-2)
+    loop-again number-slot-requires cast-slots mul-slots slice-write-slots loop-less-2 loop-again-2)

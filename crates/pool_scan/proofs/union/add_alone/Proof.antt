@@ -10,7 +10,7 @@ add-tags-requires : tie.Need-add-tags-requires
 add-tags-requires c κs =
     let p = c .before .before .before .before .before .before .pre in
     let a = c .before .before .before .before .before .before .args in
-    (start-some (p .0) refl, start-room (p .0) (a .second .now) (a .tags) (a .count) (p .1 .inside) (p .1 .few))
+    (start-some (p .0) refl, start-room (p .0) (a .second .now) (a .start) (a .count) (p .1 .inside) (p .1 .few))
 
 returns : tie.Need-returns
 returns c =

@@ -5,8 +5,8 @@ use native.Mathlib.Omega.{arith}
 use borrow.Author.Tests.{not-true, not-false}
 use Rattle.lists.proofs.Bools.{true-false}
 use Rattle.sets.specs.Limits.{maxSets}
-use Rattle.pool_scan.specs.right_slots.Slots.{slotOf, pooledMark}
-use Rattle.pool_scan.specs.union.Union.{RecordThere, KnownThere}
+use Rattle.pool_scan.specs.right_slots.Slots.{numberSlot, pooledMark}
+use Rattle.pool_scan.specs.union.Union.{WholeRecordAt, KnownRecordAt}
 use Rattle.tag_index.specs.Index.{tableOf}
 use Rattle.bit_sets.specs.BitSets.{member}
 use mathlib.Core.Bool.{true}
@@ -16,27 +16,27 @@ use Rattle.pool_scan.proofs.union.unite.Statement.{statement}
 use Rattle.pool_scan.proofs.union.unite.Tie as tie
 
 -- the number is the first file's, and its slot has a place
-met : (a : tie.After-slot-of) → member (a .before .before .before .before .before .before .before .before .args .used .now) (a .before .before .before .before .before .before .before .before .args .number) ≡ true
+met : (a : tie.After-number-slot) → member (a .before .before .before .before .before .before .before .before .args .used .now) (a .before .before .before .before .before .before .before .before .args .number) ≡ true
 met a = sym (a .before .before .contains .ensures) ∙ not-false _ (a .before .if1 .left)
 
-slot-small : (a : tie.After-slot-of) → a .slot-of .result < maxSets
-slot-small a = let below = a .before .before .before .before .before .before .before .before .pre .slot (met a) in omega (arith, below, a .slot-of .ensures)
+slot-small : (a : tie.After-number-slot) → a .number-slot .result < maxSets
+slot-small a = let below = a .before .before .before .before .before .before .before .before .pre .slot (met a) in omega (arith, below, a .number-slot .ensures)
 
-known : (a : tie.After-slot-of)
+known : (a : tie.After-number-slot)
     → let s = a .before .before .before .before .before .before .before .before .args in
-    KnownThere (s .first .now) (getD (s .slots .now) (a .slot-of .result) 0) (tableOf (s .heads .now) (s .tails .now) (s .n) (s .order .now))
+    KnownRecordAt (s .first .now) (getD (s .slots .now) (a .number-slot .result) 0) (tableOf (s .heads .now) (s .tails .now) (s .n) (s .ids .now))
 known a =
     let s = a .before .before .before .before .before .before .before .before .args in
-    subst (λ (k : ℕ). KnownThere (s .first .now) (getD (s .slots .now) k 0) (tableOf (s .heads .now) (s .tails .now) (s .n) (s .order .now)))
-    (sym (a .slot-of .ensures)) (a .before .before .before .before .before .before .before .before .pre .there (met a))
+    subst (λ (k : ℕ). KnownRecordAt (s .first .now) (getD (s .slots .now) k 0) (tableOf (s .heads .now) (s .tails .now) (s .n) (s .ids .now)))
+    (sym (a .number-slot .ensures)) (a .before .before .before .before .before .before .before .before .pre .there (met a))
 
-there-at : (a : tie.After-slot-of) {count tags : ℕ}
+there-at : (a : tie.After-number-slot) {count start : ℕ}
     → let s = a .before .before .before .before .before .before .before .before .args in
-    RecordThere (s .first .now) (getD (s .slots .now) (slotOf (s .used .now) (s .number)) 0) count tags
-    → RecordThere (s .first .now) (getD (s .slots .now) (a .slot-of .result) 0) count tags
-there-at a {count} {tags} there =
+    WholeRecordAt (s .first .now) (getD (s .slots .now) (numberSlot (s .used .now) (s .number)) 0) count start
+    → WholeRecordAt (s .first .now) (getD (s .slots .now) (a .number-slot .result) 0) count start
+there-at a {count} {start} there =
     let s = a .before .before .before .before .before .before .before .before .args in
-    subst (λ (k : ℕ). RecordThere (s .first .now) (getD (s .slots .now) k 0) count tags) (sym (a .slot-of .ensures)) there
+    subst (λ (k : ℕ). WholeRecordAt (s .first .now) (getD (s .slots .now) k 0) count start) (sym (a .number-slot .ensures)) there
 
 returns : tie.Need-returns
 returns c =
@@ -61,7 +61,7 @@ slice-read-at c =
 
 cast-at : tie.Need-cast-at
 cast-at c =
-    omega (arith, c .slice-known2 .given (c .before .slot-of .result) .fits)
+    omega (arith, c .slice-known2 .given (c .before .number-slot .result) .fits)
 
 add-both-requires : tie.Need-add-both-requires
 add-both-requires c κs =
@@ -80,12 +80,12 @@ returns-2 : tie.Need-returns-2
 returns-2 c =
     let at-slot = c .before .before .before .before .before .before .before in
     let r = c .before .add-both .ensures in
-    let is = at-slot .slot-of .ensures in
+    let is = at-slot .number-slot .ensures in
     record {
       told = r .told ∙ sym (met at-slot);
       alone = λ e. true-false (met at-slot) e;
       kept = λ e. true-false (met at-slot) e;
-      met = λ e count tags there. r .taken count tags (there-at at-slot there);
+      met = λ e count start there. r .taken count start (there-at at-slot there);
       noted = λ e. ap (λ (k : ℕ). set (c .before .before .before .before .before .before .before .before .before .before .before .before .before .before .before .args .slots .now) k (pooledMark + c .before .add-both .result .all)) is;
     }
 

@@ -19,11 +19,11 @@ use Rattle.tag_loader.proofs.fill.fill_side.Statement.{statement}
 use Rattle.tag_loader.proofs.fill.fill_side.Tie as tie
 
 abbrev Inv-loop : tie.InvT-loop
-Inv-loop file heads tails order ranks hints n side numbers₀ ends₀ items₀ marks₀ done₀ at₀ numbers ends items marks done at =
-    SideFilling file side (tableOf heads tails n order) numbers₀ ends₀ items₀ marks numbers ends items done at
+Inv-loop file heads tails ids ranks hints n side numbers₀ ends₀ items₀ marks₀ done₀ at₀ numbers ends items marks done at =
+    SideFilling file side (tableOf heads tails n ids) numbers₀ ends₀ items₀ marks numbers ends items done at
 
 abbrev μ-loop : tie.MeasureT-loop
-μ-loop file heads tails order ranks hints n side numbers₀ ends₀ items₀ marks₀ done₀ at₀ numbers ends items marks done at =
+μ-loop file heads tails ids ranks hints n side numbers₀ ends₀ items₀ marks₀ done₀ at₀ numbers ends items marks done at =
     length file - at
 
 -- the record that was read
@@ -89,7 +89,7 @@ mark-tags-requires c κs =
           (sym (side .ensures) ∙ not-false (side .result) (c .before .if1 .left)),
       record {
         done = [];
-        marked = unmarked-marked (tableOf (a .heads .now) (a .tails .now) (a .n) (a .order .now)) (at-loop .loop .inv .unmarked);
+        marked = unmarked-marked (tableOf (a .heads .now) (a .tails .now) (a .n) (a .ids .now)) (at-loop .loop .inv .unmarked);
       },
     )
 

@@ -14,23 +14,23 @@ use Rattle.tag_loader.proofs.tag_table.fill_tags.Statement.{statement}
 use Rattle.tag_loader.proofs.tag_table.fill_tags.Tie as tie
 
 abbrev Inv-loop : tie.InvT-loop
-Inv-loop heads tails order n tags₀ i₀ at₀ tags i at =
-    Writing tags₀ 0 (tagBytes (tableOf heads tails n order)) tags at (tagBytes (drop i (tableOf heads tails n order))) × (i ≤ n)
+Inv-loop heads tails ids n tags₀ i₀ at₀ tags i at =
+    Writing tags₀ 0 (tagBytes (tableOf heads tails n ids)) tags at (tagBytes (drop i (tableOf heads tails n ids))) × (i ≤ n)
 
 abbrev μ-loop : tie.MeasureT-loop
-μ-loop heads tails order n tags₀ i₀ at₀ tags i at =
+μ-loop heads tails ids n tags₀ i₀ at₀ tags i at =
     n - i
 
 -- the id here lies within the index
-id-low : (t : tie.In-loop Inv-loop μ-loop) → getD (t .before .before .before .args .order .now) (t .before .loop .i) 0 < indexRoom
+id-low : (t : tie.In-loop Inv-loop μ-loop) → getD (t .before .before .before .args .ids .now) (t .before .loop .i) 0 < indexRoom
 id-low t =
     let listed = t .before .before .before .pre .0 .listed in
-    omega (arith, listed .ids (t .before .loop .i) (t .loop-test .taken), listed .room)
+    omega (arith, listed .small (t .before .loop .i) (t .loop-test .taken), listed .room)
 
 loop-holds : tie.Need-loop-holds Inv-loop μ-loop
 loop-holds c =
     let a = c .before .args in
-    let table = tableOf (a .heads .now) (a .tails .now) (a .n) (a .order .now) in
+    let table = tableOf (a .heads .now) (a .tails .now) (a .n) (a .ids .now) in
     (writing-start (a .tags .now) 0 (tagBytes table) (omega (arith, c .before .pre .1)), omega arith)
 
 mul-id : tie.Need-mul-id Inv-loop μ-loop
@@ -63,7 +63,7 @@ put-tag-requires c κs =
     let start = at-loop .before .before in
     let a = start .args in
     let s = start .pre .0 in
-    let table = tableOf (a .heads .now) (a .tails .now) (a .n) (a .order .now) in
+    let table = tableOf (a .heads .now) (a .tails .now) (a .n) (a .ids .now) in
     let i = at-loop .loop .i in
     let next = table-next table i (omega (arith, sorted-size s, test .loop-test .taken)) in
     let room = writing-room (at-loop .loop .inv .0) (bytesOf tagLength (getD table i 0)) (tagBytes (drop (i + 1) table)) next in
@@ -76,7 +76,7 @@ loop-again c =
     let start = at-loop .before .before in
     let a = start .args in
     let s = start .pre .0 in
-    let table = tableOf (a .heads .now) (a .tails .now) (a .n) (a .order .now) in
+    let table = tableOf (a .heads .now) (a .tails .now) (a .n) (a .ids .now) in
     let i = at-loop .loop .i in
     let inside = test .loop-test .taken in
     let next = table-next table i (omega (arith, sorted-size s)) in
@@ -91,7 +91,7 @@ returns : tie.Need-returns Inv-loop μ-loop
 returns c =
     let start = c .before .before .before in
     let a = start .args in
-    let table = tableOf (a .heads .now) (a .tails .now) (a .n) (a .order .now) in
+    let table = tableOf (a .heads .now) (a .tails .now) (a .n) (a .ids .now) in
     let past = table-end table (c .before .loop .i) (omega (arith, sorted-size (start .pre .0), c .loop-test .left)) in
     written-whole (writing-end (c .before .loop .inv .0) past) (omega (arith, start .pre .1))
 

@@ -8,7 +8,7 @@ use Rattle.sets.specs.Collections.{between}
 use Rattle.sets.specs.declared.Side.{Side}
 use Rattle.tag_file.specs.Format.{headLength, recordLength, tagBytes, recordHead, recordBytes}
 use lib.Seq.{sets}
-use Rattle.tag_writer_spec.specs.Room.{ItemsFit}
+use Rattle.tag_writer_spec.specs.Inner.{ItemsFit}
 use Rattle.tag_writer_spec.specs.Writer.{itemTags}
 use Rattle.lists.proofs.Filling.{sets-then}
 use Rattle.sets.proofs.Between.{length-between}

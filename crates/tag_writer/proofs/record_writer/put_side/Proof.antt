@@ -12,7 +12,7 @@ use Rattle.sets.proofs.Between.{length-between}
 use Rattle.sets.proofs.Good.{GoodSet, good-step, good-next}
 use Rattle.tag_file.specs.Format.{tagLength, recordLength, recordBytes}
 use lib.Seq.{sets, length-sets}
-use Rattle.tag_writer_spec.specs.Room.{ItemsFit, GoodSide}
+use Rattle.tag_writer_spec.specs.Inner.{ItemsFit, GoodSide}
 use Rattle.tag_writer_spec.specs.Writer.{itemTags, recordsOf}
 use Rattle.lists.proofs.Filling.{sets-then}
 use Rattle.tag_writer_spec.proofs.Sides.{fit-items, length-record, records-next}

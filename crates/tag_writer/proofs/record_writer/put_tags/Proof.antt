@@ -8,7 +8,7 @@ use lib.ListN.{length, take, drop, getD, length-take, length-drop}
 use Rattle.sets.specs.Collections.{between}
 use Rattle.tag_file.specs.Format.{tagLength, tagBytes}
 use lib.Seq.{sets, length-sets}
-use Rattle.tag_writer_spec.specs.Room.{ItemsFit}
+use Rattle.tag_writer_spec.specs.Inner.{ItemsFit}
 use Rattle.tag_writer_spec.specs.Writer.{itemTags}
 use Rattle.lists.proofs.Filling.{sets-then}
 use Rattle.tag_writer_spec.proofs.Records.{tags-run}

@@ -16,7 +16,7 @@ use Rattle.tag_file.specs.Loading.{numberUsed}
 use Rattle.tag_file.specs.declared.ReadAnswer.the-variants.{Record}
 use Rattle.tag_file.proofs.RecordLaws.{read-number}
 use Rattle.tag_file.proofs.FoundRecords.{found-number}
-use Rattle.pool_scan.specs.right_slots.Slots.{slotOf, NumbersNoted, NumbersOnce, AtSlots}
+use Rattle.pool_scan.specs.right_slots.Slots.{numberSlot, NumbersNoted, NumbersOnce, AtSlots}
 use Rattle.pool_scan.proofs.right_slots.Counted.{slot-below}
 use Rattle.pool_scan.proofs.right_slots.Splits.{two-splits}
 use Rattle.pool_scan.proofs.right_slots.Found.{noted-member, used-by-earlier}
@@ -28,7 +28,7 @@ abbrev placeOf : List TagRecord → TagRecord → ℕ
 placeOf before r = totalLength before
 
 -- the right sets seen have their places in their slots
-pub record Placing (file used slots : List ℕ) (at : ℕ) : Type 0 where
+pub record SlotPlacing (file used slots : List ℕ) (at : ℕ) : Type 0 where
   pub seen : List TagRecord
   pub walk : Walking file seen at
   pub size : length slots ≡ maxSets
@@ -39,7 +39,7 @@ never xs y ys e = absurd (omega (arith, ap length e, length-append xs (y ∷ ys)
 
 -- one more record, whose slot has its word where it is a right set's
 at-slots-last : (f : List TagRecord → TagRecord → ℕ) (seen : List TagRecord) (used slots : List ℕ) (r : TagRecord)
-    → AtSlots f seen used slots → (sameSide Right (r .side) ≡ true → getD slots (slotOf used (r .number)) 0 ≡ f seen r)
+    → AtSlots f seen used slots → (sameSide Right (r .side) ≡ true → getD slots (numberSlot used (r .number)) 0 ≡ f seen r)
     → AtSlots f (seen ++ (r ∷ [])) used slots
 at-slots-last f seen used slots r old last = each
   where
@@ -48,9 +48,9 @@ at-slots-last f seen used slots r old last = each
         two-splits seen r [] b s a e (λ p q t. same p q right) (λ mid p. old b s mid p right)
         (λ mid p. past mid p)
       where
-        same : seen ≡ b → r ≡ s → sameSide Right (s .side) ≡ true → getD slots (slotOf used (s .number)) 0 ≡ f b s
+        same : seen ≡ b → r ≡ s → sameSide Right (s .side) ≡ true → getD slots (numberSlot used (s .number)) 0 ≡ f b s
         same p q right-s =
-            ap (λ (t : TagRecord). getD slots (slotOf used (t .number)) 0) (sym q)
+            ap (λ (t : TagRecord). getD slots (numberSlot used (t .number)) 0) (sym q)
             ∙ last (ap (λ (t : TagRecord). sameSide Right (t .side)) q ∙ right-s) ∙ ap₂ f p q
 
         past : {P : Type 0} (mid : List TagRecord) → b ≡ seen ++ (r ∷ mid) → P
@@ -65,7 +65,7 @@ at-slots-last f seen used slots r old last = each
               length-append seen (r ∷ mid),
             ))
 
-module _ {file used slots : List ℕ} {at : ℕ} (w : Placing file used slots at) where
+module _ {file used slots : List ℕ} {at : ℕ} (w : SlotPlacing file used slots at) where
   pub placing-end : recordsAt file at ≡ [] → AtSlots placeOf (records file) used slots
   placing-end stop =
       subst (λ (l : List TagRecord). AtSlots placeOf l used slots) (sym (walking-end (w .walk) stop)) (w .put)
@@ -75,7 +75,7 @@ module _ {file used slots : List ℕ} {at : ℕ} (w : Placing file used slots at
     here = this (w .walk) e
 
     -- a left set's record
-    pub placing-other : sameSide Right side ≡ false → Placing file used slots next
+    pub placing-other : sameSide Right side ≡ false → SlotPlacing file used slots next
     placing-other left =
         record {
           seen = w .seen ++ (here ∷ []);
@@ -91,24 +91,24 @@ module _ {file used slots : List ℕ} {at : ℕ} (w : Placing file used slots at
       there : member used n ≡ true
       there = noted-member noted (w .seen) here (recordsAt file next) (walking-here (w .walk) e) right small
 
-      pub placing-room : slotOf used n < length slots
+      pub placing-room : numberSlot used n < length slots
       placing-room = omega (arith, w .size, slot-below used noted n small there)
 
       -- a right set's record
-      pub placing-own : NumbersOnce (records file) → Placing file used (set slots (slotOf used n) at) next
+      pub placing-own : NumbersOnce (records file) → SlotPlacing file used (set slots (numberSlot used n) at) next
       placing-own once =
           record {
             seen = w .seen ++ (here ∷ []);
             walk = walking-step (w .walk) e;
-            size = length-set slots (slotOf used n) at ∙ w .size;
-            put = at-slots-last placeOf (w .seen) used (set slots (slotOf used n) at) here kept
+            size = length-set slots (numberSlot used n) at ∙ w .size;
+            put = at-slots-last placeOf (w .seen) used (set slots (numberSlot used n) at) here kept
                 (λ r. put-same used slots n at noted small there (w .size) ∙ w .walk .place);
           }
         where
           unused : numberUsed (w .seen) here ≡ false
           unused = once (w .seen) here (recordsAt file next) (walking-here (w .walk) e)
 
-          kept : AtSlots placeOf (w .seen) used (set slots (slotOf used n) at)
+          kept : AtSlots placeOf (w .seen) used (set slots (numberSlot used n) at)
           kept b s a f right-s =
               let after = a ++ (here ∷ recordsAt file next) in
               let all : records file ≡ b ++ (s ∷ after) =
@@ -120,6 +120,6 @@ module _ {file used slots : List ℕ} {at : ℕ} (w : Placing file used slots at
               (ap (λ (l : List TagRecord). numberUsed l here) f ∙ used-by-earlier b s a here right-s right same) unused)
               ∙ w .put b s a f right-s
 
-pub placing-start : (file used slots : List ℕ) → length slots ≡ maxSets → Placing file used slots 0
+pub placing-start : (file used slots : List ℕ) → length slots ≡ maxSets → SlotPlacing file used slots 0
 placing-start file used slots long =
     record { seen = []; walk = walking-start file; size = long; put = λ b s a e right. never b s a e }

@@ -8,17 +8,31 @@ use lib.ListN.{length, replicate}
 use Rattle.tag_file.specs.declared.Loaded.{Loaded}
 use Rattle.tag_file.specs.Format.{tagLength}
 use Rattle.tag_file.specs.Loading.{Lists}
+use Rattle.tag_loader.specs.declared.lent_lists.LoadRoom.{LoadRoom}
 
 -- whether lists of these lengths hold the numbers, ends and items of a side
 abbrev pub sideFits : ℕ → ℕ → ℕ → ℕ → ℕ → Bool
 sideFits sets entries numbers ends items = leb sets numbers && (leb sets ends && leb entries items)
 
+-- the lengths of lists
+abbrev pub roomIn : Lists → LoadRoom
+roomIn lent =
+    record {
+      tags = length (lent .tags);
+      «left_numbers» = length (lent .leftNumbers);
+      «left_ends» = length (lent .leftEnds);
+      «left_items» = length (lent .leftItems);
+      «right_numbers» = length (lent .rightNumbers);
+      «right_ends» = length (lent .rightEnds);
+      «right_items» = length (lent .rightItems);
+    }
+
 -- whether lists of these lengths hold what was counted
-abbrev pub hasRoom : Loaded → ℕ → ℕ → ℕ → ℕ → ℕ → ℕ → ℕ → Bool
-hasRoom t tags leftNumbers leftEnds leftItems rightNumbers rightEnds rightItems =
-    leb (tagLength * t .tags) tags
-    && (sideFits (t .«left_sets») (t .«left_entries») leftNumbers leftEnds leftItems
-    && sideFits (t .«right_sets») (t .«right_entries») rightNumbers rightEnds rightItems)
+abbrev pub hasRoom : Loaded → LoadRoom → Bool
+hasRoom t room =
+    leb (tagLength * t .«tag_count») (room .tags)
+    && (sideFits (t .«left_sets») (t .«left_entries») (room .«left_numbers») (room .«left_ends») (room .«left_items»)
+    && sideFits (t .«right_sets») (t .«right_entries») (room .«right_numbers») (room .«right_ends») (room .«right_items»))
 
 -- the lists of a side are all zeros
 pub record SideCleared (numbers ends items now-numbers now-ends now-items : List ℕ) : Type 0 where

@@ -1,14 +1,14 @@
--- `pool_scan::right_slots::slot_of` meets its contract: the used numbers below are those before the block, those of the block before the word, and
+-- `pool_scan::right_slots::number_slot` meets its contract: the used numbers below are those before the block, those of the block before the word, and
 -- those of the word below the number (`slot-parts`). A slot is at most its number, so that the sums fit.
 use mathlib.Core.Path.{_≡_}
 use Prim.Native.Nat.{_+_, _*_, _/_}
 use native.Mathlib.Omega.{arith}
 use borrow.Author.Needs.{needs}
 use lib.ListN.{getD}
-use Rattle.pool_scan.specs.right_slots.Slots.{slotOf}
+use Rattle.pool_scan.specs.right_slots.Slots.{numberSlot}
 use Rattle.pool_scan.proofs.right_slots.Counted.{slot-bound, slot-parts}
-use Rattle.pool_scan.proofs.right_slots.slot_of.Statement.{statement}
-use Rattle.pool_scan.proofs.right_slots.slot_of.Tie as tie
+use Rattle.pool_scan.proofs.right_slots.number_slot.Statement.{statement}
+use Rattle.pool_scan.proofs.right_slots.number_slot.Tie as tie
 
 cast-start : tie.Need-cast-start
 cast-start c =
@@ -28,7 +28,7 @@ cast-start c =
 total : (c : tie.After-ones-below)
     → let a = c .before .before .before .before .before .before .args in
     getD (a .counts .now) (a .number / 128) 0 + c .before .before .ones-before .result + c .ones-below .result
-    ≡ slotOf (a .used .now) (a .number)
+    ≡ numberSlot (a .used .now) (a .number)
 total c =
     let start = c .before .before .before .before .before .before in
     let a = start .args in
@@ -49,8 +49,8 @@ add-result-2 c =
 returns : tie.Need-returns
 returns c = total c
 
-pub slot-of-spec : {M : Type 1} → statement M
-slot-of-spec =
+pub number-slot-spec : {M : Type 1} → statement M
+number-slot-spec =
     tie.close
     (tie.spec (λ c. search needs) (λ c. search needs) cast-start (λ c κs. search needs) (λ c. search needs)
     (λ c. search needs) (λ c κs. search needs) add-result add-result-2 returns)
