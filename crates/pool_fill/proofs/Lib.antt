@@ -7,6 +7,8 @@ pub mod SetPlacing
 pub mod Unions
 -- the right sets of the pooled records
 pub mod PooledSets
+-- the marks of a record's tags, where there were none
+pub mod Fresh
 -- the walk over the first file, and at a right set
 pub mod FirstWalk
 pub mod OwnSets

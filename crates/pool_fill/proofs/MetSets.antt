@@ -11,7 +11,7 @@ use lib.Seq as seq
 use Rattle.lists.specs.Lists.{keep, slice}
 use Rattle.lists.proofs.Bools.{and-both}
 use Rattle.bit_sets.specs.BitSets.{member}
-use Rattle.sets.specs.Limits.{halfWords}
+use Rattle.sets.specs.Limits.{maxItems, halfWords}
 use Rattle.sets.specs.declared.Side.{Side}
 use Rattle.sets.specs.declared.Side.the-variants.{Left, Right}
 use Rattle.tag_file.specs.Format.{tagAt}
@@ -22,8 +22,9 @@ use Rattle.tag_file.proofs.RecordLaws.{same-side, memb-tagsAt}
 use Rattle.pool_loader_spec.specs.Pooling.{sameSet, pooled}
 use Rattle.pool_loader_spec.proofs.OneMore.{used-alike}
 use Rattle.tag_index.specs.Index.{tableOf}
+use Rattle.tag_index.proofs.Ids.{sorted-size}
 use Rattle.tag_loader.specs.declared.record_items.Filled.{Filled}
-use Rattle.tag_loader.specs.record_items.Marks.{Unmarked, TagsKnown}
+use Rattle.tag_loader.specs.record_items.Marks.{Marked, Unmarked, TagsKnown}
 use Rattle.pool_scan.specs.right_slots.Slots.{numberSlot, HasSlot}
 use Rattle.pool_scan.proofs.right_slots.Counted.{slot-below}
 use Rattle.pool_scan.proofs.right_slots.Found.{FoundRight, found-right, met-right}
@@ -203,10 +204,17 @@ module _ {first second heads tails : List ℕ} {n : ℕ} {ids ranks used counts 
   standing-here : standing word items ≡ old
   standing-here = ap₂ (λ (k m : ℕ). slice k (k + m) items) told-start told-own ∙ stands
 
-  pub met-standing : SomeStanding table word (tagsAt c second p) items
-  met-standing =
+  few : length table ≤ maxItems
+  few = omega (arith, sorted-size (ready .sorted), ready .small)
+
+  pub met-standing : {marks′ : List ℕ} → Marked table (tagsAt c second p) marks′ → SomeStanding marks′ word items
+  met-standing marked =
       record {
+        table = table;
+        new = tagsAt c second p;
         old = r .tags;
+        small = few;
+        marked = marked;
         here = standing-here;
         within = omega (arith, told-start, told-own, reach, union-fits, old-fits, w .placing .room, w .placing .same);
         room = omega (arith, told-start, reach, union-fits, w .placing .room, w .placing .same);
@@ -229,9 +237,10 @@ module _ {first second heads tails : List ℕ} {n : ℕ} {ids ranks used counts 
       (ap (map (newBlock table)) (sym (keep-without (isNew firsts) seen this [] met ∙ append-nil (news seen))))))
       ∙ sym (blocks-apart next) ∙ ap blocks (h .then-seen)
 
-  pub second-walk-met : {items′ marks′ : List ℕ} → PooledAt table word (tagsAt c second p) items items′ → Unmarked marks′
+  pub second-walk-met : {marked-now items′ marks′ : List ℕ} → Marked table (tagsAt c second p) marked-now
+      → PooledAt marked-now word items items′ → Unmarked marks′
       → SecondWalk first second table used numbers₀ ends₀ items₀ slots numbers ends items′ marks′ done next
-  second-walk-met {items′} {marks′} pooledAt none =
+  second-walk-met {marked-now} {items′} {marks′} marked pooledAt none =
       record {
         seen = w .seen ++ (this ∷ []);
         split = h .next-split;
@@ -242,7 +251,7 @@ module _ {first second heads tails : List ℕ} {n : ℕ} {ids ranks used counts 
             (bs ++ (withPart (blockOf table seconds seen r) union ∷ cs))
             (map (λ q. q .number) l) (map (λ q. itemsOf table (q .tags)) l)) left-met
             (placing-again (w .placing) bs (blockOf table seconds seen r) cs union (blocks-apart seen) union-fits
-            (pooledAt (r .tags) standing-here ∙ ap (λ (k : ℕ). seq.sets items k union) told-start)));
+            (pooledAt table (tagsAt c second p) (r .tags) few marked standing-here ∙ ap (λ (k : ℕ). seq.sets items k union) told-start)));
         words = w .words;
         long = w .long;
         unmarked = none;

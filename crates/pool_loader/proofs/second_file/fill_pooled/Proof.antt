@@ -7,20 +7,30 @@ use Rattle.pool_loader.proofs.second_file.Filling.{left-ends-filled, le
 use Rattle.pool_loader.proofs.second_file.fill_pooled.Statement.{statement}
 use Rattle.pool_loader.proofs.second_file.fill_pooled.Tie as tie
 
+-- where the ids are ranked: the function's start, and the bytes of the first file
+abbrev start : tie.After-rank-ids → tie.Start
+start r = r .before .before .before .before .before .before .before .before .before .before .before
+
 rank-ids-requires : tie.Need-rank-ids-requires
-rank-ids-requires c κs = (sorted-here (c .before .before .before .before .before .before .before .before .before .before .pre) .listed, length-replicate {A = ℕ} indexRoom 0)
+rank-ids-requires c κs =
+    (sorted-here (c .before .before .before .before .before .before .before .before .before .before .pre) .listed, length-replicate {A = ℕ} indexRoom 0)
 
 fill-tags-requires : tie.Need-fill-tags-requires
-fill-tags-requires c κs = let s = c .before .before .before .before .before .before .before .before .before .before .before .before in (sorted-here (s .pre), tags-room (s .pre))
+fill-tags-requires c κs = let s = start (c .before) in (sorted-here (s .pre), tags-room (s .pre))
 
 fill-side-requires : tie.Need-fill-side-requires
 fill-side-requires c κs =
-    let ranked = c .before .before .before .before .before .before .before .before in left-ready (ranked .before .before .before .before .before .before .before .before .before .before .before .pre) (ranked .rank-ids .ensures)
+    let ranked = c .before .before .before .before .before .before .before .before in
+    left-ready (start ranked .pre) (ranked .rank-ids .ensures)
+
+abbrev ranked-of : tie.After-fill-side → tie.After-rank-ids
+ranked-of left = left .before .before .before .before .before .before .before .before .before
 
 fill-right-requires : tie.Need-fill-right-requires
 fill-right-requires c κs =
-    let ranked = c .before .before .before .before .before .before .before .before .before .before .before .before .before .before .before .before .before .before .before .before .before .before in
-    right-ready (ranked .before .before .before .before .before .before .before .before .before .before .before .pre) (ranked .rank-ids .ensures) (λ i. ranked .before .before .before .before .before .before .before .before .before .before .shared-slice-known .given i .fits)
+    let left = c .before .before .before .before .before .before .before .before .before .before .before .before .before in
+    let ranked = ranked-of left in
+    right-ready (start ranked .pre) (ranked .rank-ids .ensures) (λ i. ranked .before .before .before .before .before .before .before .before .before .before .shared-slice-known .given i .fits)
 
 -- where the right sets are filled; before it, where the left sets are filled, and before that the tags
 abbrev filled-right : tie.After-slice-known14 → tie.After-fill-right
@@ -56,7 +66,7 @@ same-length-7 c = filled-right c .fill-right .kept .1 .1 .1 .1 .1 .1 .1 .1 .1 .1
 
 returns : tie.Need-returns
 returns c =
-    let start = filled-tags c .before .before .before .before .before .before .before .before .before .before .before .before .before in
+    let start = start (ranked-of (filled-left c)) in
     let l = filled-left c .fill-side .ensures in
     let r = filled-right c .fill-right .ensures in
     record {

@@ -11,10 +11,20 @@ returns c lent lengths =
     let told = c .enum-told .given in
     first-refused (s .args .first .now) (s .args .second .now) lent (told .0 .0) (s .pre .scanned) (told .1)
 
+-- the function's start, from where the first file has no fault, and that place from later ones
+abbrev start : tie.After-answer → tie.Start
+start a = a .before .before .before .before
+
+abbrev answered : tie.After-index-right → tie.After-answer
+answered i = i .before .before .before .before .before
+
+abbrev indexed : tie.After-scan-second → tie.After-index-right
+indexed s = s .before .before .before .before .before .before .before .before .before .before
+
 index-right-requires : tie.Need-index-right-requires
 index-right-requires c κs =
     let at-answer = c .before .before .before .before in
-    let s = at-answer .before .before .before .before in
+    let s = start at-answer in
     let t = first-taken (s .args .first .now) _ _ (s .pre .scanned) (at-answer .answer .given .1) in (
       s .pre .unused,
       (
@@ -28,29 +38,31 @@ index-right-requires c κs =
 
 scan-second-requires : tie.Need-scan-second-requires
 scan-second-requires c κs =
-    let at-answer = c .before .before .before .before .before .before .before .before .before .before .before .before .before .before in
-    let s = at-answer .before .before .before .before in
+    let at-index = c .before .before .before .before .before .before .before .before .before in
+    let at-answer = answered at-index in
+    let s = start at-answer in
     let t = first-taken (s .args .first .now) _ _ (s .pre .scanned) (at-answer .answer .given .1) in
     record {
       taken = t .taken;
       repeated = t .repeated;
       slottable = slottable (s .args .first .now) (t .clean) (λ i. at-answer .before .before .before .shared-slice-known .given i .fits);
-      slotted = c .before .before .before .before .before .before .before .before .before .index-right .ensures;
+      slotted = at-index .index-right .ensures;
     }
 
 decide-requires : tie.Need-decide-requires
 decide-requires c κs =
-    let at-answer = c .before .before .before .before .before .before .before .before .before .before .before .before .before .before .before in
-    let s = at-answer .before .before .before .before in
+    let at-answer = answered (indexed c) in
+    let s = start at-answer in
     let t = first-taken (s .args .first .now) _ _ (s .pre .scanned) (at-answer .answer .given .1) in
     second-limited (s .args .first .now) (s .args .second .now) (t .clean) (c .scan-second .ensures)
 
 returns-2 : tie.Need-returns-2
 returns-2 c lent lengths =
-    let at-answer = c .before .before .before .before .before .before .before .before .before .before .before .before .before .before .before .before in
-    let s = at-answer .before .before .before .before in
+    let at-index = indexed (c .before) in
+    let at-answer = answered at-index in
+    let s = start at-answer in
     let t = first-taken (s .args .first .now) _ _ (s .pre .scanned) (at-answer .answer .given .1) in
-    let i = c .before .before .before .before .before .before .before .before .before .before .before .index-right .ensures in
+    let i = at-index .index-right .ensures in
     second-decided (s .args .first .now) (s .args .second .now) (t .clean) (c .before .scan-second .ensures) lent (i .noted)
     (i .counted) lengths (c .decide .ensures)
 

@@ -17,6 +17,10 @@ lent s =
     listsOf (a .tags .now) (a .left-numbers .now) (a .left-ends .now) (a .left-items .now)
     (a .right-numbers .now) (a .right-ends .now) (a .right-items .now)
 
+-- the function's start, from where the answer is judged
+abbrev start : tie.After-judge → tie.Start
+start j = j .before .before .before .before .before .before .before .before .before .before .before .before .before .before .before .before .before
+
 judge-requires : tie.Need-judge-requires
 judge-requires c κs =
     record {
@@ -56,16 +60,16 @@ returns : tie.Need-returns
 returns c =
     let at-told = cleared c .before .before .before .before .before .before .before .before in
     let at-judge = at-told .before .before in
-    let s = at-judge .before .before .before .before .before .before .before .before .before .before .before .before .before .before .before .before .before in
+    let s = start at-judge in
     let told = at-told .enum-told .given in
     call-refused (s .args .first .now) (s .args .second .now) (lent s) (told .0 .0) (at-judge .judge .ensures (lent s) refl .answered) (told .1)
     (cleared c .clear-lists .ensures)
 
 fill-pooled-requires : tie.Need-fill-pooled-requires
 fill-pooled-requires c κs =
-    let at-judge = c .before .before .before .before .before .before .before .before .before .before .before .before .before .before .before .before .before in
-    let l = lent (at-judge .before .before .before .before .before .before .before .before .before .before .before .before .before .before .before .before .before) in
-    at-judge .judge .ensures l refl .fillable _ _ (c .before .before .before .before .before .before .before .before .before .before .before .before .before .before .before .judged .given .1)
+    let at-judged = c .before .before .before .before .before .before .before .before .before .before .before .before .before .before .before in
+    let at-judge = at-judged .before .before in
+    at-judge .judge .ensures (lent (start at-judge)) refl .fillable _ _ (at-judged .judged .given .1)
 
 -- where `fill_pooled` has come back
 abbrev filled : tie.After-slice-known21 → tie.After-fill-pooled
@@ -96,7 +100,7 @@ returns-2 : tie.Need-returns-2
 returns-2 c =
     let at-judged = filled c .before .before .before .before .before .before .before .before .before .before .before .before .before .before .before .before in
     let at-judge = at-judged .before .before in
-    let s = at-judge .before .before .before .before .before .before .before .before .before .before .before .before .before .before .before .before .before in
+    let s = start at-judge in
     call-filled (s .args .first .now) (s .args .second .now) (lent s) _ _
     (sym (at-judge .judge .ensures (lent s) refl .answered) ∙ at-judged .judged .given .1)
     (filled c .fill-pooled .ensures)
