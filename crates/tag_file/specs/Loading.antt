@@ -7,8 +7,8 @@ use mathlib.Core.Bool.{Bool, not, _&&_, _||_}
 use lib.Dec.{eqb, leb, ltb}
 use lib.ListN.{length}
 use denote.Ref.{RefT}
-use denote.Triple.Both.{Both}
 use Rattle.lists.specs.Lists.{any}
+use Rattle.lists.specs.Lent.{Lent}
 use Rattle.sets.specs.Limits.{maxItems, maxSets, maxEntries}
 use Rattle.sets.specs.Refusals.{refuseIf, unless}
 use Rattle.sets.specs.Lent.{filledOver, afterRefusal}
@@ -163,18 +163,14 @@ listsOf tags leftNumbers leftEnds leftItems rightNumbers rightEnds rightItems =
       rightItems = rightItems;
     }
 
--- a list that is lent to a call, as its contract has it: at entry and at exit
-abbrev pub LentList : Type 0
-LentList = Both (RefT (List ℕ)) (RefT (List ℕ))
-
 -- seven lent lists as they come
-abbrev pub lentLists : LentList → LentList → LentList → LentList → LentList → LentList → LentList → Lists
+abbrev pub lentLists : Lent → Lent → Lent → Lent → Lent → Lent → Lent → Lists
 lentLists tags leftNumbers leftEnds leftItems rightNumbers rightEnds rightItems =
     listsOf (tags .entry .now) (leftNumbers .entry .now) (leftEnds .entry .now) (leftItems .entry .now)
     (rightNumbers .entry .now) (rightEnds .entry .now) (rightItems .entry .now)
 
 -- the same as they go back
-abbrev pub returnedLists : LentList → LentList → LentList → LentList → LentList → LentList → LentList → Lists
+abbrev pub returnedLists : Lent → Lent → Lent → Lent → Lent → Lent → Lent → Lists
 returnedLists tags leftNumbers leftEnds leftItems rightNumbers rightEnds rightItems =
     listsOf (tags .exit .now) (leftNumbers .exit .now) (leftEnds .exit .now) (leftItems .exit .now)
     (rightNumbers .exit .now) (rightEnds .exit .now) (rightItems .exit .now)
