@@ -23,8 +23,8 @@ fn set(random: &mut Random, t: usize, length: usize) -> Vec<u16> {
     set
 }
 
-/// Stacks, some around a kit, and kits of few kinds, so that equal ones stand far apart.
-fn collections(random: &mut Random, t: usize, kits: usize, stacks: usize) -> (Vec<Vec<u16>>, Vec<Vec<u16>>) {
+/// Stacks, some around a kit, the others of at most so many tags; and kits of few kinds, so that equal ones stand far apart.
+fn collections(random: &mut Random, t: usize, kits: usize, stacks: usize, most: usize) -> (Vec<Vec<u16>>, Vec<Vec<u16>>) {
     let longest = random.pick(&[1, 3, 6, 12]);
     let kinds: Vec<Vec<u16>> = (0..random.within(1, 12))
         .map(|_| {
@@ -35,8 +35,8 @@ fn collections(random: &mut Random, t: usize, kits: usize, stacks: usize) -> (Ve
     let left: Vec<Vec<u16>> = (0..kits).map(|_| kinds[random.below(kinds.len())].clone()).collect();
     let right = (0..stacks)
         .map(|_| {
-            let mut items = if random.one_in(3) { kinds[random.below(kinds.len())].clone() } else { Vec::new() };
-            let more = random.within(0, 8);
+            let mut items = if random.one_in(most.max(3)) { kinds[random.below(kinds.len())].clone() } else { Vec::new() };
+            let more = random.within(0, most);
             items.extend(set(random, t, more));
             items.sort_unstable();
             items.dedup();
@@ -46,12 +46,17 @@ fn collections(random: &mut Random, t: usize, kits: usize, stacks: usize) -> (Ve
     (left, right)
 }
 
-/// How many stacks: one in forty has thousands.
-fn stack_count(random: &mut Random) -> usize {
-    if random.one_in(40) {
-        return random.pick(&[1023, 1024, 1025, 4031, 4032, 4033, 4095, 4096]);
+/// How many tags, how many stacks and how long these are: one in forty has thousands of stacks, and one in twelve so few entries for its
+/// tags and stacks that rows don't fit the shortest work list.
+fn sizes(random: &mut Random) -> (usize, usize, usize) {
+    if random.one_in(12) {
+        return (4096, random.pick(&[2049, 3000, 4033, 4095, 4096]), 3);
     }
-    random.pick(&[0, 1, 31, 32, 33, 63, 64, 65, 127, 128, 129, 191, 192, 193, 300])
+    let t = random.pick(&[1, 2, 7, 30, 257, 300, 600, 4096]);
+    if random.one_in(40) {
+        return (t, random.pick(&[1023, 1024, 1025, 4031, 4032, 4033, 4095, 4096]), 8);
+    }
+    (t, random.pick(&[0, 1, 31, 32, 33, 63, 64, 65, 127, 128, 129, 191, 192, 193, 300]), 8)
 }
 
 struct Case<'a> {
@@ -112,9 +117,8 @@ fn main() {
     let plan = Plan::from_args(4_000);
     let mut tally = Tally::new(&KINDS);
     plan.run("joins around blocks", |random, print| {
-        let t = random.pick(&[1, 2, 7, 30, 257, 300, 600, 4096]);
-        let (kits, stacks) = (random.pick(&[0, 1, 2, 9, 40]), stack_count(random));
-        let (left, right) = collections(random, t, kits, stacks);
+        let ((t, stacks, most), kits) = (sizes(random), random.pick(&[0, 1, 2, 9, 40]));
+        let (left, right) = collections(random, t, kits, stacks, most);
         let (left, right) = (Collection::of(&left), Collection::of(&right));
         let ranks = permutation(random, t as u32, &left, &right);
         let rule = match random.below(8) {
