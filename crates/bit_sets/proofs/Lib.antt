@@ -9,3 +9,5 @@ pub mod Draining
 pub mod Counted
 -- a part of a list: all of it put in, and whether all of it are members
 pub mod Parts
+-- the lowest digit 1 taken away, digits that two words share
+pub mod Lowest

@@ -10,7 +10,6 @@ use Rattle.sets.specs.Limits.{maxPairs, fullWords}
 use Rattle.sets.proofs.Good.{good-places}
 use Rattle.sets.proofs.Ordered.{items-below}
 use Rattle.join_spec.specs.declared.Rule.{Rule}
-use Rattle.join_spec.specs.declared.Counts.{Counts}
 use Rattle.join_spec.specs.declared.JoinAnswer.{JoinAnswer}
 use Rattle.join_spec.specs.PairList.{pairCount}
 use Rattle.inputs.specs.Input.{Input}
@@ -32,7 +31,7 @@ use Rattle.join_nodes.proofs.FrameLaws.{index-framed}
 use Rattle.join_walk.specs.Partitions.{WalkReady, WalkDone}
 use Rattle.join_pairs.specs.Writing.{PairsRoom}
 use Rattle.join_check.specs.tally_answer.Answering.{SumsFit, tallyCounts, tallyAnswer}
-use Rattle.join_check.proofs.tally_answer.AnswerLaws.{joined-enough, refused-clears, tally-walk}
+use Rattle.join_check.proofs.tally_answer.AnswerLaws.{counts-same, joined-enough, refused-clears, tally-walk}
 use Rattle.join.specs.Ready.{Accepted}
 use Rattle.join.specs.output.Output.{AnswerRoom}
 
@@ -40,13 +39,6 @@ use Rattle.join.specs.output.Output.{AnswerRoom}
 abbrev pub queryBy : Input → ℕ → List ℕ → Rule → Query
 queryBy i limit ranks rule =
     query (i .T) (i .left .ends) (i .left .items) (i .right .ends) (i .right .items) limit ranks rule
-
-counts-same : {a a′ b b′ c c′ d d′ e e′ f f′ : ℕ} → a ≡ a′ → b ≡ b′ → c ≡ c′ → d ≡ d′ → e ≡ e′ → f ≡ f′
-    → _≡_ {A = Counts}
-    (record { pairs = a; «by_path» = b; confirmed = c; checks = d; dropped = e; «false_drops» = f })
-    (record { pairs = a′; «by_path» = b′; confirmed = c′; checks = d′; dropped = e′; «false_drops» = f′ })
-counts-same p q r s t u =
-    λ i. record { pairs = p i; «by_path» = q i; confirmed = r i; checks = s i; dropped = t i; «false_drops» = u i }
 
 module _ {i : Input} {limit : ℕ} {ranks : List ℕ} {words : ℕ} (ok : Tests i limit ranks words) (rule : Rule) where
   abbrev q : Query

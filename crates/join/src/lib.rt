@@ -12,6 +12,8 @@ use join_spec::JoinAnswer;
 use join_spec::Rule;
 use join_spec::Weights;
 use join_walk::walk;
+use merge_rows::merge_sets;
+use merge_rows::rows_fit;
 use sets::Tested;
 use words::flags::clear_flags;
 ghost use mathlib.Core.Path.{_≡_};
@@ -21,14 +23,15 @@ ghost use Rattle.join_spec.specs.PairList.{pairList};
 ghost use Rattle.inputs.specs.Input.{inputOf, lentInput};
 ghost use Rattle.join_spec.specs.Query.{settingsOf, queryOf};
 ghost use Rattle.join_spec.specs.Answer.{roomOf, walkAnswer, pairsAfter, JoinCall, RunCall};
-ghost use Rattle.join.specs.Ready.{Accepted};
+ghost use Rattle.merge_rows.specs.Merging.{Sizes};
+ghost use Rattle.join.specs.Ready.{Accepted, takesRows};
 ghost use Rattle.join.specs.Numbered.{ruleOf, numberedAnswer};
 
 pub mod output;
 pub mod validate;
 
-// The join of an input that passed its tests: the index, the walk, the answer by its counters, and the pair list.
-fn join_ready(
+// The join of an input that passed its tests, by the walk: the index, the walk, the answer by its counters, and the pair list.
+fn walk_sets(
     t: u32,
     left_ends: &[u32],
     left_items: &[u16],
@@ -72,6 +75,71 @@ fn join_ready(
     let answer = answer_tally(walked.spent, walked.at.tally, pairs.len());
     write_answer(work, &mut flags, lay, lefts, answer, pairs);
     answer
+}
+
+// Whether the left sets are settled one by one over bit rows: under Merge, where the rows of so many items and sets fit so many words.
+fn takes_rows(rule: Rule, t: u32, lefts: usize, rights: usize, words: usize) -> bool
+    requires { ⌜ Sizes t lefts rights ⌝ }
+    ensures { λ r. ⌜ r ≡ takesRows rule t lefts rights words ⌝ }
+{
+    match rule {
+        Rule::Merge => rows_fit(t, lefts, rights, words),
+        Rule::Check => false,
+        Rule::Weighed(_) => false,
+    }
+}
+
+// The join of an input that passed the tests before the walk: over bit rows or by the walk.
+fn join_ready(
+    t: u32,
+    left_ends: &[u32],
+    left_items: &[u16],
+    right_ends: &[u32],
+    right_items: &[u16],
+    limit: u32,
+    ranks: &[u16],
+    budget: u32,
+    rule: Rule,
+    work: &mut [u32],
+    pairs: &mut [u16],
+) -> JoinAnswer
+    requires { ⌜ Accepted (inputOf t (now «left_ends») (now «left_items») (now «right_ends») (now «right_items»))
+        limit (now ranks) (now work) ⌝ }
+    ensures answer { λ r. ⌜ r ≡ walkAnswer
+        (queryOf (lentInput t «left_ends» «left_items» «right_ends» «right_items»)
+        (settingsOf limit (now (ranks .entry)) budget rule)) budget (length (now (pairs .entry))) ⌝ }
+    ensures pairs { λ r. ⌜ now (pairs .exit) ≡ pairsAfter r
+        (pairList (setsOf (now («left_ends» .entry)) (now («left_items» .entry)))
+        (setsOf (now («right_ends» .entry)) (now («right_items» .entry)))) (now (pairs .entry)) ⌝ }
+{
+    let rows = takes_rows(rule, t, left_ends.len(), right_ends.len(), work.len());
+    if rows {
+        return merge_sets(
+            t,
+            left_ends,
+            left_items,
+            right_ends,
+            right_items,
+            limit,
+            ranks,
+            budget,
+            work,
+            pairs,
+        );
+    }
+    walk_sets(
+        t,
+        left_ends,
+        left_items,
+        right_ends,
+        right_items,
+        limit,
+        ranks,
+        budget,
+        rule,
+        work,
+        pairs,
+    )
 }
 
 // The join of two collections under a limit, a rank table, a budget of checks and a merge rule, over a lent work list and pair

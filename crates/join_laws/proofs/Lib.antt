@@ -1,3 +1,5 @@
 -- Laws over whole joins.
 -- empty left sets have no bearing
 pub mod EmptyLefts
+-- what becomes of a left set under Merge
+pub mod MergeEndings

@@ -8,7 +8,7 @@ use lib.Bits.{bitOr}
 use lib.Dec.{lit<}
 use lib.ListN.{length, getD, set, length-set}
 use lib.Pow.{shl-exact}
-use lib.Seq.{getD-set-same, getD-set-other, take-set-le}
+use lib.Seq.{getD-set-same, getD-set-other, take-set-le, drop-set-lt}
 use Rattle.sets.specs.Limits.{fullWords}
 use Rattle.sets.specs.Collections.{between}
 use Rattle.sets.specs.Signatures.{position, signatureFrom}
@@ -46,6 +46,8 @@ stored-words w at number room =
     in
     record {
       frame = take-set-le at (set w at low) (at + 1) high (omega arith) ∙ take-set-le at w at low (omega arith);
+      above =
+          drop-set-lt (at + 2) (set w at low) (at + 1) high (omega arith) ∙ drop-set-lt (at + 2) w at low (omega arith);
       size = length-set (set w at low) (at + 1) high ∙ length-set w at low;
       is = omega (arith, first, second);
     }

@@ -2,7 +2,7 @@
 use Prim.Native.Nat.{ℕ, _+_, _*_, _≤_, _<_}
 use mathlib.Core.Path.{_≡_}
 use mathlib.Core.List.{List, []}
-use lib.ListN.{length, take, getD}
+use lib.ListN.{length, take, drop, getD}
 use Rattle.sets.specs.Limits.{fullWords}
 use Rattle.sets.specs.Signatures.{signature}
 
@@ -14,9 +14,10 @@ EndsWithin ends items = (k : ℕ) → k < length ends → getD ends k 0 ≤ leng
 abbrev pub double : List ℕ → ℕ → ℕ
 double w i = getD w i 0 + fullWords * getD w (i + 1) 0
 
--- w became w′: the number is in two words from at on, and nothing below changed
+-- w became w′: the number is in two words from at on, and no other word changed
 pub record DoubleStored (at number : ℕ) (w w′ : List ℕ) : Type 0 where
   pub frame : take at w′ ≡ take at w
+  pub above : drop (at + 2) w′ ≡ drop (at + 2) w
   pub size : length w′ ≡ length w
   pub is : double w′ at ≡ number
 

@@ -18,7 +18,7 @@ pub mod item_bits;
 const WORDS: u64 = 4294967296;
 
 // The signature of items[start..end].
-fn sign_set(items: &[u16], table: &[u8; 256], start: usize, end: usize) -> u64
+pub fn sign_set(items: &[u16], table: &[u8; 256], start: usize, end: usize) -> u64
     requires within { ⌜ end ≤ length (now items) ⌝ }
     requires positions { ⌜ now table ≡ positionTable ⌝ }
     ensures { λ r. ⌜ r ≡ signature (between start end (now (items .entry))) ⌝ }
@@ -34,7 +34,7 @@ fn sign_set(items: &[u16], table: &[u8; 256], start: usize, end: usize) -> u64
 }
 
 // A number of 64 bits in two words.
-fn store_double(work: &mut [u32], at: usize, number: u64)
+pub fn store_double(work: &mut [u32], at: usize, number: u64)
     requires { ⌜ at + 2 ≤ length (now work) ⌝ }
     ensures { λ _. ⌜ DoubleStored at number (now (work .entry)) (now (work .exit)) ⌝ }
 {

@@ -1,81 +1,37 @@
--- `join_ready` meets its contract: the walk goes over the index that `build` left, and its counters give the
--- answer, by which the pair list is written.
-use native.Mathlib.Omega.{arith}
-use Rattle.inputs.specs.Input.{Input, inputOf}
-use Rattle.join_index.specs.Asking.{Index}
-use Rattle.join_walk.specs.Partitions.{WalkDone}
-use Rattle.join.proofs.AnswerLaws.{queryBy, build-room, walk-index, walk-ready, walk-made, sums-fit}
-use Rattle.join.proofs.AnswerLaws.{answer-is, answer-room}
+-- `join_ready` meets its contract: the join over bit rows answers as the walk does, where its rows are taken.
+use mathlib.Core.Path.{sym, _∙_}
+use lib.ListN.{length}
+use Rattle.inputs.specs.Input.{inputOf}
+use Rattle.merge_rows.proofs.MergedAnswer.{merge-sizes}
+use Rattle.join.proofs.RowsChoice.{rows-room, rows-answer}
 use borrow.Author.Needs.{needs}
 use Rattle.join.proofs.join_ready.Statement.{statement}
 use Rattle.join.proofs.join_ready.Tie as tie
 
--- the places on the way: the beginning, and the walk with the build before it
-abbrev begun : tie.After-build → tie.Start
-begun c = c .before .before .before .before .before .before .before .before .before
+abbrev start : tie.After-takes-rows → tie.Start
+start c = c .before .before .before .before .before .before .before .before
 
-abbrev built : tie.After-walk → tie.After-build
-built c = c .before .before .before .before .before .before
+takes-rows-requires : tie.Need-takes-rows-requires
+takes-rows-requires c κs = merge-sizes (c .before .before .before .before .before .before .before .pre)
 
-abbrev start : tie.After-walk → tie.Start
-start c = begun (built c)
-
-abbrev input : tie.Start → Input
-input c =
-    inputOf (c .args .t) (c .args .left-ends .now) (c .args .left-items .now) (c .args .right-ends .now)
-    (c .args .right-items .now)
-
--- the index that was built, and what the walk over it found
-index : (c : tie.After-build)
-    → let a = begun c .args in
-    Index (c .build .result) (queryBy (input (begun c)) (a .limit) (a .ranks .now) (a .rule)) (c .build .last .1 .1 .1 .1 .1 .1 .1 .1 .0)
-index c = walk-index (begun c .pre) (begun c .args .rule) (c .build .ensures .0) (c .build .ensures .1)
-
-done : (c : tie.After-walk)
-    → let a = start c .args in
-    WalkDone (built c .build .result) (queryBy (input (start c)) (a .limit) (a .ranks .now) (a .rule)) (a .budget)
-    (built c .build .last .1 .1 .1 .1 .1 .1 .1 .1 .0) (c .walk .last .0) (c .walk .result)
-done c =
-    walk-made (start c .pre) (start c .args .rule) (built c .build .ensures .0) (built c .build .ensures .1) (c .walk .ensures .0)
-
-build-requires : tie.Need-build-requires
-build-requires c κs = build-room (c .before .before .before .before .before .before .before .before .pre)
-
-walk-requires : tie.Need-walk-requires
-walk-requires c κs =
-    let made = c .before .before .before .before .before in
-    let a = begun made .args in (
-      record {
-        query = _;
-        holds = walk-ready (begun made .pre) (a .rule) (made .build .ensures .0) (made .build .ensures .1) (a .budget);
-      },
-      c .before .before .clear-flags .ensures,
-    )
-
-answer-tally-requires : tie.Need-answer-tally-requires
-answer-tally-requires c κs = let walked = c .before .before .before in sums-fit (start walked .pre) (done walked)
-
-write-answer-requires : tie.Need-write-answer-requires
-write-answer-requires c κs =
-    let answered = c .before .before .before in
-    let walked = answered .before .before .before .before in (
-      record {
-        query = _;
-        holds = answer-room (start walked .pre) (done walked) (index (built walked)) _ (answered .answer-tally .ensures);
-      },
-      walked .walk .ensures .1,
-    )
+merge-sets-requires : tie.Need-merge-sets-requires
+merge-sets-requires c κs =
+    let chosen = c .before .before in
+    rows-room (start (chosen .before) .args .rule) (start (chosen .before) .pre) (sym (chosen .before .takes-rows .ensures) ∙ chosen .if1 .taken)
 
 returns : tie.Need-returns
 returns c =
-    let written = c .before .before .before .before .before in
-    let answered = written .before .before .before .before in
-    let walked = answered .before .before .before .before in
-    let room = answer-room (start walked .pre) (done walked) (index (built walked)) _ (answered .answer-tally .ensures) in
-    (answer-is (start walked .pre) (done walked) _ (answered .answer-tally .ensures), written .write-answer .ensures _ room)
+    let merged = c .before .before .before .before in
+    let chosen = merged .before .before .before in
+    let a = start (chosen .before) .args in
+    let i = inputOf (a .t) (a .left-ends .now) (a .left-items .now) (a .right-ends .now) (a .right-items .now) in (
+      rows-answer i (a .limit) (a .ranks .now) (length (a .work .now)) (a .rule) (a .budget) (length (a .pairs .now))
+          (sym (chosen .before .takes-rows .ensures) ∙ chosen .if1 .taken) (merged .merge-sets .ensures .0),
+      merged .merge-sets .ensures .1,
+    )
 
 pub join-ready-spec : {M : Type 1} → statement M
 join-ready-spec =
     tie.close
-    (tie.spec build-requires (λ c κs. search needs) (λ c. search needs) walk-requires answer-tally-requires
-    (λ c. search needs) write-answer-requires (λ c. search needs) (λ c. search needs) returns)
+    (tie.spec takes-rows-requires merge-sets-requires (λ c. search needs) (λ c. search needs) returns (λ c κs. search needs)
+    (λ c. search needs) (λ c. search needs) (λ c. search needs))

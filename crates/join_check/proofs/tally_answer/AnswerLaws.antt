@@ -19,6 +19,14 @@ use Rattle.join_spec.proofs.Accepted.{spent-above}
 use Rattle.join_check.specs.declared.Tally.{Tally}
 use Rattle.join_check.specs.tally_answer.Answering.{tallyCounts, tallyAnswer}
 
+-- the six counts one by one
+pub counts-same : {a a′ b b′ c c′ d d′ e e′ f f′ : ℕ} → a ≡ a′ → b ≡ b′ → c ≡ c′ → d ≡ d′ → e ≡ e′ → f ≡ f′
+    → _≡_ {A = Counts}
+    (record { pairs = a; «by_path» = b; confirmed = c; checks = d; dropped = e; «false_drops» = f })
+    (record { pairs = a′; «by_path» = b′; confirmed = c′; checks = d′; dropped = e′; «false_drops» = f′ })
+counts-same p q r s t u =
+    λ i. record { pairs = p i; «by_path» = q i; confirmed = r i; checks = s i; dropped = t i; «false_drops» = u i }
+
 -- the answer with these counts where it is not spent
 abbrev counted : ℕ → Counts → JoinAnswer
 counted places counts = cond (ltb places (2 * counts .pairs)) (Refused ShortPairs) (Joined counts)
