@@ -100,7 +100,7 @@ static uint8_t file[16 << 20], second[2 << 20], tags[12 * TAGS];
 static size_t file_len, file_room = sizeof file, second_len, tags_room = sizeof tags, at;
 static uint32_t left_ends[SETS], right_ends[SETS], work[WORDS];
 static uint16_t left_numbers[SETS], right_numbers[SETS], left_items[ENTRIES], right_items[ENTRIES], ranks[TAGS], pairs[PLACES];
-static size_t lefts, rights, places, right_len;
+static size_t lefts, rights, places, right_len, words = WORDS;
 static uint64_t answer[16];
 
 static size_t entries(const uint32_t *ends, size_t sets)
@@ -111,7 +111,7 @@ static size_t entries(const uint32_t *ends, size_t sets)
 static void join(void)
 {
     kitfinder_join(t, left_ends, lefts, left_items, entries(left_ends, lefts), right_ends, rights, right_items,
-                   entries(right_ends, rights), limit, ranks, t, budget, rule, weight, 0, 0, 1, work, WORDS, pairs, places, answer);
+                   entries(right_ends, rights), limit, ranks, t, budget, rule, weight, 0, 0, 1, work, words, pairs, places, answer);
 }
 
 static void first(void)
@@ -198,11 +198,12 @@ static void make_sets(int shape)
 }
 
 /* Left sets that part in halves, as often as a collection can hold: all have the shared items, and then one of two items at each level.
- * Calls lie above each other most often here, since no child has more left sets than the other. */
-enum { HALVES = 2 };
+ * Calls lie above each other most often here, since no child has more left sets than the other. The last two shapes are for Merge in
+ * the walk: as many tags and right sets as there can be, few entries, and the shortest work list, in which rows of bits don't fit. */
+enum { HALVES = 4, THIN = 2 };
 static void make_halves(int shape)
 {
-    static const uint32_t shared[HALVES] = { 1, 16 }, levels[HALVES] = { 12, 11 };
+    static const uint32_t shared[HALVES] = { 1, 16, 1, 16 }, levels[HALVES] = { 12, 11, 10, 9 };
     uint32_t all = shared[shape] + 2 * levels[shape];
     t = all;
     rights = 0;
@@ -214,6 +215,12 @@ static void make_halves(int shape)
     }
     for (uint32_t k = 0; k < 8; k++)
         rights = add_set(right_ends, right_items, rights, all, t);
+    if (shape >= THIN) {
+        while (rights < SETS)
+            rights = add_set(right_ends, right_items, rights, 0, t);
+        t = TAGS;
+        words = 16 * (lefts + rights + entries(left_ends, lefts) + entries(right_ends, rights) + t) + 64;
+    }
     for (uint32_t i = 0; i < t; i++)
         ranks[i] = (uint16_t)i;
     budget = UINT32_MAX;
@@ -260,6 +267,7 @@ static size_t join_at(uint32_t depth, uint32_t by)
         budget = 3;
         more(taken("kitfinder_join", KITFINDER_JOIN_STACK, join));
         refused("kitfinder_join", answer[0] == 8 ? 8 : 9);
+        words = WORDS;
     }
     make_empty();
     more(taken("kitfinder_join", KITFINDER_JOIN_STACK, join));

@@ -1,5 +1,5 @@
 //! Bit rows: for each item a row with a bit for each right set; a left set's pairs are the bits that the rows of its items share. No index, no
-//! order of items, no counts: what the machine can do at 4,096 sets a side, and the bound for everything else here. The way depends on the
+//! order of items, no counts: what the machine can do at 4,096 sets a side. The way depends on the
 //! number of right sets: one is a row of items, up to 1,024 are rows of at most 16 words, more have two levels.
 
 use super::Peer;
