@@ -16,9 +16,9 @@ unfoldable pub members : List ℕ → List ℕ
 members words = keep (member words) (upto (64 * length words))
 
 -- the places of the digits 1 among the k lowest of a word, counted from base on
-unfoldable pub digitsFrom : ℕ → ℕ → ℕ → List ℕ
-digitsFrom zero base word = []
-digitsFrom (suc k) base word = onto (eqb (word % 2) 1) base (digitsFrom k (suc base) (word / 2))
+unfoldable pub digits_from : ℕ → ℕ → ℕ → List ℕ
+digits_from zero base word = []
+digits_from (suc k) base word = onto (eqb (word % 2) 1) base (digits_from k (suc base) (word / 2))
 
 -- i became a member, and nothing else changed
 pub record Inserted (was : List ℕ) (i : ℕ) (is : List ℕ) : Type 0 where

@@ -11,12 +11,12 @@ const ITEM_WORDS: usize = (MAX_ITEMS as usize) / 64;
 ghost use Rattle.std.specs.Prelude.{◌≡◌};
 ghost use Rattle.lists.specs.Lists.{slice};
 ghost use Rattle.bit_sets.specs.BitSets.{PartFits};
-ghost use Rattle.first_search_spec.specs.First.{firstTest, firstAnswer};
-ghost use Rattle.first_search.specs.Searching.{CanSearch, isMarked, firstMarked};
+ghost use Rattle.first_search_spec.specs.First.{first_test, first_answer};
+ghost use Rattle.first_search.specs.Searching.{CanSearch, is_marked, first_marked};
 
 // What is lent can be searched: T, the left sets, then the right set.
 fn test_first(t: u32, left_ends: &[u32], left_items: &[u16], right: &[u16]) -> Tested
-    ensures { result ≡ firstTest t (record { ends = left_ends.now; items = left_items.now })
+    ensures { result ≡ first_test t (record { ends = left_ends.now; items = left_items.now })
         right.now }
 {
     let items = test_items(t);
@@ -33,7 +33,7 @@ fn test_first(t: u32, left_ends: &[u32], left_items: &[u16], right: &[u16]) -> T
 // Whether the left set from one end up to the next has items and all of them are marked.
 fn is_marked(marks: &[u64], items: &[u16], start: usize, end: usize) -> bool
     requires { PartFits marks.now items.now start end }
-    ensures { result ≡ isMarked marks.now (slice start end items.now) }
+    ensures { result ≡ is_marked marks.now (slice start end items.now) }
 {
     start < end && contains_part(marks, items, start, end)
 }
@@ -41,7 +41,7 @@ fn is_marked(marks: &[u64], items: &[u16], start: usize, end: usize) -> bool
 // The first left set that has items and all of them marked.
 fn search(left_ends: &[u32], left_items: &[u16], marks: &[u64]) -> Search
     requires { CanSearch left_ends.now left_items.now marks.now }
-    ensures { result ≡ firstMarked left_ends.now left_items.now marks.now }
+    ensures { result ≡ first_marked left_ends.now left_items.now marks.now }
 {
     let mut k: usize = 0;
     let mut start: usize = 0;
@@ -66,7 +66,7 @@ fn search(left_ends: &[u32], left_items: &[u16], marks: &[u64]) -> Search
 
 // Finds the first left set that is contained in the right set, lent as its items alone, and compares no further.
 pub fn find_first(t: u32, left_ends: &[u32], left_items: &[u16], right: &[u16]) -> FirstAnswer
-    ensures { result ≡ firstAnswer t (record { ends = left_ends.now; items = left_items.now })
+    ensures { result ≡ first_answer t (record { ends = left_ends.now; items = left_items.now })
         right.now }
 {
     let tested = test_first(t, left_ends, left_items, right);

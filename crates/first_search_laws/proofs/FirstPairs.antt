@@ -11,34 +11,34 @@ use lib.ListN.{take}
 use borrow.Author.Tests.{lt-ltb}
 use Rattle.lists.specs.Lists.{one, sum, count}
 use Rattle.lists.proofs.Bools.{true-false}
-use Rattle.join_spec.specs.PairList.{ontoPair, rowFrom, pairsFrom, countPairs}
-use Rattle.first_search_spec.specs.First.{found_at, firstFrom}
+use Rattle.join_spec.specs.PairList.{onto_pair, row_from, pairs_from, count_pairs}
+use Rattle.first_search_spec.specs.First.{found_at, first_from}
 
 module _ {A B : Type 0} (test : A → B → Bool) (right : B) where
   pub first_counted : (l : ℕ) (lefts : List A)
-      → (firstFrom (λ left. test left right) l lefts).found ≡ ltb 0 (countPairs test lefts (right ∷ []))
-  unfolding firstFrom sum count
+      → (first_from (λ left. test left right) l lefts).found ≡ ltb 0 (count_pairs test lefts (right ∷ []))
+  unfolding first_from sum count
   first_counted l [] = refl
   first_counted l (left ∷ lefts) = by_first (test left right) (first_counted (suc l) lefts)
     where
       by_first : (b : Bool)
-          → (firstFrom (λ left. test left right) (suc l) lefts).found ≡ ltb 0 (countPairs test lefts (right ∷ []))
-          → (cond b (found_at l) (firstFrom (λ left. test left right) (suc l) lefts)).found
-          ≡ ltb 0 (one b + 0 + countPairs test lefts (right ∷ []))
-      by_first true later = sym (lt-ltb 0 (1 + 0 + countPairs test lefts (right ∷ [])) (omega arith))
-      by_first false later = rw (zero-add (countPairs test lefts (right ∷ []))) later
+          → (first_from (λ left. test left right) (suc l) lefts).found ≡ ltb 0 (count_pairs test lefts (right ∷ []))
+          → (cond b (found_at l) (first_from (λ left. test left right) (suc l) lefts)).found
+          ≡ ltb 0 (one b + 0 + count_pairs test lefts (right ∷ []))
+      by_first true later = sym (lt-ltb 0 (1 + 0 + count_pairs test lefts (right ∷ [])) (omega arith))
+      by_first false later = rw (zero-add (count_pairs test lefts (right ∷ []))) later
 
-  pub first-pair : (l : ℕ) (lefts : List A) → (firstFrom (λ left. test left right) l lefts).found ≡ true
-      → take 2 (pairsFrom test l lefts (right ∷ [])) ≡ (firstFrom (λ left. test left right) l lefts).place ∷ 0 ∷ []
-  unfolding firstFrom pairsFrom rowFrom
-  first-pair l [] e = true-false e refl
-  first-pair l (left ∷ lefts) e = by_first (test left right) (first-pair (suc l) lefts) e
+  pub first_pair : (l : ℕ) (lefts : List A) → (first_from (λ left. test left right) l lefts).found ≡ true
+      → take 2 (pairs_from test l lefts (right ∷ [])) ≡ (first_from (λ left. test left right) l lefts).place ∷ 0 ∷ []
+  unfolding first_from pairs_from row_from
+  first_pair l [] e = true-false e refl
+  first_pair l (left ∷ lefts) e = by_first (test left right) (first_pair (suc l) lefts) e
     where
       by_first : (b : Bool)
-          → ((firstFrom (λ left. test left right) (suc l) lefts).found ≡ true
-          → take 2 (pairsFrom test (suc l) lefts (right ∷ [])) ≡ (firstFrom (λ left. test left right) (suc l) lefts).place ∷ 0 ∷ [])
-          → (cond b (found_at l) (firstFrom (λ left. test left right) (suc l) lefts)).found ≡ true
-          → take 2 (ontoPair b l 0 [] ++ pairsFrom test (suc l) lefts (right ∷ []))
-          ≡ (cond b (found_at l) (firstFrom (λ left. test left right) (suc l) lefts)).place ∷ 0 ∷ []
+          → ((first_from (λ left. test left right) (suc l) lefts).found ≡ true
+          → take 2 (pairs_from test (suc l) lefts (right ∷ [])) ≡ (first_from (λ left. test left right) (suc l) lefts).place ∷ 0 ∷ [])
+          → (cond b (found_at l) (first_from (λ left. test left right) (suc l) lefts)).found ≡ true
+          → take 2 (onto_pair b l 0 [] ++ pairs_from test (suc l) lefts (right ∷ []))
+          ≡ (cond b (found_at l) (first_from (λ left. test left right) (suc l) lefts)).place ∷ 0 ∷ []
       by_first true later found = refl
       by_first false later found = later found

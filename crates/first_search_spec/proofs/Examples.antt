@@ -5,28 +5,28 @@ use mathlib.Core.List.{List, [], ◌∷◌}
 use mathlib.Core.Bool.{Bool, ◌&&◌}
 use lib.Dec.{T, eqb}
 use lib.ListN.{length}
-use Rattle.lists.specs.Lists.{all, memb, range, upto, rising, risingAfter, prefix}
-use Rattle.sets.specs.Collections.{setsFrom, contained, firstBadFrom, badSet}
-use Rattle.inputs.specs.Tests.{loneTest}
-use Rattle.first_search_spec.specs.First.{firstFrom, firstTest, firstAnswer, firstWords}
+use Rattle.lists.specs.Lists.{all, memb, range, upto, rising, rising_after, prefix}
+use Rattle.sets.specs.Collections.{sets_from, contained, first_bad_from, bad_set}
+use Rattle.inputs.specs.Tests.{lone_test}
+use Rattle.first_search_spec.specs.First.{first_from, first_test, first_answer, first_words}
 
 -- one example: its input, and the words that are right
 record Example : Type 0 where
   items : ℕ
-  leftEnds : List ℕ
-  leftItems : List ℕ
+  left_ends : List ℕ
+  left_items : List ℕ
   right : List ℕ
   words : List ℕ
 
 -- whether the definitions give what the example says
 right : Example → Bool
 right e =
-    let words = firstWords (firstAnswer e.items (record { ends = e.leftEnds; items = e.leftItems }) e.right) in
+    let words = first_words (first_answer e.items (record { ends = e.left_ends; items = e.left_items }) e.right) in
     eqb (length words) (length e.words) && prefix words e.words
 
 example : ℕ → List ℕ → List ℕ → List ℕ → List ℕ → Example
-example items leftEnds leftItems right words =
-    record { items = items; leftEnds = leftEnds; leftItems = leftItems; right = right; words = words }
+example items left_ends left_items right words =
+    record { items = items; left_ends = left_ends; left_items = left_items; right = right; words = words }
 
 -- the words of an answer: found at a place, none of so many, and a refusal with what returns with it
 found : ℕ → ℕ → List ℕ
@@ -83,7 +83,7 @@ examples =
     ∷ []
 
 -- the definitions give every example
-examples-right : T (all right examples)
-unfolding all memb range rising risingAfter setsFrom contained firstBadFrom badSet loneTest firstFrom firstTest firstAnswer prefix right
+examples_right : T (all right examples)
+unfolding all memb range rising rising_after sets_from contained first_bad_from bad_set lone_test first_from first_test first_answer prefix right
     example found none refused shelf examples
-examples-right = tt
+examples_right = tt

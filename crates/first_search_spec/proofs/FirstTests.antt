@@ -7,8 +7,8 @@ use mathlib.Core.Bool.{true, not}
 use native.Mathlib.Omega.{arith}
 use borrow.Author.Tests.{ltb-false, le-ltb, not-false}
 use lib.Dec.{ltb}
-use Rattle.sets.specs.Limits.{maxItems}
-use Rattle.sets.specs.Collections.{Collection, setsIn, goodItems, firstBad}
+use Rattle.sets.specs.Limits.{max_items}
+use Rattle.sets.specs.Collections.{Collection, sets_in, good_items, first_bad}
 use Rattle.sets.specs.Refusals.{unless}
 use Rattle.sets.specs.declared.Side.TheVariants.{Left, Right}
 use Rattle.sets.specs.declared.Refusal.{Refusal}
@@ -16,18 +16,18 @@ use Rattle.sets.specs.declared.Refusal.TheVariants.{BadSet, BadSettings}
 use Rattle.sets.specs.declared.Verdict.TheVariants.{Good}
 use Rattle.sets.specs.declared.Tested.{Tested}
 use Rattle.sets.specs.declared.Tested.TheVariants.{Passed, Failed}
-use Rattle.inputs.specs.Tests.{itemsTest, sideTest, loneTest}
-use Rattle.sets.proofs.Testing.{both-passed, refuse-passed}
-use Rattle.inputs.proofs.TestLaws.{side-good}
+use Rattle.inputs.specs.Tests.{items_test, side_test, lone_test}
+use Rattle.sets.proofs.Testing.{both_passed, refuse_passed}
+use Rattle.inputs.proofs.TestLaws.{side_good}
 use Rattle.first_search_spec.specs.declared.Search.{Search}
 use Rattle.first_search_spec.specs.declared.FirstAnswer.TheVariants.{Searched, Refused}
-use Rattle.first_search_spec.specs.First.{firstContained, firstTest, firstAnswer}
+use Rattle.first_search_spec.specs.First.{first_contained, first_test, first_answer}
 
 -- what an input has that passed
 pub record Searchable (T : ℕ) (left : Collection) (right : List ℕ) : Type 0 where
-  pub few : T ≤ maxItems
-  pub lefts-good : firstBad T left.ends left.items ≡ Good
-  pub right-good : goodItems T right ≡ true
+  pub few : T ≤ max_items
+  pub lefts_good : first_bad T left.ends left.items ≡ Good
+  pub right_good : good_items T right ≡ true
 
 -- an answer that is no refusal passed its tests
 unrefused : (t : Tested) (s f : Search) → Searched f ≡ unless Refused t (Searched s) → (t ≡ Passed) × (f ≡ s)
@@ -36,52 +36,52 @@ unrefused (Failed why) s f e = let z : ◌≡◌ {A = ℕ} 0 1 = cc in absurd (o
 
 module _ (T : ℕ) (left : Collection) (right : List ℕ) where
   -- each test decides where those before it passed
-  pub first-items-failed : {why : Refusal} → itemsTest T ≡ Failed why → Failed why ≡ firstTest T left right
-  unfolding firstTest
-  first-items-failed e = rw e
+  pub first_items_failed : {why : Refusal} → items_test T ≡ Failed why → Failed why ≡ first_test T left right
+  unfolding first_test
+  first_items_failed e = rw e
 
-  pub first-lefts-failed : {why : Refusal} → itemsTest T ≡ Passed → sideTest T Left left ≡ Failed why
-      → Failed why ≡ firstTest T left right
-  unfolding firstTest
-  first-lefts-failed few e = rw (few, e)
+  pub first_lefts_failed : {why : Refusal} → items_test T ≡ Passed → side_test T Left left ≡ Failed why
+      → Failed why ≡ first_test T left right
+  unfolding first_test
+  first_lefts_failed few e = rw (few, e)
 
-  pub first-right-next : {r : Tested} → itemsTest T ≡ Passed → sideTest T Left left ≡ Passed → r ≡ loneTest T 0 right
-      → r ≡ firstTest T left right
-  unfolding firstTest
-  first-right-next few good e = rw (few, good) e
+  pub first_right_next : {r : Tested} → items_test T ≡ Passed → side_test T Left left ≡ Passed → r ≡ lone_test T 0 right
+      → r ≡ first_test T left right
+  unfolding first_test
+  first_right_next few good e = rw (few, good) e
 
   -- the answer after the tests
-  pub first-refused : {why : Refusal} → firstTest T left right ≡ Failed why → Refused why ≡ firstAnswer T left right
-  unfolding firstAnswer
-  first-refused e = rw e
+  pub first_refused : {why : Refusal} → first_test T left right ≡ Failed why → Refused why ≡ first_answer T left right
+  unfolding first_answer
+  first_refused e = rw e
 
-  pub first-searched : firstTest T left right ≡ Passed → Searched (firstContained (setsIn left) right) ≡ firstAnswer T left right
-  unfolding firstAnswer
-  first-searched e = rw e
+  pub first_searched : first_test T left right ≡ Passed → Searched (first_contained (sets_in left) right) ≡ first_answer T left right
+  unfolding first_answer
+  first_searched e = rw e
 
   -- they pass exactly where an input is searchable
-  pub first-passed : firstTest T left right ≡ Passed → Searchable T left right
-  unfolding firstTest loneTest
-  first-passed e =
-      let six = both-passed (itemsTest T) (unless Failed (sideTest T Left left) (loneTest T 0 right)) e in
-      let five = both-passed (sideTest T Left left) (loneTest T 0 right) six.1 in
+  pub first_passed : first_test T left right ≡ Passed → Searchable T left right
+  unfolding first_test lone_test
+  first_passed e =
+      let six = both_passed (items_test T) (unless Failed (side_test T Left left) (lone_test T 0 right)) e in
+      let five = both_passed (side_test T Left left) (lone_test T 0 right) six.1 in
       record {
-        few = ltb-false maxItems T (refuse-passed (ltb maxItems T) BadSettings six.0);
-        lefts-good = side-good Left (firstBad T left.ends left.items) five.0;
-        right-good = not-false (goodItems T right) (refuse-passed (not (goodItems T right)) (BadSet Right 0) five.1);
+        few = ltb-false max_items T (refuse_passed (ltb max_items T) BadSettings six.0);
+        lefts_good = side_good Left (first_bad T left.ends left.items) five.0;
+        right_good = not-false (good_items T right) (refuse_passed (not (good_items T right)) (BadSet Right 0) five.1);
       }
 
-  pub passed_first : Searchable T left right → firstTest T left right ≡ Passed
-  unfolding firstTest loneTest
-  passed_first s = rw (le-ltb maxItems T s.few, s.lefts-good, s.right-good)
+  pub passed_first : Searchable T left right → first_test T left right ≡ Passed
+  unfolding first_test lone_test
+  passed_first s = rw (le-ltb max_items T s.few, s.lefts_good, s.right_good)
 
   -- a search is accepted exactly then, and finds what it should
-  pub first-accepted : {f : Search} → Searched f ≡ firstAnswer T left right
-      → Searchable T left right × (f ≡ firstContained (setsIn left) right)
-  unfolding firstAnswer
-  first-accepted {f} e =
-      let both = unrefused (firstTest T left right) (firstContained (setsIn left) right) f e in
-      (first-passed both.0, both.1)
+  pub first_accepted : {f : Search} → Searched f ≡ first_answer T left right
+      → Searchable T left right × (f ≡ first_contained (sets_in left) right)
+  unfolding first_answer
+  first_accepted {f} e =
+      let both = unrefused (first_test T left right) (first_contained (sets_in left) right) f e in
+      (first_passed both.0, both.1)
 
-  pub searchable-answer : Searchable T left right → Searched (firstContained (setsIn left) right) ≡ firstAnswer T left right
-  searchable-answer s = first-searched (passed_first s)
+  pub searchable_answer : Searchable T left right → Searched (first_contained (sets_in left) right) ≡ first_answer T left right
+  searchable_answer s = first_searched (passed_first s)

@@ -3,12 +3,12 @@
 -- `NoneIn` of proofs/FirstLaws.antt: the element at its place passes and none before it does, or none passes at all.
 use Rattle.std.specs.Prelude.{ℕ, suc, List, [], ◌∷◌, Bool, true, false, cond}
 use Rattle.lists.specs.Lists.{one}
-use Rattle.sets.specs.Collections.{Collection, setsIn, contained}
-use Rattle.sets.specs.Refusals.{unless, acceptedWords, refusedWords}
+use Rattle.sets.specs.Collections.{Collection, sets_in, contained}
+use Rattle.sets.specs.Refusals.{unless, accepted_words, refused_words}
 use Rattle.sets.specs.declared.Side.TheVariants.{Left}
 use Rattle.sets.specs.declared.Tested.{Tested}
 use Rattle.sets.specs.declared.Tested.TheVariants.{Failed}
-use Rattle.inputs.specs.Tests.{itemsTest, sideTest, loneTest}
+use Rattle.inputs.specs.Tests.{items_test, side_test, lone_test}
 use Rattle.first_search_spec.specs.declared.Search.{Search}
 use Rattle.first_search_spec.specs.declared.FirstAnswer.{FirstAnswer}
 use Rattle.first_search_spec.specs.declared.FirstAnswer.TheVariants.{Searched, Refused}
@@ -18,27 +18,27 @@ abbrev pub found_at : ℕ → Search
 found_at place = record { found = true; place = place; compared = suc place }
 
 -- not among so many, all of them compared; the place is 0
-abbrev pub noneOf : ℕ → Search
-noneOf many = record { found = false; place = 0; compared = many }
+abbrev pub none_of : ℕ → Search
+none_of many = record { found = false; place = 0; compared = many }
 
 -- the first element that passes the test, with the head at place k; all up to it were compared, or k and the whole list
-unfoldable pub firstFrom : {A : Type 0} → (A → Bool) → ℕ → List A → Search
-firstFrom test k [] = noneOf k
-firstFrom test k (x ∷ xs) = cond (test x) (found_at k) (firstFrom test (suc k) xs)
+unfoldable pub first_from : {A : Type 0} → (A → Bool) → ℕ → List A → Search
+first_from test k [] = none_of k
+first_from test k (x ∷ xs) = cond (test x) (found_at k) (first_from test (suc k) xs)
 
 -- the first left set that is contained in the right set
-abbrev pub firstContained : List (List ℕ) → List ℕ → Search
-firstContained lefts right = firstFrom (λ left. contained left right) 0 lefts
+abbrev pub first_contained : List (List ℕ) → List ℕ → Search
+first_contained lefts right = first_from (λ left. contained left right) 0 lefts
 
 -- the tests of what is lent, the right set as its items alone: 6, 5 of the left sets, 5 of the right set at place 0
-unfoldable pub firstTest : ℕ → Collection → List ℕ → Tested
-firstTest T left right = unless Failed (itemsTest T) (unless Failed (sideTest T Left left) (loneTest T 0 right))
+unfoldable pub first_test : ℕ → Collection → List ℕ → Tested
+first_test T left right = unless Failed (items_test T) (unless Failed (side_test T Left left) (lone_test T 0 right))
 
 -- the answer
-unfoldable pub firstAnswer : ℕ → Collection → List ℕ → FirstAnswer
-firstAnswer T left right = unless Refused (firstTest T left right) (Searched (firstContained (setsIn left) right))
+unfoldable pub first_answer : ℕ → Collection → List ℕ → FirstAnswer
+first_answer T left right = unless Refused (first_test T left right) (Searched (first_contained (sets_in left) right))
 
 -- the words of an answer: found (1 or 0), place, compared; three zeros in a refusal
-abbrev pub firstWords : FirstAnswer → List ℕ
-firstWords (Searched s) = acceptedWords (one s.found ∷ s.place ∷ s.compared ∷ [])
-firstWords (Refused why) = refusedWords why 3
+abbrev pub first_words : FirstAnswer → List ℕ
+first_words (Searched s) = accepted_words (one s.found ∷ s.place ∷ s.compared ∷ [])
+first_words (Refused why) = refused_words why 3

@@ -18,11 +18,11 @@ pub enum FirstAnswer {
 }
 
 ghost use Rattle.std.specs.Prelude.{◌≡◌};
-ghost use Rattle.first_search_spec.specs.First.{firstWords};
+ghost use Rattle.first_search_spec.specs.First.{first_words};
 
 // The words of the answer at the C boundary.
 pub fn first_words(answer: FirstAnswer) -> [u64; 6]
-    ensures { result ≡ firstWords answer }
+    ensures { result ≡ first_words answer }
 {
     match answer {
         FirstAnswer::Searched(search) => [

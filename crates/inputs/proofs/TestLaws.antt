@@ -9,11 +9,11 @@ use borrow.Author.Tests.{ltb-false, lt-ltb, le-ltb}
 use lib.Dec.{ltb}
 use lib.ListN.{length}
 use lib.Seq.{take-length}
-use Rattle.sets.specs.Limits.{maxItems}
-use Rattle.sets.specs.Collections.{Collection, between, goodItems, firstBad}
-use Rattle.sets.specs.Refusals.{refuseIf, noBadSet, unless, clears}
-use Rattle.sets.proofs.Testing.{both-passed, refuse-passed, failed-same}
-use Rattle.sets.proofs.Good.{good-places, good-entries}
+use Rattle.sets.specs.Limits.{max_items}
+use Rattle.sets.specs.Collections.{Collection, between, good_items, first_bad}
+use Rattle.sets.specs.Refusals.{refuse_if, no_bad_set, unless, clears}
+use Rattle.sets.proofs.Testing.{both_passed, refuse_passed, failed_same}
+use Rattle.sets.proofs.Good.{good_places, good_entries}
 use Rattle.sets.specs.declared.Side.{Side}
 use Rattle.sets.specs.declared.Side.TheVariants.{Left, Right}
 use Rattle.sets.specs.declared.Refusal.{Refusal}
@@ -24,105 +24,105 @@ use Rattle.sets.specs.declared.Tested.{Tested}
 use Rattle.sets.specs.declared.Tested.TheVariants.{Passed, Failed}
 use Rattle.inputs.specs.Input.{Input}
 use Rattle.inputs.specs.Inner.{Sized}
-use Rattle.inputs.specs.Tests.{sideTest, setsTest, loneTest, workTest, wordsFor, wordsNeeded}
+use Rattle.inputs.specs.Tests.{side_test, sets_test, lone_test, work_test, words_for, words_needed}
 
 -- a test by what it finds
 module _ (T : ℕ) (side : Side) (c : Collection) where
-  pub side-passed : firstBad T c.ends c.items ≡ Good → Passed ≡ sideTest T side c
-  side-passed e = sym (ap (noBadSet side) e)
+  pub side_passed : first_bad T c.ends c.items ≡ Good → Passed ≡ side_test T side c
+  side_passed e = sym (ap (no_bad_set side) e)
 
-  pub side-failed : {place : ℕ} → firstBad T c.ends c.items ≡ Bad place → Failed (BadSet side place) ≡ sideTest T side c
-  side-failed e = sym (ap (noBadSet side) e)
+  pub side_failed : {place : ℕ} → first_bad T c.ends c.items ≡ Bad place → Failed (BadSet side place) ≡ side_test T side c
+  side_failed e = sym (ap (no_bad_set side) e)
 
-pub sets-failed : (i : Input) {why : Refusal} → sideTest i.T Left i.left ≡ Failed why → Failed why ≡ setsTest i
-unfolding setsTest
-sets-failed i e = sym (ap (λ (t : Tested). unless Failed t (sideTest i.T Right i.right)) e)
+pub sets_failed : (i : Input) {why : Refusal} → side_test i.T Left i.left ≡ Failed why → Failed why ≡ sets_test i
+unfolding sets_test
+sets_failed i e = sym (ap (λ (t : Tested). unless Failed t (side_test i.T Right i.right)) e)
 
-pub sets-next : (i : Input) → sideTest i.T Left i.left ≡ Passed → sideTest i.T Right i.right ≡ setsTest i
-unfolding setsTest
-sets-next i e = sym (ap (λ (t : Tested). unless Failed t (sideTest i.T Right i.right)) e)
+pub sets_next : (i : Input) → side_test i.T Left i.left ≡ Passed → side_test i.T Right i.right ≡ sets_test i
+unfolding sets_test
+sets_next i e = sym (ap (λ (t : Tested). unless Failed t (side_test i.T Right i.right)) e)
 
 -- neither side has a bad set
 pub record BothGood (i : Input) : Type 0 where
-  pub left : firstBad i.T i.left.ends i.left.items ≡ Good
-  pub right : firstBad i.T i.right.ends i.right.items ≡ Good
+  pub left : first_bad i.T i.left.ends i.left.items ≡ Good
+  pub right : first_bad i.T i.right.ends i.right.items ≡ Good
 
 -- a side without a bad set
-pub side-good : (side : Side) (v : Verdict) → noBadSet side v ≡ Passed → v ≡ Good
-side-good side Good e = refl
-side-good side (Bad place) e = let z : ◌≡◌ {A = ℕ} 0 1 = cc in absurd (omega arith)
+pub side_good : (side : Side) (v : Verdict) → no_bad_set side v ≡ Passed → v ≡ Good
+side_good side Good e = refl
+side_good side (Bad place) e = let z : ◌≡◌ {A = ℕ} 0 1 = cc in absurd (omega arith)
 
-pub sets-good : (i : Input) → setsTest i ≡ Passed → BothGood i
-unfolding setsTest
-sets-good i e =
-    let both = both-passed (sideTest i.T Left i.left) (sideTest i.T Right i.right) e in
+pub sets_good : (i : Input) → sets_test i ≡ Passed → BothGood i
+unfolding sets_test
+sets_good i e =
+    let both = both_passed (side_test i.T Left i.left) (side_test i.T Right i.right) e in
     record {
-      left = side-good Left (firstBad i.T i.left.ends i.left.items) both.0;
-      right = side-good Right (firstBad i.T i.right.ends i.right.items) both.1;
+      left = side_good Left (first_bad i.T i.left.ends i.left.items) both.0;
+      right = side_good Right (first_bad i.T i.right.ends i.right.items) both.1;
     }
 
-pub good-sets : (i : Input) → BothGood i → setsTest i ≡ Passed
-unfolding setsTest
-good-sets i good = rw (good.left, good.right)
+pub good_sets : (i : Input) → BothGood i → sets_test i ≡ Passed
+unfolding sets_test
+good_sets i good = rw (good.left, good.right)
 
 -- the sizes of good collections are small
-pub sized : (i : Input) → i.T ≤ maxItems → BothGood i → Sized i.T i.left.ends i.right.ends
+pub sized : (i : Input) → i.T ≤ max_items → BothGood i → Sized i.T i.left.ends i.right.ends
 sized i few good =
     record {
       items = few;
-      lefts = good-places i.T i.left.ends i.left.items good.left;
-      rights = good-places i.T i.right.ends i.right.items good.right;
-      leftEntries = (good-entries i.T i.left.ends i.left.items good.left).few;
-      rightEntries = (good-entries i.T i.right.ends i.right.items good.right).few;
+      lefts = good_places i.T i.left.ends i.left.items good.left;
+      rights = good_places i.T i.right.ends i.right.items good.right;
+      left_entries = (good_entries i.T i.left.ends i.left.items good.left).few;
+      right_entries = (good_entries i.T i.right.ends i.right.items good.right).few;
     }
 
 -- the tests of the sets and of the work list refuse with 5 and 7 alone, which leave every list as it was
-pub sets-keep : (i : Input) (why : Refusal) → setsTest i ≡ Failed why → clears why ≡ false
-unfolding setsTest
+pub sets-keep : (i : Input) (why : Refusal) → sets_test i ≡ Failed why → clears why ≡ false
+unfolding sets_test
 sets-keep i why =
-    go (firstBad i.T i.left.ends i.left.items) (firstBad i.T i.right.ends i.right.items)
+    go (first_bad i.T i.left.ends i.left.items) (first_bad i.T i.right.ends i.right.items)
   where
-    go : (l r : Verdict) → unless Failed (noBadSet Left l) (noBadSet Right r) ≡ Failed why → clears why ≡ false
+    go : (l r : Verdict) → unless Failed (no_bad_set Left l) (no_bad_set Right r) ≡ Failed why → clears why ≡ false
     go Good Good e = let z : ◌≡◌ {A = ℕ} 0 1 = cc in absurd (omega arith)
-    go Good (Bad place) e = ap clears (sym (failed-same (BadSet Right place) why e))
-    go (Bad place) r e = ap clears (sym (failed-same (BadSet Left place) why e))
+    go Good (Bad place) e = ap clears (sym (failed_same (BadSet Right place) why e))
+    go (Bad place) r e = ap clears (sym (failed_same (BadSet Left place) why e))
 
-pub work-keep : (i : Input) (words : ℕ) (why : Refusal) → workTest i words ≡ Failed why → clears why ≡ false
-unfolding workTest
-work-keep i words why = go (ltb words (wordsNeeded i))
+pub work_keep : (i : Input) (words : ℕ) (why : Refusal) → work_test i words ≡ Failed why → clears why ≡ false
+unfolding work_test
+work_keep i words why = go (ltb words (words_needed i))
   where
-    go : (short : Bool) → refuseIf short ShortWork ≡ Failed why → clears why ≡ false
-    go true e = ap clears (sym (failed-same ShortWork why e))
+    go : (short : Bool) → refuse_if short ShortWork ≡ Failed why → clears why ≡ false
+    go true e = ap clears (sym (failed_same ShortWork why e))
     go false e = let z : ◌≡◌ {A = ℕ} 0 1 = cc in absurd (omega arith)
 
 -- a lone set is judged as the part of its list from the start to the end
 whole_part : (set : List ℕ) → between 0 (length set) set ≡ set
 whole_part set = rw (sub-zero (length set)) (take-length set)
 
-pub lone-passed : (T place : ℕ) (set : List ℕ) → true ≡ goodItems T (between 0 (length set) set) → Passed ≡ loneTest T place set
-unfolding loneTest
-lone-passed T place set e =
-    sym (ap (λ (b : Bool). refuseIf (not b) (BadSet Right place)) (ap (goodItems T) (sym (whole_part set)) ∙ sym e))
+pub lone_passed : (T place : ℕ) (set : List ℕ) → true ≡ good_items T (between 0 (length set) set) → Passed ≡ lone_test T place set
+unfolding lone_test
+lone_passed T place set e =
+    sym (ap (λ (b : Bool). refuse_if (not b) (BadSet Right place)) (ap (good_items T) (sym (whole_part set)) ∙ sym e))
 
-pub lone-failed : (T place : ℕ) (set : List ℕ) → false ≡ goodItems T (between 0 (length set) set)
-    → Failed (BadSet Right place) ≡ loneTest T place set
-unfolding loneTest
-lone-failed T place set e =
-    sym (ap (λ (b : Bool). refuseIf (not b) (BadSet Right place)) (ap (goodItems T) (sym (whole_part set)) ∙ sym e))
+pub lone_failed : (T place : ℕ) (set : List ℕ) → false ≡ good_items T (between 0 (length set) set)
+    → Failed (BadSet Right place) ≡ lone_test T place set
+unfolding lone_test
+lone_failed T place set e =
+    sym (ap (λ (b : Bool). refuse_if (not b) (BadSet Right place)) (ap (good_items T) (sym (whole_part set)) ∙ sym e))
 
 -- the work list
-pub words-for : (i : Input) → wordsNeeded i ≡ wordsFor i.T i.left.ends i.right.ends
-unfolding wordsNeeded
-words-for i = refl
+pub words_for_lem : (i : Input) → words_needed i ≡ words_for i.T i.left.ends i.right.ends
+unfolding words_needed
+words_for_lem i = refl
 
-pub work-short : (i : Input) (words : ℕ) → words < wordsNeeded i → Failed ShortWork ≡ workTest i words
-unfolding workTest
-work-short i words short = sym (ap (λ (b : Bool). refuseIf b ShortWork) (lt-ltb words (wordsNeeded i) short))
+pub work_short : (i : Input) (words : ℕ) → words < words_needed i → Failed ShortWork ≡ work_test i words
+unfolding work_test
+work_short i words short = sym (ap (λ (b : Bool). refuse_if b ShortWork) (lt-ltb words (words_needed i) short))
 
-pub work-enough : (i : Input) (words : ℕ) → workTest i words ≡ Passed → wordsNeeded i ≤ words
-unfolding workTest
-work-enough i words e = ltb-false words (wordsNeeded i) (refuse-passed (ltb words (wordsNeeded i)) _ e)
+pub work_enough : (i : Input) (words : ℕ) → work_test i words ≡ Passed → words_needed i ≤ words
+unfolding work_test
+work_enough i words e = ltb-false words (words_needed i) (refuse_passed (ltb words (words_needed i)) _ e)
 
-pub enough-work : (i : Input) (words : ℕ) → wordsNeeded i ≤ words → workTest i words ≡ Passed
-unfolding workTest
-enough-work i words enough = ap (λ (b : Bool). refuseIf b ShortWork) (le-ltb words (wordsNeeded i) enough)
+pub enough_work : (i : Input) (words : ℕ) → words_needed i ≤ words → work_test i words ≡ Passed
+unfolding work_test
+enough_work i words enough = ap (λ (b : Bool). refuse_if b ShortWork) (le-ltb words (words_needed i) enough)

@@ -1,7 +1,7 @@
 -- What goes into an operation over both collections, as it is lent. Document 01, "Sets and settings".
 use Rattle.std.specs.Prelude.{ℕ, List}
-use Rattle.lists.specs.Lent.{Lent, atCall}
-use Rattle.sets.specs.Collections.{Collection, setsIn}
+use Rattle.lists.specs.Lent.{Lent, at_call}
+use Rattle.sets.specs.Collections.{Collection, sets_in}
 
 -- the count of items and both collections
 pub record Input : Type 0 where
@@ -11,21 +11,21 @@ pub record Input : Type 0 where
 
 -- the lists as they are lent, by their names
 abbrev pub input_of : ℕ → List ℕ → List ℕ → List ℕ → List ℕ → Input
-input_of T leftEnds leftItems rightEnds rightItems =
+input_of T left_ends left_items right_ends right_items =
     record {
       T = T;
-      left = record { ends = leftEnds; items = leftItems };
-      right = record { ends = rightEnds; items = rightItems };
+      left = record { ends = left_ends; items = left_items };
+      right = record { ends = right_ends; items = right_items };
     }
 
 -- the input that a call finds in the lists lent to it
-abbrev pub lentInput : ℕ → Lent → Lent → Lent → Lent → Input
-lentInput T leftEnds leftItems rightEnds rightItems =
-    input_of T (atCall leftEnds) (atCall leftItems) (atCall rightEnds) (atCall rightItems)
+abbrev pub lent_input : ℕ → Lent → Lent → Lent → Lent → Input
+lent_input T left_ends left_items right_ends right_items =
+    input_of T (at_call left_ends) (at_call left_items) (at_call right_ends) (at_call right_items)
 
 -- the sets of each side, by place
-abbrev pub leftSets : Input → List (List ℕ)
-leftSets i = setsIn i.left
+abbrev pub left_sets : Input → List (List ℕ)
+left_sets i = sets_in i.left
 
-abbrev pub rightSets : Input → List (List ℕ)
-rightSets i = setsIn i.right
+abbrev pub right_sets : Input → List (List ℕ)
+right_sets i = sets_in i.right

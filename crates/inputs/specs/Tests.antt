@@ -1,9 +1,9 @@
 -- The tests of an input that operations share, in the order of the refusal table: T, the sets of each side, the work list.
 -- Document 01, "When no list is made": each operation names those that it has.
 use Rattle.std.specs.Prelude.{ℕ, ◌+◌, ◌*◌, List, not, ltb, length}
-use Rattle.sets.specs.Limits.{maxItems}
-use Rattle.sets.specs.Collections.{Collection, goodItems, firstBad, entries}
-use Rattle.sets.specs.Refusals.{refuseIf, noBadSet, unless}
+use Rattle.sets.specs.Limits.{max_items}
+use Rattle.sets.specs.Collections.{Collection, good_items, first_bad, entries}
+use Rattle.sets.specs.Refusals.{refuse_if, no_bad_set, unless}
 use Rattle.sets.specs.declared.Side.{Side}
 use Rattle.sets.specs.declared.Side.TheVariants.{Left, Right}
 use Rattle.sets.specs.declared.Refusal.TheVariants.{BadSet, BadSettings, ShortWork}
@@ -12,32 +12,32 @@ use Rattle.sets.specs.declared.Tested.TheVariants.{Failed}
 use Rattle.inputs.specs.Input.{Input}
 
 -- T is within its limit: 6
-abbrev pub itemsTest : ℕ → Tested
-itemsTest T = refuseIf (ltb maxItems T) BadSettings
+abbrev pub items_test : ℕ → Tested
+items_test T = refuse_if (ltb max_items T) BadSettings
 
 -- a side has no bad set: 5
-abbrev pub sideTest : ℕ → Side → Collection → Tested
-sideTest T side c = noBadSet side (firstBad T c.ends c.items)
+abbrev pub side_test : ℕ → Side → Collection → Tested
+side_test T side c = no_bad_set side (first_bad T c.ends c.items)
 
 -- neither side has a bad set, the left side first: 5
-unfoldable pub setsTest : Input → Tested
-setsTest i = unless Failed (sideTest i.T Left i.left) (sideTest i.T Right i.right)
+unfoldable pub sets_test : Input → Tested
+sets_test i = unless Failed (side_test i.T Left i.left) (side_test i.T Right i.right)
 
 -- a lone right set, lent as its items alone, is not bad: 5, with the place that it would have
-unfoldable pub loneTest : ℕ → ℕ → List ℕ → Tested
-loneTest T place set = refuseIf (not (goodItems T set)) (BadSet Right place)
+unfoldable pub lone_test : ℕ → ℕ → List ℕ → Tested
+lone_test T place set = refuse_if (not (good_items T set)) (BadSet Right place)
 
 -- the size of an input (n in document 01): sets, entries and items
-abbrev pub inputSize : ℕ → List ℕ → List ℕ → ℕ
-inputSize T leftEnds rightEnds = length leftEnds + length rightEnds + (entries leftEnds + entries rightEnds) + T
+abbrev pub input_size : ℕ → List ℕ → List ℕ → ℕ
+input_size T left_ends right_ends = length left_ends + length right_ends + (entries left_ends + entries right_ends) + T
 
 -- the words that a work list must have
-abbrev pub wordsFor : ℕ → List ℕ → List ℕ → ℕ
-wordsFor T leftEnds rightEnds = 16 * inputSize T leftEnds rightEnds + 64
+abbrev pub words_for : ℕ → List ℕ → List ℕ → ℕ
+words_for T left_ends right_ends = 16 * input_size T left_ends right_ends + 64
 
-unfoldable pub wordsNeeded : Input → ℕ
-wordsNeeded i = wordsFor i.T i.left.ends i.right.ends
+unfoldable pub words_needed : Input → ℕ
+words_needed i = words_for i.T i.left.ends i.right.ends
 
 -- the work list is long enough: 7
-unfoldable pub workTest : Input → ℕ → Tested
-workTest i words = refuseIf (ltb words (wordsNeeded i)) ShortWork
+unfoldable pub work_test : Input → ℕ → Tested
+work_test i words = refuse_if (ltb words (words_needed i)) ShortWork

@@ -3,8 +3,8 @@
 ghost use Rattle.std.specs.Prelude.{◌≡◌, true};
 ghost use Rattle.lists.specs.Lists.{rising};
 ghost use Rattle.sets.specs.Collections.{contained};
-ghost use Rattle.inputs.specs.Input.{lentInput};
-ghost use Rattle.inputs.specs.Tests.{itemsTest, sideTest, setsTest, loneTest, wordsNeeded, workTest};
+ghost use Rattle.inputs.specs.Input.{lent_input};
+ghost use Rattle.inputs.specs.Tests.{items_test, side_test, sets_test, lone_test, words_needed, work_test};
 ghost use Rattle.inputs.specs.Inner.{Sized};
 
 use sets::{MAX_ITEMS, Refusal, Side, Tested, Verdict, count_entries};
@@ -13,7 +13,7 @@ use validation::one_set::good_items;
 
 // T is within its limit.
 pub fn test_items(t: u32) -> Tested
-    ensures { result ≡ itemsTest t }
+    ensures { result ≡ items_test t }
 {
     if MAX_ITEMS < t {
         return Tested::Failed(Refusal::BadSettings);
@@ -23,7 +23,7 @@ pub fn test_items(t: u32) -> Tested
 
 // A side has no bad set.
 pub fn test_side(t: u32, side: Side, ends: &[u32], items: &[u16]) -> Tested
-    ensures { result ≡ sideTest t side (record { ends = ends.entry.now; items = items.now }) }
+    ensures { result ≡ side_test t side (record { ends = ends.entry.now; items = items.now }) }
 {
     let verdict = first_bad(t, ends, items);
     match verdict {
@@ -40,7 +40,7 @@ pub fn test_sets(
     right_ends: &[u32],
     right_items: &[u16],
 ) -> Tested
-    ensures { result ≡ setsTest (lentInput t left_ends left_items right_ends right_items) }
+    ensures { result ≡ sets_test (lent_input t left_ends left_items right_ends right_items) }
 {
     let left = test_side(t, Side::Left, left_ends, left_items);
     match left {
@@ -51,7 +51,7 @@ pub fn test_sets(
 
 // A lone right set, lent as its items alone, is not bad; it is refused with the place given.
 pub fn test_lone(t: u32, place: usize, set: &[u16]) -> Tested
-    ensures { result ≡ loneTest t place set.now }
+    ensures { result ≡ lone_test t place set.now }
 {
     let n = set.len();
     if good_items(t, 0, n, set) {
@@ -69,7 +69,7 @@ pub fn words_needed(
     right_items: &[u16],
 ) -> usize
     requires { Sized t left_ends.now right_ends.now }
-    ensures { result ≡ wordsNeeded (lentInput t left_ends left_items right_ends right_items) }
+    ensures { result ≡ words_needed (lent_input t left_ends left_items right_ends right_items) }
 {
     let sets = left_ends.len() + right_ends.len();
     let entries = count_entries(left_ends) + count_entries(right_ends);
@@ -86,7 +86,7 @@ pub fn test_work(
     words: usize,
 ) -> Tested
     requires { Sized t left_ends.now right_ends.now }
-    ensures { result ≡ workTest (lentInput t left_ends left_items right_ends right_items) words }
+    ensures { result ≡ work_test (lent_input t left_ends left_items right_ends right_items) words }
 {
     if words < words_needed(t, left_ends, left_items, right_ends, right_items) {
         return Tested::Failed(Refusal::ShortWork);

@@ -1,7 +1,7 @@
 // The frequency of each item: one pass over the entries of each side counts the sets that hold it.
 ghost use Rattle.std.specs.Prelude.{◌≡◌, map, ℕ, ◌+◌, ◌<◌, length, get_or};
 ghost use Rattle.lists.specs.Lists.{count, memb, upto};
-ghost use Rattle.sets.specs.Collections.{setsOf};
+ghost use Rattle.sets.specs.Collections.{sets_of};
 ghost use Rattle.item_order_spec.specs.Order.{frequency};
 ghost use Rattle.item_order.specs.frequencies.Counts.{CanTally, TalliedInto, CanCount, CanCountBoth};
 
@@ -22,7 +22,7 @@ fn count_side(ends: &[u32], items: &[u16], frequencies: &mut [u16])
     requires { CanCount ends.now items.now frequencies.old }
     ensures { (i : ℕ) → i < length frequencies.old
         → get_or frequencies.new i 0
-        ≡ get_or frequencies.old i 0 + count (memb i) (setsOf ends.now items.now) }
+        ≡ get_or frequencies.old i 0 + count (memb i) (sets_of ends.now items.now) }
 {
     let n = sets::count_entries(ends);
     tally(&items[..n], frequencies);
@@ -38,8 +38,8 @@ pub fn count_both(
 )
     requires { CanCountBoth left_ends.now left_items.now right_ends.now right_items.now frequencies.old }
     ensures { frequencies.new
-        ≡ map (frequency (setsOf left_ends.now left_items.now)
-        (setsOf right_ends.now right_items.now))
+        ≡ map (frequency (sets_of left_ends.now left_items.now)
+        (sets_of right_ends.now right_items.now))
         (upto (length frequencies.old)) }
 {
     count_side(left_ends, left_items, frequencies);

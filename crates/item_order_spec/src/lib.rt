@@ -10,11 +10,11 @@ pub enum OrderAnswer {
 }
 
 ghost use Rattle.std.specs.Prelude.{◌≡◌};
-ghost use Rattle.item_order_spec.specs.Order.{orderWords};
+ghost use Rattle.item_order_spec.specs.Order.{order_words};
 
 // The words of the answer at the C boundary.
 pub fn order_words(answer: OrderAnswer) -> [u64; 3]
-    ensures { result ≡ orderWords answer }
+    ensures { result ≡ order_words answer }
 {
     match answer {
         OrderAnswer::Ordered => [0, 0, 0],

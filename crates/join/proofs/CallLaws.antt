@@ -9,44 +9,44 @@ use Rattle.lists.proofs.Bools.{true-false}
 use Rattle.sets.specs.declared.Refusal.{Refusal}
 use Rattle.sets.specs.declared.Refusal.TheVariants.{Spent, ShortPairs}
 use Rattle.sets.specs.declared.Tested.TheVariants.{Passed, Failed}
-use Rattle.inputs.specs.Input.{Input, leftSets, rightSets}
+use Rattle.inputs.specs.Input.{Input, left_sets, right_sets}
 use Rattle.join_spec.specs.declared.JoinAnswer.{JoinAnswer}
 use Rattle.join_spec.specs.declared.JoinAnswer.TheVariants.{Joined, Refused}
-use Rattle.join_spec.specs.PairList.{pairList, pairCount}
-use Rattle.join_spec.specs.Query.{Settings, Query, queryOf}
-use Rattle.join_spec.specs.Counting.{countsOf, checksOf}
-use Rattle.join_spec.specs.Answer.{roomOf, joinTests, walkAnswer, pairsAfter, workKept, RunCall}
-use Rattle.join_spec.proofs.Accepted.{tests-passed, answer-tested, answer-refused, early-keeps}
+use Rattle.join_spec.specs.PairList.{pair_list, pair_count}
+use Rattle.join_spec.specs.Query.{Settings, Query, query_of}
+use Rattle.join_spec.specs.Counting.{counts_of, checks_of}
+use Rattle.join_spec.specs.Answer.{room_of, join_tests, walk_answer, pairs_after, work_kept, RunCall}
+use Rattle.join_spec.proofs.Accepted.{tests_passed, answer_tested, answer_refused, early_keeps}
 
 -- a walk's answer never leaves the work list as it was by promise
-pub walk-uses : (q : Query) (budget room : ℕ) {r : JoinAnswer} → r ≡ walkAnswer q budget room → workKept r ≡ false
-unfolding walkAnswer
-walk-uses q budget room is = ap workKept is ∙ go (ltb budget (checksOf q)) (ltb room (2 * pairCount q.lefts q.rights))
+pub walk_uses : (q : Query) (budget room : ℕ) {r : JoinAnswer} → r ≡ walk_answer q budget room → work_kept r ≡ false
+unfolding walk_answer
+walk_uses q budget room is = ap work_kept is ∙ go (ltb budget (checks_of q)) (ltb room (2 * pair_count q.lefts q.rights))
   where
-    go : (a b : Bool) → workKept (cond a (Refused Spent) (cond b (Refused ShortPairs) (Joined (countsOf q)))) ≡ false
+    go : (a b : Bool) → work_kept (cond a (Refused Spent) (cond b (Refused ShortPairs) (Joined (counts_of q)))) ≡ false
     go true b = refl
     go false true = refl
     go false false = refl
 
 module _ (i : Input) (s : Settings) (work pairs : List ℕ) where
-  pub call-refused : {why : Refusal} → joinTests i s.limit s.ranks (length work) ≡ Failed why
+  pub call_refused : {why : Refusal} → join_tests i s.limit s.ranks (length work) ≡ Failed why
       → RunCall i s work pairs work pairs (Refused why)
-  call-refused {why} e =
+  call_refused {why} e =
       record {
-        answer = sym (answer-refused i s (roomOf work pairs) e);
-        pairs = sym (rw (early-keeps i s.limit s.ranks (length work) e));
-        work-size = refl;
-        work-kept = λ kept. refl;
+        answer = sym (answer_refused i s (room_of work pairs) e);
+        pairs = sym (rw (early_keeps i s.limit s.ranks (length work) e));
+        work_size = refl;
+        work_kept_lem = λ kept. refl;
       }
 
-  pub call-walked : {r : JoinAnswer} {work' pairs' : List ℕ} → joinTests i s.limit s.ranks (length work) ≡ Passed
-      → r ≡ walkAnswer (queryOf i s) s.budget (length pairs)
-      → pairs' ≡ pairsAfter r (pairList (leftSets i) (rightSets i)) pairs → length work' ≡ length work
+  pub call_walked : {r : JoinAnswer} {work' pairs' : List ℕ} → join_tests i s.limit s.ranks (length work) ≡ Passed
+      → r ≡ walk_answer (query_of i s) s.budget (length pairs)
+      → pairs' ≡ pairs_after r (pair_list (left_sets i) (right_sets i)) pairs → length work' ≡ length work
       → RunCall i s work pairs work' pairs' r
-  call-walked passed answer after size =
+  call_walked passed answer after size =
       record {
-        answer = answer ∙ sym (answer-tested i s (roomOf work pairs) (tests-passed i s.limit s.ranks (length work) passed));
+        answer = answer ∙ sym (answer_tested i s (room_of work pairs) (tests_passed i s.limit s.ranks (length work) passed));
         pairs = after;
-        work-size = size;
-        work-kept = λ kept. true-false kept (walk-uses (queryOf i s) s.budget (length pairs) answer);
+        work_size = size;
+        work_kept_lem = λ kept. true-false kept (walk_uses (query_of i s) s.budget (length pairs) answer);
       }

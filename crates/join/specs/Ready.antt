@@ -4,14 +4,14 @@ use Rattle.inputs.specs.Input.{Input}
 use Rattle.join_spec.specs.declared.Rule.{Rule}
 use Rattle.join_spec.specs.declared.Rule.TheVariants.{Merge, Check, Weighed}
 use Rattle.join_spec.proofs.Accepted.{Tests}
-use Rattle.merge_rows.specs.Merging.{wordsFor}
+use Rattle.merge_rows.specs.Merging.{words_for}
 
 -- with the work list that is lent
 abbrev pub Accepted : Input → ℕ → List ℕ → List ℕ → Type 0
 Accepted i limit ranks work = Tests i limit ranks (length work)
 
 -- under Merge, where the rows of so many items and sets fit so many words
-abbrev pub takesRows : Rule → ℕ → ℕ → ℕ → ℕ → Bool
-takesRows Merge T lefts rights words = leb (wordsFor T lefts rights) words
-takesRows Check T lefts rights words = false
-takesRows (Weighed weights) T lefts rights words = false
+abbrev pub takes_rows : Rule → ℕ → ℕ → ℕ → ℕ → Bool
+takes_rows Merge T lefts rights words = leb (words_for T lefts rights) words
+takes_rows Check T lefts rights words = false
+takes_rows (Weighed weights) T lefts rights words = false

@@ -1,14 +1,14 @@
 // The set containment join, which document 01 calls the run: its tests (`validate`), the index, the walk, its answer
 // (`join_check::tally_answer`) and the pair list (`output`). The same with the rule as a number is for the C boundary.
 ghost use Rattle.std.specs.Prelude.{◌≡◌, length};
-ghost use Rattle.sets.specs.Collections.{setsOf};
-ghost use Rattle.join_spec.specs.PairList.{pairList};
-ghost use Rattle.inputs.specs.Input.{input_of, lentInput};
-ghost use Rattle.join_spec.specs.Query.{settingsOf, queryOf};
-ghost use Rattle.join_spec.specs.Answer.{roomOf, walkAnswer, pairsAfter, JoinCall, RunCall};
+ghost use Rattle.sets.specs.Collections.{sets_of};
+ghost use Rattle.join_spec.specs.PairList.{pair_list};
+ghost use Rattle.inputs.specs.Input.{input_of, lent_input};
+ghost use Rattle.join_spec.specs.Query.{settings_of, query_of};
+ghost use Rattle.join_spec.specs.Answer.{room_of, walk_answer, pairs_after, JoinCall, RunCall};
 ghost use Rattle.merge_rows.specs.Merging.{Sizes};
-ghost use Rattle.join.specs.Ready.{Accepted, takesRows};
-ghost use Rattle.join.specs.Numbered.{ruleOf, numberedAnswer};
+ghost use Rattle.join.specs.Ready.{Accepted, takes_rows};
+ghost use Rattle.join.specs.Numbered.{rule_of, numbered_answer};
 
 use crate::output::write_answer;
 use crate::validate::{test_join, test_rule};
@@ -41,12 +41,12 @@ fn walk_sets(
 ) -> JoinAnswer
     requires { Accepted (input_of t left_ends.now left_items.now right_ends.now right_items.now)
         limit ranks.now work.old }
-    ensures answer { result ≡ walkAnswer
-        (queryOf (lentInput t left_ends left_items right_ends right_items)
-        (settingsOf limit ranks.now budget rule)) budget (length pairs.old) }
-    ensures pairs { pairs.new ≡ pairsAfter result
-        (pairList (setsOf left_ends.now left_items.now)
-        (setsOf right_ends.now right_items.now)) pairs.old }
+    ensures answer { result ≡ walk_answer
+        (query_of (lent_input t left_ends left_items right_ends right_items)
+        (settings_of limit ranks.now budget rule)) budget (length pairs.old) }
+    ensures pairs { pairs.new ≡ pairs_after result
+        (pair_list (sets_of left_ends.now left_items.now)
+        (sets_of right_ends.now right_items.now)) pairs.old }
 {
     let lefts = left_ends.len();
     let lay = build(
@@ -75,7 +75,7 @@ fn walk_sets(
 // Whether the left sets are settled one by one over bit rows: under Merge, where the rows of so many items and sets fit so many words.
 fn takes_rows(rule: Rule, t: u32, lefts: usize, rights: usize, words: usize) -> bool
     requires { Sizes t lefts rights }
-    ensures { result ≡ takesRows rule t lefts rights words }
+    ensures { result ≡ takes_rows rule t lefts rights words }
 {
     match rule {
         Rule::Merge => rows_fit(t, lefts, rights, words),
@@ -100,12 +100,12 @@ fn join_ready(
 ) -> JoinAnswer
     requires { Accepted (input_of t left_ends.now left_items.now right_ends.now right_items.now)
         limit ranks.now work.old }
-    ensures answer { result ≡ walkAnswer
-        (queryOf (lentInput t left_ends left_items right_ends right_items)
-        (settingsOf limit ranks.now budget rule)) budget (length pairs.old) }
-    ensures pairs { pairs.new ≡ pairsAfter result
-        (pairList (setsOf left_ends.now left_items.now)
-        (setsOf right_ends.now right_items.now)) pairs.old }
+    ensures answer { result ≡ walk_answer
+        (query_of (lent_input t left_ends left_items right_ends right_items)
+        (settings_of limit ranks.now budget rule)) budget (length pairs.old) }
+    ensures pairs { pairs.new ≡ pairs_after result
+        (pair_list (sets_of left_ends.now left_items.now)
+        (sets_of right_ends.now right_items.now)) pairs.old }
 {
     let rows = takes_rows(rule, t, left_ends.len(), right_ends.len(), work.len());
     if rows {
@@ -153,8 +153,8 @@ pub fn run(
     pairs: &mut [u16],
 ) -> JoinAnswer
     ensures { RunCall
-        (lentInput t left_ends left_items right_ends right_items)
-        (settingsOf limit ranks.now budget rule)
+        (lent_input t left_ends left_items right_ends right_items)
+        (settings_of limit ranks.now budget rule)
         work.old pairs.old work.new pairs.new result }
 {
     let words = work.len();
@@ -188,7 +188,7 @@ pub fn run(
 
 // The rule of a number: 0 Merge, 1 Check, else Weighed.
 fn rule_of(number: u32, weights: Weights) -> Rule
-    ensures { result ≡ ruleOf number weights }
+    ensures { result ≡ rule_of number weights }
 {
     if number == 0 {
         return Rule::Merge;
@@ -214,10 +214,10 @@ pub fn run_numbered(
     work: &mut [u32],
     pairs: &mut [u16],
 ) -> JoinAnswer
-    ensures { JoinCall (numberedAnswer
-        (lentInput t left_ends left_items right_ends right_items)
-        limit ranks.now budget number weights (roomOf work.old pairs.old))
-        (lentInput t left_ends left_items right_ends right_items)
+    ensures { JoinCall (numbered_answer
+        (lent_input t left_ends left_items right_ends right_items)
+        limit ranks.now budget number weights (room_of work.old pairs.old))
+        (lent_input t left_ends left_items right_ends right_items)
         work.old pairs.old work.new pairs.new result }
 {
     let tested = test_rule(number);

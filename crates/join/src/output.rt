@@ -1,8 +1,8 @@
 // The pair list after a walk, by the join's answer: its pairs, or zeros.
 ghost use Rattle.std.specs.Prelude.{◌≡◌};
-ghost use Rattle.join_spec.specs.PairList.{pairList};
+ghost use Rattle.join_spec.specs.PairList.{pair_list};
 ghost use Rattle.join_spec.specs.Query.{Query};
-ghost use Rattle.join_spec.specs.Answer.{pairsAfter};
+ghost use Rattle.join_spec.specs.Answer.{pairs_after};
 ghost use Rattle.words.specs.flags.Flags.{Clear};
 ghost use Rattle.join_index.specs.Asking.{SomeQuery};
 ghost use Rattle.join.specs.output.Output.{AnswerRoom};
@@ -24,7 +24,7 @@ pub fn write_answer(
     requires some_query { SomeQuery (λ q. AnswerRoom lay q work.old lefts answer pairs.old) }
     requires clear { Clear flags.old }
     ensures { (q : Query) → AnswerRoom lay q work.old lefts answer pairs.old
-        → pairs.new ≡ pairsAfter answer (pairList q.lefts q.rights) pairs.old }
+        → pairs.new ≡ pairs_after answer (pair_list q.lefts q.rights) pairs.old }
 {
     match answer {
         JoinAnswer::Joined(_) => write_pairs(work, flags, lay, lefts, pairs),

@@ -1,9 +1,9 @@
 // The tests of a join before its walk, in the table's order: settings, sets of each side, work list. And the test of a rule's number.
 ghost use Rattle.std.specs.Prelude.{◌≡◌, ltb};
-ghost use Rattle.sets.specs.Refusals.{refuseIf};
+ghost use Rattle.sets.specs.Refusals.{refuse_if};
 ghost use Rattle.sets.specs.declared.Refusal.TheVariants.{BadSettings};
-ghost use Rattle.inputs.specs.Input.{lentInput};
-ghost use Rattle.join_spec.specs.Answer.{badSettings, joinTests};
+ghost use Rattle.inputs.specs.Input.{lent_input};
+ghost use Rattle.join_spec.specs.Answer.{bad_settings, join_tests};
 
 use inputs::{test_sets, test_work};
 use sets::{MAX_ITEMS, MAX_LIMIT, Refusal, Tested};
@@ -11,7 +11,7 @@ use validation::permutations::is_permutation;
 
 // Whether T, a limit or a rank table is refused.
 fn bad_settings(t: u32, limit: u32, ranks: &[u16]) -> bool
-    ensures { result ≡ badSettings t limit ranks.now }
+    ensures { result ≡ bad_settings t limit ranks.now }
 {
     if MAX_ITEMS < t {
         return true;
@@ -36,7 +36,7 @@ pub fn test_join(
     ranks: &[u16],
     words: usize,
 ) -> Tested
-    ensures { result ≡ joinTests (lentInput t left_ends left_items right_ends right_items) limit
+    ensures { result ≡ join_tests (lent_input t left_ends left_items right_ends right_items) limit
         ranks.now words }
 {
     if bad_settings(t, limit, ranks) {
@@ -51,7 +51,7 @@ pub fn test_join(
 
 // The test of a rule's number: one above 2 is a bad setting.
 pub fn test_rule(number: u32) -> Tested
-    ensures { result ≡ refuseIf (ltb 2 number) BadSettings }
+    ensures { result ≡ refuse_if (ltb 2 number) BadSettings }
 {
     if 2 < number {
         return Tested::Failed(Refusal::BadSettings);

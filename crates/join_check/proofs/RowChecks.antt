@@ -6,48 +6,48 @@ use mathlib.Core.List.{List}
 use mathlib.Core.Bool.{Bool, true, false, cond}
 use native.Mathlib.Omega.{arith}
 use Rattle.lists.specs.Lists.{one, slice}
-use Rattle.lists.proofs.Bools.{by-test, true-false, refuted}
+use Rattle.lists.proofs.Bools.{by_test, true-false, refuted}
 use Rattle.sets.specs.Collections.{contained}
 use Rattle.sets.specs.Signatures.{signature, drops}
-use Rattle.sets.proofs.Signatures.{contained-not-dropped}
+use Rattle.sets.proofs.Signatures.{contained_not_dropped}
 use Rattle.join_spec.specs.Query.{Query}
-use Rattle.join_spec.specs.Walk.{Outcome, falseDrop, confirmed, check}
-use Rattle.join_spec.specs.Counting.{isConfirmed}
+use Rattle.join_spec.specs.Walk.{Outcome, false_drop, confirmed, check}
+use Rattle.join_spec.specs.Counting.{is_confirmed}
 use Rattle.join_index.specs.declared.Layout.{Layout}
 use Rattle.join_check.specs.declared.Tally.{Tally}
 use Rattle.join_check.specs.declared.Probe.{Probe}
 use Rattle.words.specs.Words.{Word}
-use Rattle.join_check.specs.Checks.{checkAt, rowCount, RowThere, RowChecked}
-use Rattle.join_check.specs.Counters.{checksIn}
+use Rattle.join_check.specs.Checks.{check_at, row_count, RowThere, RowChecked}
+use Rattle.join_check.specs.Counters.{checks_in}
 use Rattle.join_check.specs.Probes.{Probed, OneChecked}
-use Rattle.join_index.proofs.Places.{place-right, count_past, count_next}
-use Rattle.join_check.proofs.Tallying.{Leaving, leaving-start, leaving-step, leaving-end, probe-check}
+use Rattle.join_index.proofs.Places.{place_right, count_past, count_next}
+use Rattle.join_check.proofs.Tallying.{Leaving, leaving_start, leaving_step, leaving_end, probe_check}
 
 -- a check confirms exactly what is contained, since a right set that contains a left set has all bits of its signature
-pub check-confirmed : (left right : List ℕ) → isConfirmed (check left right) ≡ contained left right
+pub check-confirmed : (left right : List ℕ) → is_confirmed (check left right) ≡ contained left right
 check-confirmed left right =
-    by-test (drops (signature left) (signature right))
-    (λ e. rw e (sym (refuted (contained left right) (λ yes. true-false e (contained-not-dropped left right yes)))))
+    by_test (drops (signature left) (signature right))
+    (λ e. rw e (sym (refuted (contained left right) (λ yes. true-false e (contained_not_dropped left right yes)))))
     (λ e. rw e (told (contained left right)))
   where
-    told : (b : Bool) → isConfirmed (cond b confirmed falseDrop) ≡ b
+    told : (b : Bool) → is_confirmed (cond b confirmed false_drop) ≡ b
     told true = refl
     told false = refl
 
 pub record RowChecking (lay : Layout) (w : List ℕ) (k e from to : ℕ) (tally r : Tally) (i : ℕ) : Type 0 where
   pub low : from ≤ i
-  pub grown : checksIn r + (to - i) ≡ checksIn tally + (to - from)
+  pub grown : checks_in r + (to - i) ≡ checks_in tally + (to - from)
   pub tallied :
       (q : Query) → RowThere lay q w k e from to
-      → Leaving (λ is. rowCount q is (slice i to w) k) (λ is. rowCount q is (slice from to w) k) tally r
+      → Leaving (λ is. row_count q is (slice i to w) k) (λ is. row_count q is (slice from to w) k) tally r
 
 module _ {lay : Layout} {w : List ℕ} {k e from to : ℕ} {tally : Tally} where
-  pub row-start : RowChecking lay w k e from to tally tally from
-  row-start =
+  pub row_start : RowChecking lay w k e from to tally tally from
+  row_start =
       record {
         low = omega arith;
         grown = refl;
-        tallied = λ q there. leaving-start (λ is. rowCount q is (slice from to w) k) tally;
+        tallied = λ q there. leaving_start (λ is. row_count q is (slice from to w) k) tally;
       }
 
   module _ {r : Tally} {i : ℕ} (so : RowChecking lay w k e from to tally r i) where
@@ -58,20 +58,20 @@ module _ {lay : Layout} {w : List ℕ} {k e from to : ℕ} {tally : Tally} where
           low = omega (arith, so.low);
           grown = omega (arith, so.grown, one_more.grown);
           tallied = λ q there.
-              leaving-step (so.tallied q there) {later = λ is. rowCount q is (slice (i + 1) to w) k}
-              (one_more.tallied q (place-right there.places i s so.low more word))
+              leaving_step (so.tallied q there) {later = λ is. row_count q is (slice (i + 1) to w) k}
+              (one_more.tallied q (place_right there.places i s so.low more word))
               (λ is.
-              count_next (λ (x : ℕ). is (checkAt q k x)) w i to more there.places.within
-              ∙ ap (λ (n : ℕ). n + rowCount q is (slice (i + 1) to w) k)
-              (ap (λ (x : ℕ). one (is (checkAt q k x))) (sym word.is)
+              count_next (λ (x : ℕ). is (check_at q k x)) w i to more there.places.within
+              ∙ ap (λ (n : ℕ). n + row_count q is (slice (i + 1) to w) k)
+              (ap (λ (x : ℕ). one (is (check_at q k x))) (sym word.is)
               ∙ ap (λ (o : Outcome). one (is o)) (sym
-              (probe-check there (probed.is q there.left) i s so.low more word))));
+              (probe_check there (probed.is q there.left) i s so.low more word))));
         }
 
-    pub row-end : to ≤ i → RowChecked lay w k e from to tally r
-    row-end past =
+    pub row_end : to ≤ i → RowChecked lay w k e from to tally r
+    row_end past =
         record {
           grown = omega (arith, so.grown);
           tallied = λ q there.
-              leaving-end (so.tallied q there) (λ is. count_past (λ (s : ℕ). is (checkAt q k s)) w i to past);
+              leaving_end (so.tallied q there) (λ is. count_past (λ (s : ℕ). is (check_at q k s)) w i to past);
         }

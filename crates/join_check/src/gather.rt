@@ -1,10 +1,10 @@
 // All left sets below a node, gathered by the tree and checked against each of its candidates. The work list is read by its layout.
 
 ghost use Rattle.std.specs.Prelude.{◌+◌, ◌-◌, ◌*◌, ◌<◌};
-ghost use Rattle.sets.specs.Limits.{fullWords};
+ghost use Rattle.sets.specs.Limits.{full_words};
 ghost use Rattle.join_index.specs.Asking.{SomeQuery, RangeThere};
 ghost use Rattle.join_check.specs.Checks.{RangesThere, RangesChecked};
-ghost use Rattle.join_check.specs.Counters.{checksIn};
+ghost use Rattle.join_check.specs.Counters.{checks_in};
 
 use crate::keys::{key_at, longest_range, range_end};
 use crate::{Tally, check_row};
@@ -23,7 +23,7 @@ pub fn check_range(
     tally: Tally,
 ) -> Tally
     requires some_query { SomeQuery (λ q. RangesThere lay q work.now e lo hi from to) }
-    requires from_bound { checksIn tally + (hi - lo) * (to - from) < fullWords }
+    requires from_bound { checks_in tally + (hi - lo) * (to - from) < full_words }
     ensures { RangesChecked lay work.now e lo hi from to tally result }
 {
     let order = lay.left_order;
@@ -68,7 +68,7 @@ pub fn gather(
     tally: Tally,
 ) -> Tally
     requires some_query { SomeQuery (λ q. RangesThere lay q work.now e lo hi from to) }
-    requires from_bound { checksIn tally + (hi - lo) * (to - from) < fullWords }
+    requires from_bound { checks_in tally + (hi - lo) * (to - from) < full_words }
     ensures { RangesChecked lay work.now e lo hi from to tally result }
 {
     let mut r = tally;
@@ -107,7 +107,7 @@ fn gather_children(
 ) -> Tally
     requires d_lt_limit { d < limit }
     requires some_query { SomeQuery (λ q. RangesThere lay q work.now e lo hi from to) }
-    requires from_bound { checksIn tally + (hi - lo) * (to - from) < fullWords }
+    requires from_bound { checks_in tally + (hi - lo) * (to - from) < full_words }
     ensures { RangesChecked lay work.now e lo hi from to tally result }
 {
     let mut r = tally;

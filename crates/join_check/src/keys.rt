@@ -3,9 +3,9 @@
 // layout.
 ghost use Rattle.std.specs.Prelude.{◌≡◌, [], false, cond, ◌-◌, ◌≤◌, ltb};
 ghost use Rattle.join_spec.specs.Query.{Query};
-ghost use Rattle.join_index.specs.Ground.{invertedList};
+ghost use Rattle.join_index.specs.Ground.{inverted_list};
 ghost use Rattle.join_index.specs.Asking.{SomeQuery, RankThere, LeftThere, RangeThere, RightThere, PlacesThere};
-ghost use Rattle.join_index.specs.Grouping.{key_at, rightAt};
+ghost use Rattle.join_index.specs.Grouping.{key_at, right_at};
 ghost use Rattle.join_index.specs.Ranges.{RangeEnd};
 ghost use Rattle.lists.specs.Lists.{count, slice};
 ghost use Rattle.join_spec.specs.Node.{seen};
@@ -17,7 +17,7 @@ use words::{number, word_at};
 // Whether a right set holds the rank r.
 pub fn is_held(work: &[u32], lay: Layout, r: usize) -> bool
     requires { SomeQuery (λ q. RankThere lay q work.now r) }
-    ensures { (q : Query) → RankThere lay q work.now r → result ≡ false → invertedList q r ≡ [] }
+    ensures { (q : Query) → RankThere lay q work.now r → result ≡ false → inverted_list q r ≡ [] }
 {
     let offsets = lay.offsets;
     word_at(work, offsets + r) < word_at(work, offsets + r + 1)
@@ -60,7 +60,7 @@ pub fn range_end(work: &[u32], lay: Layout, d: usize, i: usize, hi: usize) -> us
 // Whether the right set s is seen.
 fn is_seen(work: &[u32], lay: Layout, s: usize, r: usize) -> bool
     requires { SomeQuery (λ q. RightThere lay q work.now s) }
-    ensures { (q : Query) → RightThere lay q work.now s → result ≡ seen r (rightAt q s) }
+    ensures { (q : Query) → RightThere lay q work.now s → result ≡ seen r (right_at q s) }
 {
     let starts = lay.right_starts;
     let ranks = lay.right_ranks;
@@ -77,7 +77,7 @@ fn is_seen(work: &[u32], lay: Layout, s: usize, r: usize) -> bool
 pub fn count_seen(work: &[u32], lay: Layout, from: usize, to: usize, r: usize) -> usize
     requires { SomeQuery (λ q. PlacesThere lay q work.now from to) }
     ensures { (q : Query) → PlacesThere lay q work.now from to
-        → result ≡ count (λ s. seen r (rightAt q s)) (slice from to work.now) }
+        → result ≡ count (λ s. seen r (right_at q s)) (slice from to work.now) }
 {
     let mut n: usize = 0;
     let mut i = from;

@@ -1,13 +1,13 @@
 // The checks of left sets against right sets, and the counters that they raise. `keys` reads what parts the left sets off the index;
 // `gather` checks a whole subtree; `tally_answer` makes the answer of a join from the counters. The work list is read by its layout.
 ghost use Rattle.std.specs.Prelude.{◌≡◌, ◌+◌, ◌-◌, ◌*◌, ◌<◌};
-ghost use Rattle.sets.specs.Limits.{fullWords};
+ghost use Rattle.sets.specs.Limits.{full_words};
 ghost use Rattle.words.specs.Merges.{Rising};
 ghost use Rattle.join_spec.specs.Query.{Query};
 ghost use Rattle.join_index.specs.Asking.{SomeQuery, LeftThere, RightThere};
 ghost use Rattle.join_check.specs.Checks.{RowThere, RowChecked};
-ghost use Rattle.join_check.specs.Counters.{checksIn};
-ghost use Rattle.join_check.specs.Probes.{Probed, outcomeOf, probeOutcome, OneChecked};
+ghost use Rattle.join_check.specs.Counters.{checks_in};
+ghost use Rattle.join_check.specs.Probes.{Probed, outcome_of, probe_outcome, OneChecked};
 
 use join_index::Layout;
 use signatures::double_at;
@@ -90,7 +90,7 @@ pub fn check_probe(work: &[u32], lay: Layout, p: Probe, s: usize) -> Checked
     requires some_query { SomeQuery (λ q. RightThere lay q work.now s) }
     requires rising { Rising p.from p.to work.now }
     ensures { (q : Query) → RightThere lay q work.now s
-        → outcomeOf result ≡ probeOutcome q work.now p s }
+        → outcome_of result ≡ probe_outcome q work.now p s }
 {
     let starts = lay.right_starts;
     let ranks = lay.right_ranks;
@@ -113,7 +113,7 @@ pub fn check_probe(work: &[u32], lay: Layout, p: Probe, s: usize) -> Checked
 pub fn check_one(work: &[u32], lay: Layout, p: Probe, s: usize, tally: Tally) -> Tally
     requires some_query { SomeQuery (λ q. RightThere lay q work.now s) }
     requires rising { Rising p.from p.to work.now }
-    requires tally_bound { checksIn tally + 1 < fullWords }
+    requires tally_bound { checks_in tally + 1 < full_words }
     ensures { OneChecked lay work.now p s tally result }
 {
     let end = check_probe(work, lay, p, s);
@@ -150,7 +150,7 @@ pub fn check_row(
     tally: Tally,
 ) -> Tally
     requires some_query { SomeQuery (λ q. RowThere lay q work.now k e from to) }
-    requires from_bound { checksIn tally + (to - from) < fullWords }
+    requires from_bound { checks_in tally + (to - from) < full_words }
     ensures { RowChecked lay work.now k e from to tally result }
 {
     let p = probe_left(work, lay, k, e);

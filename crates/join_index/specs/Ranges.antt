@@ -17,12 +17,12 @@ lead p [] = 0
 lead p (x ∷ xs) = further (p x) (lead p xs)
 
 -- the left set at a place of the order
-abbrev pub leftIn : Layout → List ℕ → ℕ → ℕ
-leftIn lay w i = get_or w (lay.left_order + i) 0
+abbrev pub left_in : Layout → List ℕ → ℕ → ℕ
+left_in lay w i = get_or w (lay.left_order + i) 0
 
 -- the left sets in left_order[i..hi]
-abbrev pub leftsIn : Layout → List ℕ → ℕ → ℕ → List ℕ
-leftsIn lay w i hi = slice (lay.left_order + i) (lay.left_order + hi) w
+abbrev pub lefts_in : Layout → List ℕ → ℕ → ℕ → List ℕ
+lefts_in lay w i hi = slice (lay.left_order + i) (lay.left_order + hi) w
 
 -- r is where the range of left_order[i..hi] ends that begins at i, of left sets with the same key at depth d
 pub record RangeEnd (lay : Layout) (w : List ℕ) (d i hi r : ℕ) : Type 0 where
@@ -30,4 +30,4 @@ pub record RangeEnd (lay : Layout) (w : List ℕ) (d i hi r : ℕ) : Type 0 wher
   pub within : r ≤ hi
   pub maximal :
       (q : Query) → RangeThere lay q w i hi
-      → r ≡ i + lead (λ k. eqb (key_at q d k) (key_at q d (leftIn lay w i))) (leftsIn lay w i hi)
+      → r ≡ i + lead (λ k. eqb (key_at q d k) (key_at q d (left_in lay w i))) (lefts_in lay w i hi)

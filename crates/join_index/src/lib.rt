@@ -4,7 +4,7 @@
 // all.
 
 ghost use Rattle.std.specs.Prelude.{◌≡◌};
-ghost use Rattle.join_index.specs.Ground.{asksSeen};
+ghost use Rattle.join_index.specs.Ground.{asks_seen};
 
 use join_spec::Rule;
 
@@ -49,7 +49,7 @@ pub struct Layout {
 
 // Whether a rule asks which right sets are seen: all but the one that always goes on.
 pub fn asks_seen(rule: Rule) -> bool
-    ensures { result ≡ asksSeen rule }
+    ensures { result ≡ asks_seen rule }
 {
     match rule {
         Rule::Merge => false,

@@ -12,135 +12,135 @@ use Rattle.lists.specs.Lists.{count, keep, prefix}
 use Rattle.lists.proofs.Counting.{count_none, count_same, count_map}
 use Rattle.lists.proofs.Filtering.{count-keep, sum-keep}
 use Rattle.lists.proofs.Summing.{sum_same}
-use Rattle.sets.specs.Collections.{hasItem, contained}
-use Rattle.sets.proofs.Ordered.{ordered-nil}
-use Rattle.sets.proofs.Containment.{contained-none}
-use Rattle.inputs.specs.Input.{Input, leftSets, rightSets}
+use Rattle.sets.specs.Collections.{has_item, contained}
+use Rattle.sets.proofs.Ordered.{ordered_nil}
+use Rattle.sets.proofs.Containment.{contained_none}
+use Rattle.inputs.specs.Input.{Input, left_sets, right_sets}
 use Rattle.join_spec.specs.declared.Counts.{Counts}
 use Rattle.join_spec.specs.declared.JoinAnswer.TheVariants.{Joined}
-use Rattle.join_spec.specs.PairList.{countPairs, pairCount}
-use Rattle.join_spec.specs.Query.{Settings, Query, queryOf, inOrder}
-use Rattle.join_spec.specs.Node.{goesOn, goesOnAt, candidates, holders, beginning}
-use Rattle.join_spec.specs.Walk.{Ending, ending, endingFrom, goes, endingIn}
-use Rattle.join_spec.specs.Walk.{Outcome, notMet, byPath, check, outcomeAfter, outcome}
+use Rattle.join_spec.specs.PairList.{count_pairs, pair_count}
+use Rattle.join_spec.specs.Query.{Settings, Query, query_of, in_order}
+use Rattle.join_spec.specs.Node.{goes_on, goes_on_at, candidates, holders, beginning}
+use Rattle.join_spec.specs.Walk.{Ending, ending, ending_from, goes, ending_in}
+use Rattle.join_spec.specs.Walk.{Outcome, not_met, by_path, check, outcome_after, outcome}
 use Rattle.join_spec.specs.Answer.{RunCall}
-use Rattle.join_spec.specs.Counting.{total, isByPath, isConfirmed, isCheck, isDropped, isFalse, countsOf}
-use Rattle.join_spec.proofs.Outcomes.{outcome-ended}
-use Rattle.join_spec.proofs.PairListLaws.{pairOccurs}
-use Rattle.join_spec.proofs.Calls.{call-once, call-counts}
+use Rattle.join_spec.specs.Counting.{total, is_by_path, is_confirmed, is_check, is_dropped, is_false, counts_of}
+use Rattle.join_spec.proofs.Outcomes.{outcome_ended}
+use Rattle.join_spec.proofs.PairListLaws.{pair_occurs}
+use Rattle.join_spec.proofs.Calls.{call_once, call_counts}
 
 -- a query without its empty left sets
-pub withoutEmpty : Query → Query
-withoutEmpty q =
+pub without_empty : Query → Query
+without_empty q =
     record {
       T = q.T;
       ranks = q.ranks;
       limit = q.limit;
       rule = q.rule;
-      lefts = keep hasItem q.lefts;
+      lefts = keep has_item q.lefts;
       rights = q.rights;
     }
 
 -- an empty left set meets no right set
-pub outcome-empty : (q : Query) (right : List ℕ) → outcome q [] right ≡ notMet
-outcome-empty q right = outcome-ended q [] right (ordered-nil q.T q.ranks)
+pub outcome_empty : (q : Query) (right : List ℕ) → outcome q [] right ≡ not_met
+outcome_empty q right = outcome_ended q [] right (ordered_nil q.T q.ranks)
 
 -- a set with a first item has one
-some : (i : ℕ) (items : List ℕ) → hasItem (i ∷ items) ≡ true
+some : (i : ℕ) (items : List ℕ) → has_item (i ∷ items) ≡ true
 some i items = lt-ltb 0 (length (i ∷ items)) (omega arith)
 
 module _ (q : Query) where
   -- no empty left set begins with a path
-  same-beginning : (r : ℕ) (path : List ℕ)
-      → beginning (map (inOrder q) (keep hasItem q.lefts)) (r ∷ path) ≡ beginning (map (inOrder q) q.lefts) (r ∷ path)
-  same-beginning r path =
-      count_map (inOrder q) (prefix (r ∷ path)) (keep hasItem q.lefts)
-      ∙ count-keep hasItem (λ left. prefix (r ∷ path) (inOrder q left)) q.lefts
-      ∙ count_same (λ left. hasItem left && prefix (r ∷ path) (inOrder q left)) (λ left. prefix (r ∷ path) (inOrder q left)) q.lefts
+  same_beginning : (r : ℕ) (path : List ℕ)
+      → beginning (map (in_order q) (keep has_item q.lefts)) (r ∷ path) ≡ beginning (map (in_order q) q.lefts) (r ∷ path)
+  same_beginning r path =
+      count_map (in_order q) (prefix (r ∷ path)) (keep has_item q.lefts)
+      ∙ count-keep has_item (λ left. prefix (r ∷ path) (in_order q left)) q.lefts
+      ∙ count_same (λ left. has_item left && prefix (r ∷ path) (in_order q left)) (λ left. prefix (r ∷ path) (in_order q left)) q.lefts
       begins
-      ∙ sym (count_map (inOrder q) (prefix (r ∷ path)) q.lefts)
+      ∙ sym (count_map (in_order q) (prefix (r ∷ path)) q.lefts)
     where
-      begins : (left : List ℕ) → (hasItem left && prefix (r ∷ path) (inOrder q left)) ≡ prefix (r ∷ path) (inOrder q left)
-      begins [] = unfold prefix in rw (ordered-nil q.T q.ranks) refl
+      begins : (left : List ℕ) → (has_item left && prefix (r ∷ path) (in_order q left)) ≡ prefix (r ∷ path) (in_order q left)
+      begins [] = unfold prefix in rw (ordered_nil q.T q.ranks) refl
       begins (i ∷ items) = rw (some i items) refl
 
   -- so the rule decides the same at every node
-  same-goes : (r : ℕ) (path : List ℕ) → goes (withoutEmpty q) (r ∷ path) ≡ goes q (r ∷ path)
-  unfolding goes goesOnAt withoutEmpty
-  same-goes r path =
+  same_goes : (r : ℕ) (path : List ℕ) → goes (without_empty q) (r ∷ path) ≡ goes q (r ∷ path)
+  unfolding goes goes_on_at without_empty
+  same_goes r path =
       ap
-      (goesOn q.rule (candidates (map (inOrder q) q.rights) (r ∷ path)) (holders (map (inOrder q) q.rights) (r ∷ path)))
-      (same-beginning r path)
+      (goes_on q.rule (candidates (map (in_order q) q.rights) (r ∷ path)) (holders (map (in_order q) q.rights) (r ∷ path)))
+      (same_beginning r path)
 
 -- and a left set ends alike under rules that decide alike at every node
 module _ (goes other : List ℕ → Bool) (same : (r : ℕ) (path : List ℕ) → goes (r ∷ path) ≡ other (r ∷ path)) where
-  ending-from : (n d r : ℕ) (ranks : List ℕ) → endingFrom goes n (suc d) (r ∷ ranks) ≡ endingFrom other n (suc d) (r ∷ ranks)
-  unfolding endingFrom
-  ending-from zero d r ranks = rw (same r (take d ranks)) refl
-  ending-from (suc n) d r ranks = rw (same r (take d ranks), ending-from n (suc d) r ranks) refl
+  ending_from_lem : (n d r : ℕ) (ranks : List ℕ) → ending_from goes n (suc d) (r ∷ ranks) ≡ ending_from other n (suc d) (r ∷ ranks)
+  unfolding ending_from
+  ending_from_lem zero d r ranks = rw (same r (take d ranks)) refl
+  ending_from_lem (suc n) d r ranks = rw (same r (take d ranks), ending_from_lem n (suc d) r ranks) refl
 
-  ending-same : (limit : ℕ) (ranks : List ℕ) → ending goes limit ranks ≡ ending other limit ranks
+  ending_same : (limit : ℕ) (ranks : List ℕ) → ending goes limit ranks ≡ ending other limit ranks
   unfolding ending
-  ending-same limit [] = refl
-  ending-same limit (r ∷ ranks) = ending-from (limit - 1) 0 r ranks
+  ending_same limit [] = refl
+  ending_same limit (r ∷ ranks) = ending_from_lem (limit - 1) 0 r ranks
 
 -- so each left set becomes the same
-outcome-without : (q : Query) (left right : List ℕ) → outcome (withoutEmpty q) left right ≡ outcome q left right
-unfolding outcome endingIn withoutEmpty
-outcome-without q left right =
-    ap (λ (e : Ending). outcomeAfter e (inOrder q left) (inOrder q right) byPath (check left right))
-    (ending-same (goes (withoutEmpty q)) (goes q) (same-goes q) q.limit (inOrder q left))
+outcome_without : (q : Query) (left right : List ℕ) → outcome (without_empty q) left right ≡ outcome q left right
+unfolding outcome ending_in without_empty
+outcome_without q left right =
+    ap (λ (e : Ending). outcome_after e (in_order q left) (in_order q right) by_path (check left right))
+    (ending_same (goes (without_empty q)) (goes q) (same_goes q) q.limit (in_order q left))
 
 -- what is counted over left sets, where the empty ones add nothing
-count-without : (test : List ℕ → List ℕ → Bool) (lefts rights : List (List ℕ)) → ((right : List ℕ) → test [] right ≡ false)
-    → countPairs test (keep hasItem lefts) rights ≡ countPairs test lefts rights
-count-without test lefts rights none =
-    sum-keep (λ left. count (test left) rights) hasItem lefts
-    ∙ sum_same (λ left. cond (hasItem left) (count (test left) rights) 0) (λ left. count (test left) rights) lefts each
+count_without : (test : List ℕ → List ℕ → Bool) (lefts rights : List (List ℕ)) → ((right : List ℕ) → test [] right ≡ false)
+    → count_pairs test (keep has_item lefts) rights ≡ count_pairs test lefts rights
+count_without test lefts rights none =
+    sum-keep (λ left. count (test left) rights) has_item lefts
+    ∙ sum_same (λ left. cond (has_item left) (count (test left) rights) 0) (λ left. count (test left) rights) lefts each
   where
-    each : (left : List ℕ) → cond (hasItem left) (count (test left) rights) 0 ≡ count (test left) rights
+    each : (left : List ℕ) → cond (has_item left) (count (test left) rights) 0 ≡ count (test left) rights
     each [] = sym (count_none (test []) rights none)
     each (i ∷ items) = rw (some i items) refl
 
-total-without : (is : Outcome → Bool) → is notMet ≡ false → (q : Query) → total is (withoutEmpty q) ≡ total is q
-unfolding total withoutEmpty
-total-without is met q =
-    sum_same _ _ (keep hasItem q.lefts)
-    (λ left. count_same _ _ q.rights (λ right. ap is (outcome-without q left right)))
-    ∙ count-without (λ left right. is (outcome q left right)) q.lefts q.rights
-    (λ right. ap is (outcome-empty q right) ∙ met)
+total_without : (is : Outcome → Bool) → is not_met ≡ false → (q : Query) → total is (without_empty q) ≡ total is q
+unfolding total without_empty
+total_without is met q =
+    sum_same _ _ (keep has_item q.lefts)
+    (λ left. count_same _ _ q.rights (λ right. ap is (outcome_without q left right)))
+    ∙ count_without (λ left right. is (outcome q left right)) q.lefts q.rights
+    (λ right. ap is (outcome_empty q right) ∙ met)
 
 -- a query has the same six counts without its empty left sets
-counts-without : (q : Query) → countsOf (withoutEmpty q) ≡ countsOf q
-counts-without q =
+counts_without : (q : Query) → counts_of (without_empty q) ≡ counts_of q
+counts_without q =
     rw (
-      total-without isByPath refl q,
-      total-without isConfirmed refl q,
-      total-without isCheck refl q,
-      total-without isDropped refl q,
-      total-without isFalse refl q,
-      pairs-without,
+      total_without is_by_path refl q,
+      total_without is_confirmed refl q,
+      total_without is_check refl q,
+      total_without is_dropped refl q,
+      total_without is_false refl q,
+      pairs_without,
     )
     refl
   where
-    pairs-without : pairCount (withoutEmpty q).lefts (withoutEmpty q).rights ≡ pairCount q.lefts q.rights
-    pairs-without = unfold withoutEmpty in count-without contained q.lefts q.rights contained-none
+    pairs_without : pair_count (without_empty q).lefts (without_empty q).rights ≡ pair_count q.lefts q.rights
+    pairs_without = unfold without_empty in count_without contained q.lefts q.rights contained_none
 
 -- over what `run` promises of a call
 module _ (i : Input) (s : Settings) {counts : Counts} {work before work' after : List ℕ}
     (call : RunCall i s work before work' after (Joined counts)) where
   -- an empty left set is in no pair
-  pub empty-unpaired : (l r : ℕ) → get_or (leftSets i) l [] ≡ [] → pairOccurs l r (take (2 * counts.pairs) after) ≡ 0
-  empty-unpaired l r empty =
-      call-once i s call l r
+  pub empty_unpaired : (l r : ℕ) → get_or (left_sets i) l [] ≡ [] → pair_occurs l r (take (2 * counts.pairs) after) ≡ 0
+  empty_unpaired l r empty =
+      call_once i s call l r
       ∙ rw (
         empty,
-        contained-none (get_or (rightSets i) r []),
-        and-false (ltb r (length (rightSets i))),
-        and-false (ltb l (length (leftSets i))),
+        contained_none (get_or (right_sets i) r []),
+        and-false (ltb r (length (right_sets i))),
+        and-false (ltb l (length (left_sets i))),
       )
       refl
 
   -- and each count is that of the query without them
-  pub empty-uncounted : counts ≡ countsOf (withoutEmpty (queryOf i s))
-  empty-uncounted = call-counts i s call ∙ sym (counts-without (queryOf i s))
+  pub empty_uncounted : counts ≡ counts_of (without_empty (query_of i s))
+  empty_uncounted = call_counts i s call ∙ sym (counts_without (query_of i s))

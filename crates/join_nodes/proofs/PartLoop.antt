@@ -11,8 +11,8 @@ use Rattle.lists.proofs.Bools.{true-false}
 use Rattle.join_spec.specs.Query.{Query}
 use Rattle.join_index.specs.declared.Layout.{Layout}
 use Rattle.join_index.specs.Asking.{Index}
-use Rattle.join_index.specs.Ranges.{leftsIn}
-use Rattle.join_check.specs.Counters.{checksIn}
+use Rattle.join_index.specs.Ranges.{lefts_in}
+use Rattle.join_check.specs.Counters.{checks_in}
 use Rattle.kept_rows.specs.Kept.{RowsKept}
 use Rattle.join_index.proofs.Orders.{range_none}
 use Rattle.join_nodes.specs.Narrowing.{SomePath}
@@ -20,8 +20,8 @@ use Rattle.join_nodes.specs.Visiting.{Visited, RangeVisited}
 use Rattle.join_nodes.specs.declared.Progress.{Progress}
 use Rattle.join_nodes.specs.declared.Walked.{Walked}
 use Rattle.join_nodes.proofs.RangeLaws.{range_split}
-use Rattle.join_nodes.proofs.VisitLaws.{added_none, visited-then, visited-early}
-use Rattle.join_nodes.proofs.FrameLaws.{range-framed, framed-none, framed_then}
+use Rattle.join_nodes.proofs.VisitLaws.{added_none, visited_then, visited_early}
+use Rattle.join_nodes.proofs.FrameLaws.{range_framed, framed_none, framed_then}
 
 -- what remains to be visited, at depth d and up to place hi: with the words w, from place i on, the walk being at p. Only words from
 -- a path's slot on change
@@ -48,9 +48,9 @@ module _ (lay : Layout) (budget d hi : ℕ) (slot : List ℕ → List ℕ → �
         → RangeVisited lay q budget (slot path w) d w w' i hi p.tally one
         → RangeVisited lay q budget (slot path w₀) d w₀ w' lo hi p₀.tally one
 
-  pub continuing-start : {w : List ℕ} {lo : ℕ} {p : Progress} → SomePath (λ q path. Rest q path w lo p)
+  pub continuing_start : {w : List ℕ} {lo : ℕ} {p : Progress} → SomePath (λ q path. Rest q path w lo p)
       → Continuing w lo p w lo p
-  continuing-start some =
+  continuing_start some =
       record { some = some; size = refl; rest = λ q path left. left; whole = λ q path left w' one done. done }
 
 module _ {lay : Layout} {budget d hi : ℕ} {slot : List ℕ → List ℕ → ℕ} {Rest : Query → List ℕ → List ℕ → ℕ → Progress → Type 0}
@@ -59,9 +59,9 @@ module _ {lay : Layout} {budget d hi : ℕ} {slot : List ℕ → List ℕ → �
   -- a part, up to place j
   module _ {w' : List ℕ} {j : ℕ} {one : Walked} (low : i ≤ j) (high : j ≤ hi)
       (each : (q : Query) (path : List ℕ) → Rest q path w i p → PartDone lay budget d hi slot Rest q path w i p w' j one) where
-    pub continuing-step : length w' ≡ length w → one.spent ≡ false
+    pub continuing_step : length w' ≡ length w → one.spent ≡ false
         → Continuing lay budget d hi slot Rest w₀ lo p₀ w' j one.at
-    continuing-step same calm =
+    continuing_step same calm =
         record {
           some = record {
             query = so.some.query;
@@ -79,16 +79,16 @@ module _ {lay : Layout} {budget d hi : ℕ} {slot : List ℕ → List ℕ → �
                 visited =
                     subst (λ (l : List ℕ). Visited q budget d l p.tally two)
                     (sym (range_split lay q w i j hi known.index low high known.few))
-                    (visited-then (part.visit.visited.added calm)
+                    (visited_then (part.visit.visited.added calm)
                     (subst (λ (l : List ℕ). Visited q budget d l one.at.tally two)
-                    (range-framed known.index part.visit.framed known.slots j hi known.few) done.visited));
+                    (range_framed known.index part.visit.framed known.slots j hi known.few) done.visited));
                 rows = done.rows;
               });
         }
 
-    pub continuing-spent : one.spent ≡ true → (q : Query) (path : List ℕ) → Rest q path w₀ lo p₀
+    pub continuing_spent : one.spent ≡ true → (q : Query) (path : List ℕ) → Rest q path w₀ lo p₀
         → RangeVisited lay q budget (slot path w₀) d w₀ w' lo hi p₀.tally one
-    continuing-spent spent q path first =
+    continuing_spent spent q path first =
         let part = each q path (so.rest q path first) in
         let known = part.facts in
         so.whole q path first w' one
@@ -97,19 +97,19 @@ module _ {lay : Layout} {budget d hi : ℕ} {slot : List ℕ → List ℕ → �
           visited =
               subst (λ (l : List ℕ). Visited q budget d l p.tally one)
               (sym (range_split lay q w i j hi known.index low high known.few))
-              (visited-early (leftsIn lay w j hi) spent part.visit.visited);
+              (visited_early (lefts_in lay w j hi) spent part.visit.visited);
           rows = part.visit.rows;
         })
 
   -- no part remains
-  pub continuing-end : hi ≤ i → checksIn p.tally ≤ budget
+  pub continuing_end : hi ≤ i → checks_in p.tally ≤ budget
       → ((q : Query) (path : List ℕ) → Rest q path w i p → RowsKept lay q w p.top) → (q : Query) (path : List ℕ)
       → Rest q path w₀ lo p₀
       → RangeVisited lay q budget (slot path w₀) d w₀ w lo hi p₀.tally (record { at = p; spent = false })
-  continuing-end past covered kept q path first =
+  continuing_end past covered kept q path first =
       so.whole q path first w (record { at = p; spent = false })
       (record {
-        framed = framed-none (slot path w) w;
+        framed = framed_none (slot path w) w;
         visited = record {
           added = λ calm. added_none q d (range_none lay w i hi past);
           within = λ calm. covered;

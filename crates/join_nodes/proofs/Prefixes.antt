@@ -31,11 +31,11 @@ prefix-length (p ∷ ps) (x ∷ xs) e =
     let shorter : length ps ≤ length xs = prefix-length ps xs (and_right (eqb p x) (prefix ps xs) e) in omega arith
 
 -- the key of a list at a depth, as of a left set
-abbrev nextKey : List ℕ → ℕ → ℕ
-nextKey xs d = cond (leb (length xs) d) 0 (suc (get_or xs d 0))
+abbrev next_key : List ℕ → ℕ → ℕ
+next_key xs d = cond (leb (length xs) d) 0 (suc (get_or xs d 0))
 
 prefix-further : (path : List ℕ) (r : ℕ) (xs : List ℕ)
-    → prefix (path ++ (r ∷ [])) xs ≡ (prefix path xs && eqb (nextKey xs (length path)) (suc r))
+    → prefix (path ++ (r ∷ [])) xs ≡ (prefix path xs && eqb (next_key xs (length path)) (suc r))
 unfolding prefix
 prefix-further [] r [] = sym (eqb-zero-suc r)
 prefix-further [] r (x ∷ xs) =
@@ -44,7 +44,7 @@ prefix-further [] r (x ∷ xs) =
 prefix-further (p ∷ ps) r [] = refl
 prefix-further (p ∷ ps) r (x ∷ xs) =
     ap (λ (b : Bool). eqb p x && b) (prefix-further ps r xs)
-    ∙ sym (and_assoc (eqb p x) (prefix ps xs) (eqb (nextKey xs (length ps)) (suc r)))
+    ∙ sym (and_assoc (eqb p x) (prefix ps xs) (eqb (next_key xs (length ps)) (suc r)))
     ∙ sym (ap (λ (b : Bool). eqb p x && prefix ps xs && eqb (cond b 0 (suc (get_or xs (length ps) 0))) (suc r))
     (leb-suc-suc (length xs) (length ps)))
 

@@ -12,100 +12,100 @@ use lib.ListN.{length, take}
 use Rattle.lists.specs.Lists.{count, upto}
 use Rattle.lists.proofs.Counting.{count_same}
 use Rattle.join_spec.specs.Query.{Query}
-use Rattle.join_spec.specs.Walk.{Outcome, notMet, byPath, merged, checkedAfter, endingFrom, isCandidate, goes}
-use Rattle.join_index.specs.Grouping.{left_at, rightAt}
+use Rattle.join_spec.specs.Walk.{Outcome, not_met, by_path, merged, checked_after, ending_from, is_candidate, goes}
+use Rattle.join_index.specs.Grouping.{left_at, right_at}
 use Rattle.join_index.specs.Ground.{Listing}
-use Rattle.join_check.specs.Checks.{checkAt}
-use Rattle.join_nodes.specs.Rows.{outcomeFrom, row, pathPairs}
-use Rattle.join_nodes.proofs.PathLaws.{paths-one}
+use Rattle.join_check.specs.Checks.{check_at}
+use Rattle.join_nodes.specs.Rows.{outcome_from, row, path_pairs}
+use Rattle.join_nodes.proofs.PathLaws.{paths_one}
 
 -- a kind of outcome that a pair which is not met does not have
 abbrev pub MetOnly : (Outcome → Bool) → Type 0
-MetOnly is = is notMet ≡ false
+MetOnly is = is not_met ≡ false
 
 -- the test of an outcome under a condition
-is-cond : (is : Outcome → Bool) → MetOnly is → (b : Bool) (o : Outcome) → is (cond b o notMet) ≡ (b && is o)
-is-cond is met true o = refl
-is-cond is met false o = met
+is_cond : (is : Outcome → Bool) → MetOnly is → (b : Bool) (o : Outcome) → is (cond b o not_met) ≡ (b && is o)
+is_cond is met true o = refl
+is_cond is met false o = met
 
 module _ (q : Query) (d k : ℕ) where
   -- the ending where the walk does not go on
-  pub ending-stops : goes q (take d (left_at q k)) ≡ false
-      → endingFrom (goes q) (q.limit - d) d (left_at q k) ≡ checkedAfter (d - 1)
-  unfolding endingFrom
-  ending-stops stop = at (q.limit - d)
+  pub ending_stops : goes q (take d (left_at q k)) ≡ false
+      → ending_from (goes q) (q.limit - d) d (left_at q k) ≡ checked_after (d - 1)
+  unfolding ending_from
+  ending_stops stop = at (q.limit - d)
     where
-      at : (n : ℕ) → endingFrom (goes q) n d (left_at q k) ≡ checkedAfter (d - 1)
+      at : (n : ℕ) → ending_from (goes q) n d (left_at q k) ≡ checked_after (d - 1)
       at zero = rw stop
       at (suc n) = rw stop
 
   -- where it goes on and the left set ends
-  pub ending-merges : goes q (take d (left_at q k)) ≡ true → length (left_at q k) ≡ d
-      → endingFrom (goes q) (q.limit - d) d (left_at q k) ≡ merged
-  unfolding endingFrom
-  ending-merges on ends = at (q.limit - d)
+  pub ending_merges : goes q (take d (left_at q k)) ≡ true → length (left_at q k) ≡ d
+      → ending_from (goes q) (q.limit - d) d (left_at q k) ≡ merged
+  unfolding ending_from
+  ending_merges on ends = at (q.limit - d)
     where
-      at : (n : ℕ) → endingFrom (goes q) n d (left_at q k) ≡ merged
+      at : (n : ℕ) → ending_from (goes q) n d (left_at q k) ≡ merged
       at zero = rw (on, eq-eqb d (length (left_at q k)) (sym ends))
       at (suc n) = rw (on, eq-eqb d (length (left_at q k)) (sym ends))
 
   -- where it goes on at the limit and the left set is longer
-  pub ending-limit : goes q (take d (left_at q k)) ≡ true → d < length (left_at q k) → q.limit ≡ d
-      → endingFrom (goes q) (q.limit - d) d (left_at q k) ≡ checkedAfter d
-  unfolding endingFrom
-  ending-limit on longer last =
+  pub ending_limit : goes q (take d (left_at q k)) ≡ true → d < length (left_at q k) → q.limit ≡ d
+      → ending_from (goes q) (q.limit - d) d (left_at q k) ≡ checked_after d
+  unfolding ending_from
+  ending_limit on longer last =
       let none : q.limit - d ≡ 0 = omega arith in
       let other : eqb d (length (left_at q k)) ≡ false = ne_eqb d (length (left_at q k)) (λ e. omega arith) in
       rw (none, on, other)
 
   -- where it goes on below the limit and the left set is longer
-  pub ending-deeper : goes q (take d (left_at q k)) ≡ true → d < length (left_at q k) → d < q.limit
-      → endingFrom (goes q) (q.limit - d) d (left_at q k) ≡ endingFrom (goes q) (q.limit - suc d) (suc d) (left_at q k)
-  unfolding endingFrom
-  ending-deeper on longer below =
+  pub ending_deeper : goes q (take d (left_at q k)) ≡ true → d < length (left_at q k) → d < q.limit
+      → ending_from (goes q) (q.limit - d) d (left_at q k) ≡ ending_from (goes q) (q.limit - suc d) (suc d) (left_at q k)
+  unfolding ending_from
+  ending_deeper on longer below =
       let more : q.limit - d ≡ suc (q.limit - suc d) = omega arith in
       let other : eqb d (length (left_at q k)) ≡ false = ne_eqb d (length (left_at q k)) (λ e. omega arith) in
       rw (more, on, other)
 
   module _ (is : Outcome → Bool) (met : MetOnly is) where
     -- a row after so many merged ranks, over any list of the candidates
-    row-after : (e : ℕ) (list : List ℕ) → endingFrom (goes q) (q.limit - d) d (left_at q k) ≡ checkedAfter e
-        → Listing (length q.rights) (λ s. isCandidate e (left_at q k) (rightAt q s)) list
-        → row is q d k ≡ count (λ s. is (checkAt q k s)) list
-    unfolding row outcomeFrom
-    row-after e list ends listing =
-        count_same (λ s. is (outcomeFrom q d k s)) (λ s. isCandidate e (left_at q k) (rightAt q s) && is (checkAt q k s))
+    row_after : (e : ℕ) (list : List ℕ) → ending_from (goes q) (q.limit - d) d (left_at q k) ≡ checked_after e
+        → Listing (length q.rights) (λ s. is_candidate e (left_at q k) (right_at q s)) list
+        → row is q d k ≡ count (λ s. is (check_at q k s)) list
+    unfolding row outcome_from
+    row_after e list ends listing =
+        count_same (λ s. is (outcome_from q d k s)) (λ s. is_candidate e (left_at q k) (right_at q s) && is (check_at q k s))
         (upto (length q.rights))
-        (λ s. rw ends (is-cond is met (isCandidate e (left_at q k) (rightAt q s)) (checkAt q k s)))
-        ∙ sym (listing (λ s. is (checkAt q k s)))
+        (λ s. rw ends (is_cond is met (is_candidate e (left_at q k) (right_at q s)) (check_at q k s)))
+        ∙ sym (listing (λ s. is (check_at q k s)))
 
     -- not going on: checked against the candidates before the node
-    pub row-stops : (list : List ℕ) → goes q (take d (left_at q k)) ≡ false
-        → Listing (length q.rights) (λ s. isCandidate (d - 1) (left_at q k) (rightAt q s)) list
-        → row is q d k ≡ count (λ s. is (checkAt q k s)) list
-    row-stops list stop listing = row-after (d - 1) list (ending-stops stop) listing
+    pub row_stops : (list : List ℕ) → goes q (take d (left_at q k)) ≡ false
+        → Listing (length q.rights) (λ s. is_candidate (d - 1) (left_at q k) (right_at q s)) list
+        → row is q d k ≡ count (λ s. is (check_at q k s)) list
+    row_stops list stop listing = row_after (d - 1) list (ending_stops stop) listing
 
     -- going on at the limit: a longer left set is checked against the candidates after the node
-    pub row-limit : (list : List ℕ) → goes q (take d (left_at q k)) ≡ true → d < length (left_at q k) → q.limit ≡ d
-        → Listing (length q.rights) (λ s. isCandidate d (left_at q k) (rightAt q s)) list
-        → row is q d k ≡ count (λ s. is (checkAt q k s)) list
-    row-limit list on longer last listing = row-after d list (ending-limit on longer last) listing
+    pub row_limit : (list : List ℕ) → goes q (take d (left_at q k)) ≡ true → d < length (left_at q k) → q.limit ≡ d
+        → Listing (length q.rights) (λ s. is_candidate d (left_at q k) (right_at q s)) list
+        → row is q d k ≡ count (λ s. is (check_at q k s)) list
+    row_limit list on longer last listing = row_after d list (ending_limit on longer last) listing
 
     -- going on, and the left set ends: every candidate after the node comes by path
-    pub row-merges : (list : List ℕ) → goes q (take d (left_at q k)) ≡ true → length (left_at q k) ≡ d
-        → Listing (length q.rights) (λ s. isCandidate d (left_at q k) (rightAt q s)) list
-        → row is q d k ≡ pathPairs 1 (length list) is
-    unfolding row outcomeFrom
-    row-merges list on ends listing =
-        count_same (λ s. is (outcomeFrom q d k s)) (λ s. isCandidate d (left_at q k) (rightAt q s) && is byPath)
+    pub row_merges : (list : List ℕ) → goes q (take d (left_at q k)) ≡ true → length (left_at q k) ≡ d
+        → Listing (length q.rights) (λ s. is_candidate d (left_at q k) (right_at q s)) list
+        → row is q d k ≡ path_pairs 1 (length list) is
+    unfolding row outcome_from
+    row_merges list on ends listing =
+        count_same (λ s. is (outcome_from q d k s)) (λ s. is_candidate d (left_at q k) (right_at q s) && is by_path)
         (upto (length q.rights))
-        (λ s. rw (ending-merges on ends, ends) (is-cond is met (isCandidate d (left_at q k) (rightAt q s)) byPath))
-        ∙ sym (listing (λ s. is byPath)) ∙ paths-one is list
+        (λ s. rw (ending_merges on ends, ends) (is_cond is met (is_candidate d (left_at q k) (right_at q s)) by_path))
+        ∙ sym (listing (λ s. is by_path)) ∙ paths_one is list
 
   -- going on below the limit: a longer left set has the row of the next depth
-  pub row-deeper : (is : Outcome → Bool) → goes q (take d (left_at q k)) ≡ true → d < length (left_at q k) → d < q.limit
+  pub row_deeper : (is : Outcome → Bool) → goes q (take d (left_at q k)) ≡ true → d < length (left_at q k) → d < q.limit
       → row is q d k ≡ row is q (suc d) k
-  unfolding row outcomeFrom
-  row-deeper is on longer below =
-      count_same (λ s. is (outcomeFrom q d k s)) (λ s. is (outcomeFrom q (suc d) k s)) (upto (length q.rights))
-      (λ s. rw (ending-deeper on longer below))
+  unfolding row outcome_from
+  row_deeper is on longer below =
+      count_same (λ s. is (outcome_from q d k s)) (λ s. is (outcome_from q (suc d) k s)) (upto (length q.rights))
+      (λ s. rw (ending_deeper on longer below))

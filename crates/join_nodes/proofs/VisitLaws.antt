@@ -9,33 +9,33 @@ use native.Mathlib.Nat.{add-mul}
 use lib.ListN.{length}
 use Rattle.lists.specs.Lists.{sum, upto}
 use Rattle.lists.proofs.Bools.{true-false}
-use Rattle.lists.proofs.Summing.{sum-append}
+use Rattle.lists.proofs.Summing.{sum_append}
 use Rattle.lists.proofs.Ranges.{length-range}
 use Rattle.join_spec.specs.Query.{Query}
 use Rattle.join_spec.specs.Walk.{Outcome}
-use Rattle.join_spec.specs.Counting.{isCheck}
-use Rattle.join_spec.specs.Kinds.{is_of, kinds, checkKinds}
-use Rattle.join_spec.proofs.KindLaws.{count-checks, count-within, sum-within, sum-checks as sum-by-kind}
-use Rattle.join_check.specs.Counters.{checksIn}
-use Rattle.join_check.proofs.Tallying.{tallied-same, tallied-sum}
+use Rattle.join_spec.specs.Counting.{is_check}
+use Rattle.join_spec.specs.Kinds.{is_of, kinds, check_kinds}
+use Rattle.join_spec.proofs.KindLaws.{count_checks, count_within, sum_within, sum_checks as sum-by-kind}
+use Rattle.join_check.specs.Counters.{checks_in}
+use Rattle.join_check.proofs.Tallying.{tallied_same, tallied_sum}
 use Rattle.join_check.specs.declared.Tally.{Tally}
-use Rattle.join_nodes.specs.Rows.{row, outcomeFrom}
+use Rattle.join_nodes.specs.Rows.{row, outcome_from}
 use Rattle.join_nodes.specs.Visiting.{Underway, Added, Visited}
 use Rattle.join_nodes.specs.declared.WalkSettings.{WalkSettings}
 use Rattle.join_nodes.specs.declared.Walked.{Walked}
 
 module _ (q : Query) (d : ℕ) where
   -- the checks of rows kind by kind
-  pub sum-checks : (l : List ℕ) → sum (row isCheck q d) l ≡ sum (λ kind. sum (row (is_of kind) q d) l) checkKinds
+  pub sum_checks : (l : List ℕ) → sum (row is_check q d) l ≡ sum (λ kind. sum (row (is_of kind) q d) l) check_kinds
   unfolding row
-  sum-checks l =
-      sum-by-kind (λ k is. row is q d k) l (λ k. count-checks (outcomeFrom q d k) (upto (length q.rights)))
+  sum_checks l =
+      sum-by-kind (λ k is. row is q d k) l (λ k. count_checks (outcome_from q d k) (upto (length q.rights)))
 
   pub rows_bound : (l : List ℕ) → sum (λ kind. sum (row (is_of kind) q d) l) kinds ≤ length l * length q.rights
   unfolding row
   rows_bound l =
-      sum-within (λ k is. row is q d k) l (length q.rights)
-      (λ k. omega (arith, count-within (outcomeFrom q d k) (upto (length q.rights)), length-range 0 (length q.rights)))
+      sum_within (λ k is. row is q d k) l (length q.rights)
+      (λ k. omega (arith, count_within (outcome_from q d k) (upto (length q.rights)), length-range 0 (length q.rights)))
 
 -- no left sets, nothing added
 pub added_none : (q : Query) (d : ℕ) {l : List ℕ} {tally : Tally} → l ≡ [] → Added q d l tally tally
@@ -45,82 +45,82 @@ added_none q d none =
 
 module _ {q : Query} {d : ℕ} where
   -- the checks of the counters grow by the checks of the rows
-  pub checks-added : {l : List ℕ} {tally r : Tally} → Added q d l tally r → checksIn r ≡ checksIn tally + sum (row isCheck q d) l
-  checks-added {l} add = omega (arith, sum-checks q d l, tallied-sum checkKinds add.tallied)
+  pub checks_added : {l : List ℕ} {tally r : Tally} → Added q d l tally r → checks_in r ≡ checks_in tally + sum (row is_check q d) l
+  checks_added {l} add = omega (arith, sum_checks q d l, tallied_sum check_kinds add.tallied)
 
-  added-append : {a b : List ℕ} {tally r u : Tally} → Added q d a tally r → Added q d b r u → Added q d (a ++ b) tally u
-  added-append {a} {b} first second =
+  added_append : {a b : List ℕ} {tally r u : Tally} → Added q d a tally r → Added q d b r u → Added q d (a ++ b) tally u
+  added_append {a} {b} first second =
       record {
         tallied = record {
           grows = λ kind.
-              omega (arith, sum-append (row (is_of kind) q d) a b, first.tallied.grows kind, second.tallied.grows kind);
+              omega (arith, sum_append (row (is_of kind) q d) a b, first.tallied.grows kind, second.tallied.grows kind);
         };
       }
 
-  added-before : {a b : List ℕ} {tally r u : Tally} → Added q d b tally r → Added q d a r u → Added q d (a ++ b) tally u
-  added-before {a} {b} first second =
+  added_before : {a b : List ℕ} {tally r u : Tally} → Added q d b tally r → Added q d a r u → Added q d (a ++ b) tally u
+  added_before {a} {b} first second =
       record {
         tallied = record {
           grows = λ kind.
-              omega (arith, sum-append (row (is_of kind) q d) a b, first.tallied.grows kind, second.tallied.grows kind);
+              omega (arith, sum_append (row (is_of kind) q d) a b, first.tallied.grows kind, second.tallied.grows kind);
         };
       }
 
   -- one visit after another that was within the budget
-  pub visited-then : {budget : ℕ} {a b : List ℕ} {tally r : Tally} {u : Walked}
+  pub visited_then : {budget : ℕ} {a b : List ℕ} {tally r : Tally} {u : Walked}
       → Added q d a tally r → Visited q budget d b r u → Visited q budget d (a ++ b) tally u
-  visited-then {budget} {a} {b} {tally} {r} {u} first second =
+  visited_then {budget} {a} {b} {tally} {r} {u} first second =
       record {
-        added = λ calm. added-append first (second.added calm);
+        added = λ calm. added_append first (second.added calm);
         within = second.within;
-        beyond = λ spent. omega (arith, second.beyond spent, checks-added first, sum-append (row isCheck q d) a b);
+        beyond = λ spent. omega (arith, second.beyond spent, checks_added first, sum_append (row is_check q d) a b);
       }
 
   -- a visit of left sets that stand before those that were visited already
-  pub visited-before : {budget : ℕ} {a b : List ℕ} {tally r : Tally} {u : Walked}
+  pub visited_before : {budget : ℕ} {a b : List ℕ} {tally r : Tally} {u : Walked}
       → Added q d b tally r → Visited q budget d a r u → Visited q budget d (a ++ b) tally u
-  visited-before {budget} {a} {b} {tally} {r} {u} first second =
+  visited_before {budget} {a} {b} {tally} {r} {u} first second =
       record {
-        added = λ calm. added-before first (second.added calm);
+        added = λ calm. added_before first (second.added calm);
         within = second.within;
-        beyond = λ spent. omega (arith, second.beyond spent, checks-added first, sum-append (row isCheck q d) a b);
+        beyond = λ spent. omega (arith, second.beyond spent, checks_added first, sum_append (row is_check q d) a b);
       }
 
   -- a visit that passed the budget, with more left sets behind it
-  pub visited-early : {budget : ℕ} {a : List ℕ} (b : List ℕ) {tally : Tally} {u : Walked} → u.spent ≡ true
+  pub visited_early : {budget : ℕ} {a : List ℕ} (b : List ℕ) {tally : Tally} {u : Walked} → u.spent ≡ true
       → Visited q budget d a tally u → Visited q budget d (a ++ b) tally u
-  visited-early {budget} {a} b {tally} {u} spent first =
+  visited_early {budget} {a} b {tally} {u} spent first =
       record {
         added = λ calm. true-false spent calm;
         within = λ calm. true-false spent calm;
-        beyond = λ again. omega (arith, first.beyond spent, sum-append (row isCheck q d) a b);
+        beyond = λ again. omega (arith, first.beyond spent, sum_append (row is_check q d) a b);
       }
 
   -- or before it
-  pub visited-late : {budget : ℕ} (a : List ℕ) {b : List ℕ} {tally : Tally} {u : Walked} → u.spent ≡ true
+  pub visited_late : {budget : ℕ} (a : List ℕ) {b : List ℕ} {tally : Tally} {u : Walked} → u.spent ≡ true
       → Visited q budget d b tally u → Visited q budget d (a ++ b) tally u
-  visited-late {budget} a {b} {tally} {u} spent first =
+  visited_late {budget} a {b} {tally} {u} spent first =
       record {
         added = λ calm. true-false spent calm;
         within = λ calm. true-false spent calm;
-        beyond = λ again. omega (arith, first.beyond spent, sum-append (row isCheck q d) a b);
+        beyond = λ again. omega (arith, first.beyond spent, sum_append (row is_check q d) a b);
       }
 
   -- rows that agree make the same answer
-  pub visited-rows : {e budget : ℕ} (l : List ℕ) {tally : Tally} {u : Walked}
+  pub visited_rows : {e budget : ℕ} (l : List ℕ) {tally : Tally} {u : Walked}
       → ((is : Outcome → Bool) → sum (row is q e) l ≡ sum (row is q d) l) → Visited q budget e l tally u
       → Visited q budget d l tally u
-  visited-rows l same done =
+  visited_rows l same done =
       record {
-        added = λ calm. record { tallied = tallied-same (λ kind. same (is_of kind)) (done.added calm).tallied };
+        added = λ calm. record { tallied = tallied_same (λ kind. same (is_of kind)) (done.added calm).tallied };
         within = done.within;
-        beyond = λ spent. omega (arith, done.beyond spent, same isCheck);
+        beyond = λ spent. omega (arith, done.beyond spent, same is_check);
       }
 
   -- what remains to be counted after some rows were added
-  pub underway-next : {st : WalkSettings} {tally r : Tally} {l : List ℕ} {n m : ℕ} → Underway st q tally n → Added q d l tally r
-      → n ≡ length l + m → checksIn r ≤ st.budget → Underway st q r m
-  underway-next {st} {tally} {r} {l} {n} {m} before add split low =
+  pub underway_next : {st : WalkSettings} {tally r : Tally} {l : List ℕ} {n m : ℕ} → Underway st q tally n → Added q d l tally r
+      → n ≡ length l + m → checks_in r ≤ st.budget → Underway st q r m
+  underway_next {st} {tally} {r} {l} {n} {m} before add split low =
       record {
         limit = before.limit;
         shallow = before.shallow;
@@ -131,7 +131,7 @@ module _ {q : Query} {d : ℕ} where
               arith,
               before.bounded,
               rows_bound q d l,
-              tallied-sum kinds add.tallied,
+              tallied_sum kinds add.tallied,
               ap (λ (k : ℕ). k * length q.rights) split ∙ add-mul (length l) m (length q.rights),
             );
       }

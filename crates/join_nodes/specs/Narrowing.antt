@@ -4,9 +4,9 @@ use Rattle.std.specs.Prelude.{ℕ, suc, ◌+◌, ◌-◌, ◌≤◌, ◌<◌, �
 use Rattle.lists.specs.Lists.{keep, upto, slice}
 use Rattle.join_spec.specs.Query.{Query}
 use Rattle.join_spec.specs.Node.{last_of}
-use Rattle.join_spec.specs.Walk.{isCandidate}
-use Rattle.join_index.specs.Grouping.{rightAt}
-use Rattle.join_index.specs.Ground.{Listing, offset_of, asksSeen}
+use Rattle.join_spec.specs.Walk.{is_candidate}
+use Rattle.join_index.specs.Grouping.{right_at}
+use Rattle.join_index.specs.Ground.{Listing, offset_of, asks_seen}
 use Rattle.join_index.specs.declared.Layout.{Layout}
 use Rattle.join_index.specs.Asking.{Index}
 use Rattle.join_nodes.specs.declared.narrow.Part.{Part}
@@ -18,8 +18,8 @@ pub record SomePath (P : Query → List ℕ → Type 0) : Type 0 where
   pub holds : P query path
 
 -- the right places that are candidates after the first e ranks of a path, rising
-abbrev pub candidateList : Query → List ℕ → ℕ → List ℕ
-candidateList q path e = keep (λ s. isCandidate e path (rightAt q s)) (upto (length q.rights))
+abbrev pub candidate_list : Query → List ℕ → ℕ → List ℕ
+candidate_list q path e = keep (λ s. is_candidate e path (right_at q s)) (upto (length q.rights))
 
 -- where the slot of a rank begins
 abbrev pub slot_of : Layout → List ℕ → ℕ → ℕ
@@ -36,8 +36,8 @@ pub record Candidates (lay : Layout) (q : Query) (path w : List ℕ) (d lo hi : 
   pub below : hi ≤ slot_of lay w (last_of path)
   pub few : hi - lo ≤ length q.rights
   pub listing :
-      asksSeen q.rule ≡ true → Listing (length q.rights) (λ s. isCandidate (d - 1) path (rightAt q s)) (slice lo hi w)
-  pub sorted : 1 < d → slice lo hi w ≡ candidateList q path (d - 1)
+      asks_seen q.rule ≡ true → Listing (length q.rights) (λ s. is_candidate (d - 1) path (right_at q s)) (slice lo hi w)
+  pub sorted : 1 < d → slice lo hi w ≡ candidate_list q path (d - 1)
 
 -- the candidates after the node, and w became w': the kept rows are as they were
 pub record Narrowed (lay : Layout) (q : Query) (path : List ℕ) (d : ℕ) (w w' : List ℕ) (part : Part) : Type 0 where
@@ -46,4 +46,4 @@ pub record Narrowed (lay : Layout) (q : Query) (path : List ℕ) (d : ℕ) (w w'
   pub rise : part.«from» ≤ part.to
   pub below : part.to ≤ slot_of lay w (suc (last_of path))
   pub rest : drop lay.row_starts w' ≡ drop lay.row_starts w
-  pub holds : slice part.«from» part.to w' ≡ candidateList q path d
+  pub holds : slice part.«from» part.to w' ≡ candidate_list q path d

@@ -2,20 +2,20 @@
 -- the kept rows; or that the checks would exceed the budget.
 use Rattle.std.specs.Prelude.{ℕ, suc, ◌+◌, ◌-◌, ◌*◌, ◌≤◌, ◌<◌, ◌≡◌, List, true, false, length, take}
 use Rattle.lists.specs.Lists.{keep, prefix, sum, slice}
-use Rattle.sets.specs.Limits.{maxLimit, maxPairs}
+use Rattle.sets.specs.Limits.{max_limit, max_pairs}
 use Rattle.join_spec.specs.Query.{Query}
 use Rattle.join_spec.specs.Node.{last_of}
-use Rattle.join_spec.specs.Counting.{isCheck}
-use Rattle.counting_sort.specs.Groups.{groupsFrom}
-use Rattle.join_index.specs.Grouping.{left_at, key_at, orderFrom}
+use Rattle.join_spec.specs.Counting.{is_check}
+use Rattle.counting_sort.specs.Groups.{groups_from}
+use Rattle.join_index.specs.Grouping.{left_at, key_at, order_from}
 use Rattle.join_index.specs.declared.Layout.{Layout}
 use Rattle.join_index.specs.Asking.{Index}
-use Rattle.join_index.specs.Ranges.{leftsIn, leftIn}
-use Rattle.join_check.specs.Counters.{checksIn, pairsIn, Tallied}
+use Rattle.join_index.specs.Ranges.{lefts_in, left_in}
+use Rattle.join_check.specs.Counters.{checks_in, pairs_in, Tallied}
 use Rattle.join_check.specs.declared.Tally.{Tally}
 use Rattle.kept_rows.specs.Kept.{RowsKept}
-use Rattle.join_nodes.specs.Rows.{row, pathPairs}
-use Rattle.join_nodes.specs.Narrowing.{Candidates, candidateList, slot_of}
+use Rattle.join_nodes.specs.Rows.{row, path_pairs}
+use Rattle.join_nodes.specs.Narrowing.{Candidates, candidate_list, slot_of}
 use Rattle.join_nodes.specs.declared.Progress.{Progress}
 use Rattle.join_nodes.specs.declared.WalkSettings.{WalkSettings}
 use Rattle.join_nodes.specs.declared.Walked.{Walked}
@@ -23,20 +23,20 @@ use Rattle.join_nodes.specs.declared.Walked.{Walked}
 -- the settings are the query's, the checks so far are within the budget, and there is room to count n more left sets
 pub record Underway (st : WalkSettings) (q : Query) (tally : Tally) (n : ℕ) : Type 0 where
   pub limit : st.limit ≡ q.limit
-  pub shallow : q.limit ≤ maxLimit
+  pub shallow : q.limit ≤ max_limit
   pub rule : st.rule ≡ q.rule
-  pub budget : checksIn tally ≤ st.budget
-  pub bounded : pairsIn tally + n * length q.rights ≤ maxPairs
+  pub budget : checks_in tally ≤ st.budget
+  pub bounded : pairs_in tally + n * length q.rights ≤ max_pairs
 
 -- the left sets that begin with a path, ordered by their further ranks
 abbrev pub beginners : Query → List ℕ → ℕ → List ℕ
-beginners q path d = keep (λ k. prefix path (left_at q k)) (orderFrom q (q.limit - d) d)
+beginners q path d = keep (λ k. prefix path (left_at q k)) (order_from q (q.limit - d) d)
 
 -- the left set at left_order[lo] begins with the path, which has a rank at place i
 pub record OnPath (lay : Layout) (q : Query) (path w : List ℕ) (lo i : ℕ) : Type 0 where
   pub index : Index lay q w
   pub few : lo < length q.lefts
-  pub begins : prefix path (left_at q (leftIn lay w lo)) ≡ true
+  pub begins : prefix path (left_at q (left_in lay w lo)) ≡ true
   pub deep : i < length path
 
 -- a node: its path, its left sets in left_order[lo..hi], and its candidates
@@ -45,7 +45,7 @@ pub record NodeAt (lay : Layout) (q : Query) (path w : List ℕ) (d lo hi from t
   pub within : d ≤ q.limit
   pub some : lo < hi
   pub few : hi ≤ length q.lefts
-  pub lefts : leftsIn lay w lo hi ≡ beginners q path d
+  pub lefts : lefts_in lay w lo hi ≡ beginners q path d
 
 -- a node that is to be visited
 pub record Node (lay : Layout) (st : WalkSettings) (q : Query) (path w : List ℕ) (d lo hi from to : ℕ) (p : Progress) : Type 0 where
@@ -67,7 +67,7 @@ pub record Children (lay : Layout) (st : WalkSettings) (q : Query) (path w : Lis
   pub span : ℕ
   pub keys : least + span ≤ suc q.T
   pub further : 0 < least
-  pub lefts : leftsIn lay w lo hi ≡ groupsFrom (key_at q d) least span (beginners q path (suc d))
+  pub lefts : lefts_in lay w lo hi ≡ groups_from (key_at q d) least span (beginners q path (suc d))
 
 -- work[from..to] lists the candidates after a path of d ranks, below the slots of all ranks beyond its last
 pub record After (lay : Layout) (q : Query) (path w : List ℕ) (d from to : ℕ) : Type 0 where
@@ -75,7 +75,7 @@ pub record After (lay : Layout) (q : Query) (path w : List ℕ) (d from to : ℕ
   pub last : last_of path < q.T
   pub rise : from ≤ to
   pub below : to ≤ slot_of lay w (suc (last_of path))
-  pub holds : slice from to w ≡ candidateList q path d
+  pub holds : slice from to w ≡ candidate_list q path d
 
 -- the children of a node that are to be visited
 pub record ChildrenAt (lay : Layout) (st : WalkSettings) (q : Query) (path w : List ℕ) (d lo hi from to : ℕ)
@@ -89,13 +89,13 @@ pub record Added (q : Query) (d : ℕ) (lefts : List ℕ) (tally r : Tally) : Ty
 
 -- the counters became r: the pairs of m left sets that end at a node with the c candidates after it were added
 pub record Merged (m c : ℕ) (tally r : Tally) : Type 0 where
-  pub tallied : Tallied (pathPairs m c) tally r
+  pub tallied : Tallied (path_pairs m c) tally r
 
 -- the answer of a visit of these left sets: all their rows were added within the budget, or their checks exceed it
 pub record Visited (q : Query) (budget d : ℕ) (lefts : List ℕ) (tally : Tally) (r : Walked) : Type 0 where
   pub added : r.spent ≡ false → Added q d lefts tally r.at.tally
-  pub within : r.spent ≡ false → checksIn r.at.tally ≤ budget
-  pub beyond : r.spent ≡ true → budget < checksIn tally + sum (row isCheck q d) lefts
+  pub within : r.spent ≡ false → checks_in r.at.tally ≤ budget
+  pub beyond : r.spent ≡ true → budget < checks_in tally + sum (row is_check q d) lefts
 
 -- w became w': only words from a slot on may differ
 pub record Framed (slot : ℕ) (w w' : List ℕ) : Type 0 where
@@ -107,7 +107,7 @@ pub record Framed (slot : ℕ) (w w' : List ℕ) : Type 0 where
 pub record RangeVisited (lay : Layout) (q : Query) (budget slot d : ℕ) (w w' : List ℕ) (lo hi : ℕ) (tally : Tally)
     (r : Walked) : Type 0 where
   pub framed : Framed slot w w'
-  pub visited : Visited q budget d (leftsIn lay w lo hi) tally r
+  pub visited : Visited q budget d (lefts_in lay w lo hi) tally r
   pub rows : r.spent ≡ false → RowsKept lay q w' r.at.top
 
 -- a node was visited: only slots of its last rank and beyond changed

@@ -2,7 +2,7 @@
 ghost use Rattle.std.specs.Prelude.{◌≤◌};
 ghost use Rattle.join_index.specs.Asking.{SomeQuery};
 ghost use Rattle.join_check.specs.Checks.{RangesThere};
-ghost use Rattle.join_check.specs.Counters.{checksIn};
+ghost use Rattle.join_check.specs.Counters.{checks_in};
 ghost use Rattle.join_nodes.specs.block_checks.BlockChecks.{Covered, Small, Blocked};
 
 use crate::{Progress, WalkSettings, Walked};
@@ -12,7 +12,7 @@ use join_index::Layout;
 
 // Whether the budget covers so many more checks.
 pub fn covers(budget: u32, tally: Tally, checks: usize) -> bool
-    requires { checksIn tally ≤ budget }
+    requires { checks_in tally ≤ budget }
     ensures { Covered budget tally checks result }
 {
     let made = tally.confirmed + tally.dropped + tally.false_drops;

@@ -1,13 +1,13 @@
 // What becomes of a node's left sets that have no child to visit: they are checked or paired by path, and their rows are kept.
 ghost use Rattle.std.specs.Prelude.{List, ℕ, ◌+◌, ◌-◌, ◌≤◌, ◌<◌};
-ghost use Rattle.sets.specs.Limits.{maxPairs};
+ghost use Rattle.sets.specs.Limits.{max_pairs};
 ghost use Rattle.join_spec.specs.Query.{Query};
 ghost use Rattle.join_index.specs.Asking.{SomeQuery, RangeThere};
-ghost use Rattle.join_spec.specs.Counting.{isByPath};
-ghost use Rattle.join_check.specs.Counters.{checksIn};
+ghost use Rattle.join_spec.specs.Counting.{is_by_path};
+ghost use Rattle.join_check.specs.Counters.{checks_in};
 ghost use Rattle.kept_rows.specs.Keeping.{ListThere};
 ghost use Rattle.kept_rows.specs.checked.Recording.{RowRecordable};
-ghost use Rattle.join_nodes.specs.Rows.{pathPairs};
+ghost use Rattle.join_nodes.specs.Rows.{path_pairs};
 ghost use Rattle.join_nodes.specs.Narrowing.{SomePath};
 ghost use Rattle.join_nodes.specs.Visiting.{RangeVisited, Merged};
 ghost use Rattle.join_nodes.specs.blocks.Blocks.{MergedEnd, PairsKept, RowFinished, Going, AtLimit, Settles};
@@ -43,7 +43,7 @@ pub fn merged_end(work: &[u32], lay: Layout, d: usize, lo: usize, hi: usize) -> 
 
 // Counts the pairs of m left sets that end at a node with the c candidates after it.
 pub fn add_paths(tally: Tally, m: usize, c: usize) -> Tally
-    requires { tally.by_path + pathPairs m c isByPath ≤ maxPairs }
+    requires { tally.by_path + path_pairs m c is_by_path ≤ max_pairs }
     ensures { Merged m c tally result }
 {
     let pairs = m * c;
@@ -67,7 +67,7 @@ fn pair_ended(
 ) -> Progress
     requires some_query { SomeQuery (λ q. ListThere lay q work.old lo hi from to p.top) }
     requires lo_le_hi { lo ≤ hi }
-    requires is_by_path_bound { p.tally.by_path + pathPairs (hi - lo) (to - from) isByPath ≤ maxPairs }
+    requires is_by_path_bound { p.tally.by_path + path_pairs (hi - lo) (to - from) is_by_path ≤ max_pairs }
     ensures { PairsKept lay work.old lo hi from to p work.new result }
 {
     let merged = add_paths(p.tally, hi - lo, to - from);
@@ -113,7 +113,7 @@ fn finish_row(
 ) -> Walked
     requires some_query { SomeQuery (λ q. RowRecordable lay q work.old k e from to p.top) }
     requires from_le_to { from ≤ to }
-    requires tally_bound { checksIn p.tally ≤ st.budget }
+    requires tally_bound { checks_in p.tally ≤ st.budget }
     ensures { RowFinished lay work.old st.budget k e from to p work.new result }
 {
     if !covers(st.budget, p.tally, to - from) {

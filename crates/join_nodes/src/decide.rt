@@ -1,9 +1,9 @@
 // The decision at a node.
 ghost use Rattle.std.specs.Prelude.{◌≡◌, List, ℕ, ◌*◌, ◌≤◌, get_or};
-ghost use Rattle.sets.specs.Limits.{maxSets};
+ghost use Rattle.sets.specs.Limits.{max_sets};
 ghost use Rattle.join_spec.specs.declared.Rule.TheVariants.{Weighed};
 ghost use Rattle.join_spec.specs.Query.{Query};
-ghost use Rattle.join_spec.specs.Node.{goesOn};
+ghost use Rattle.join_spec.specs.Node.{goes_on};
 ghost use Rattle.join_spec.specs.Walk.{goes};
 ghost use Rattle.join_nodes.specs.Narrowing.{SomePath};
 ghost use Rattle.join_nodes.specs.Visiting.{OnPath, NodeAt};
@@ -26,8 +26,8 @@ pub fn rank_on(work: &[u32], lay: Layout, lo: usize, i: usize) -> usize
 // Whether the weighed rule goes on, with c candidates, t holders of the last rank and m left sets. Each operation rounds once, in
 // this order.
 pub fn weigh(weights: Weights, c: u32, t: u32, m: u32) -> bool
-    requires { (c ≤ maxSets) × (m ≤ maxSets) }
-    ensures { result ≡ goesOn (Weighed weights) c t m }
+    requires { (c ≤ max_sets) × (m ≤ max_sets) }
+    ensures { result ≡ goes_on (Weighed weights) c t m }
 {
     let product = c * m;
     let merging = weights.a * (c as f64) + weights.b * (t as f64) + weights.g;

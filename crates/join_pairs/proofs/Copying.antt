@@ -9,16 +9,16 @@ use lib.ListN.{length}
 use borrow.Author.Tests.{lt-ltb, ltb-true}
 use Rattle.lists.specs.Lists.{all, slice, upto}
 use Rattle.lists.specs.Writing.{Put}
-use Rattle.lists.proofs.Throughout.{all-weaken}
+use Rattle.lists.proofs.Throughout.{all_weaken}
 use Rattle.lists.proofs.Filtering.{all_keep}
-use Rattle.lists.proofs.Ranges.{all-upto}
-use Rattle.sets.specs.Limits.{maxSets}
+use Rattle.lists.proofs.Ranges.{all_upto}
+use Rattle.sets.specs.Limits.{max_sets}
 use Rattle.join_spec.specs.Query.{Query}
 use Rattle.join_index.specs.declared.Layout.{Layout}
 use Rattle.words.specs.Words.{Word}
-use Rattle.kept_rows.specs.Kept.{containedAt, RowIs}
+use Rattle.kept_rows.specs.Kept.{contained_at, RowIs}
 use Rattle.kept_rows.proofs.RowLaws.{row_moved}
-use Rattle.join_pairs.specs.row_pairs.Containing.{pairsWith}
+use Rattle.join_pairs.specs.row_pairs.Containing.{pairs_with}
 use Rattle.join_pairs.specs.row_pairs.Writing.{KeptRoom}
 use Rattle.join_pairs.specs.left_search.LeftRows.{row_at, LeftRoom}
 use Rattle.join_pairs.proofs.left_search.LeftPairs.{row-whole}
@@ -28,8 +28,8 @@ module _ {lay : Layout} {q : Query} {w : List ℕ} {k at : ℕ} {was : List ℕ}
   pub row_words : (lay.row_starts + k < length w) × (lay.row_ends + k < length w)
   row_words =
       let g = there.left.index.ground in (
-        omega (arith, there.left.below, g.rowStartsWithin, g.rowEndsWithin, g.rowsWithin, g.endWithin),
-        omega (arith, there.left.below, g.rowEndsWithin, g.rowsWithin, g.endWithin),
+        omega (arith, there.left.below, g.row_starts_within, g.row_ends_within, g.rows_within, g.end_within),
+        omega (arith, there.left.below, g.row_ends_within, g.rows_within, g.end_within),
       )
 
   module _ {from to : ℕ} (first : Word w (lay.row_starts + k) from) (second : Word w (lay.row_ends + k) to)
@@ -39,31 +39,31 @@ module _ {lay : Layout} {q : Query} {w : List ℕ} {k at : ℕ} {was : List ℕ}
         row_moved (omega arith) first.is second.is (λ order high low. refl)
         (there.rows.row k there.left.below (omega (arith, first.is, some)))
 
-    same : row_at q k ≡ pairsWith k (slice from to w)
-    same = row-whole q k ∙ ap (pairsWith k) (sym row.is)
+    same : row_at q k ≡ pairs_with k (slice from to w)
+    same = row-whole q k ∙ ap (pairs_with k) (sym row.is)
 
-    low : all (λ (s : ℕ). ltb s maxSets) (slice from to w) ≡ true
+    low : all (λ (s : ℕ). ltb s max_sets) (slice from to w) ≡ true
     low =
         let rights = length q.rights in
-        ap (all (λ (s : ℕ). ltb s maxSets)) row.is
-        ∙ all_keep (λ (s : ℕ). ltb s maxSets) (containedAt q k) (upto rights)
-        (all-weaken (λ (s : ℕ). ltb s rights) (λ (s : ℕ). ltb s maxSets) (upto rights)
-        (λ s below. lt-ltb s maxSets (omega (arith, ltb-true s rights below, there.left.index.ground.rightFew)))
-        (all-upto rights))
+        ap (all (λ (s : ℕ). ltb s max_sets)) row.is
+        ∙ all_keep (λ (s : ℕ). ltb s max_sets) (contained_at q k) (upto rights)
+        (all_weaken (λ (s : ℕ). ltb s rights) (λ (s : ℕ). ltb s max_sets) (upto rights)
+        (λ s below. lt-ltb s max_sets (omega (arith, ltb-true s rights below, there.left.index.ground.right_few)))
+        (all_upto rights))
 
-    pub kept-room : KeptRoom w from to k at was
-    kept-room =
+    pub kept_room : KeptRoom w from to k at was
+    kept_room =
         let g = there.left.index.ground in
         record {
-          left = omega (arith, there.left.below, g.leftFew);
+          left = omega (arith, there.left.below, g.left_few);
           right =
               record {
                 order = row.order;
-                within = omega (arith, row.high, there.rows.high, g.endWithin);
+                within = omega (arith, row.high, there.rows.high, g.end_within);
                 below = low;
               };
           room = omega (arith, there.room, ap length same);
         }
 
-    pub kept_put : {r : ℕ} {u : List ℕ} → Put was at (pairsWith k (slice from to w)) r u → Put was at (row_at q k) r u
+    pub kept_put : {r : ℕ} {u : List ℕ} → Put was at (pairs_with k (slice from to w)) r u → Put was at (row_at q k) r u
     kept_put put = rw same put

@@ -1,7 +1,7 @@
 -- Inner: the pair list, written into a list: what is asked of the room.
 use Rattle.std.specs.Prelude.{ℕ, ◌*◌, ◌≤◌, ◌≡◌, List, length}
 use Rattle.join_spec.specs.Query.{Query}
-use Rattle.join_spec.specs.PairList.{pairCount}
+use Rattle.join_spec.specs.PairList.{pair_count}
 use Rattle.join_index.specs.declared.Layout.{Layout}
 use Rattle.join_index.specs.Asking.{Index}
 use Rattle.kept_rows.specs.Kept.{RowsKept}
@@ -11,5 +11,5 @@ pub record PairsRoom (lay : Layout) (q : Query) (w : List ℕ) (lefts : ℕ) (pa
   pub index : Index lay q w
   pub top : ℕ
   pub rows : RowsKept lay q w top
-  pub leftCount : length q.lefts ≡ lefts
-  pub room : 2 * pairCount q.lefts q.rights ≤ length pairs
+  pub left_count : length q.lefts ≡ lefts
+  pub room : 2 * pair_count q.lefts q.rights ≤ length pairs

@@ -3,7 +3,7 @@
 // kept has no bearing on the list.
 ghost use Rattle.std.specs.Prelude.{◌≡◌, ◌++◌, length, drop};
 ghost use Rattle.join_spec.specs.Query.{Query};
-ghost use Rattle.join_spec.specs.PairList.{pairList};
+ghost use Rattle.join_spec.specs.PairList.{pair_list};
 ghost use Rattle.words.specs.flags.Flags.{Clear};
 ghost use Rattle.join_index.specs.Asking.{SomeQuery};
 ghost use Rattle.join_pairs.specs.Writing.{PairsRoom};
@@ -24,7 +24,7 @@ pub fn write_pairs(work: &mut [u32], flags: &mut [u8], lay: Layout, lefts: usize
     requires clear { Clear flags.old }
     ensures { (q : Query) → PairsRoom lay q work.old lefts pairs.old
         → pairs.new
-        ≡ pairList q.lefts q.rights ++ drop (length (pairList q.lefts q.rights)) pairs.old }
+        ≡ pair_list q.lefts q.rights ++ drop (length (pair_list q.lefts q.rights)) pairs.old }
 {
     let mut n: usize = 0;
     let mut k: usize = 0;

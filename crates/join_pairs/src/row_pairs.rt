@@ -4,12 +4,12 @@ ghost use Rattle.std.specs.Prelude.{[], ◌≡◌, ℕ};
 ghost use Rattle.lists.specs.Lists.{slice};
 ghost use Rattle.lists.specs.Writing.{Put};
 ghost use Rattle.join_spec.specs.Query.{Query};
-ghost use Rattle.join_spec.specs.PairList.{ontoPair};
+ghost use Rattle.join_spec.specs.PairList.{onto_pair};
 ghost use Rattle.join_index.specs.Asking.{SomeQuery, RightThere};
-ghost use Rattle.join_pairs.specs.row_pairs.Containing.{rowAmong, pairsWith, CheckThere};
+ghost use Rattle.join_pairs.specs.row_pairs.Containing.{row_among, pairs_with, CheckThere};
 ghost use Rattle.join_pairs.specs.row_pairs.Writing.{PushRoom, KeptRoom, RowRoom};
 ghost use Rattle.words.specs.Merges.{Rising};
-ghost use Rattle.kept_rows.specs.Kept.{containedAt};
+ghost use Rattle.kept_rows.specs.Kept.{contained_at};
 
 use join_check::{Checked, Probe, check_probe};
 use join_index::Layout;
@@ -18,7 +18,7 @@ use words::word_at;
 // Writes the pair of left place k and right place s, if it is one.
 fn push(pairs: &mut [u16], at: usize, k: usize, s: usize, paired: bool) -> usize
     requires { PushRoom at k s paired pairs.old }
-    ensures { Put pairs.old at (ontoPair paired k s []) result pairs.new }
+    ensures { Put pairs.old at (onto_pair paired k s []) result pairs.new }
 {
     if paired {
         pairs[at] = k as u16;
@@ -38,7 +38,7 @@ pub fn write_kept(
     at: usize,
 ) -> usize
     requires { KeptRoom work.now from to k at pairs.old }
-    ensures { Put pairs.old at (pairsWith k (slice from to work.now)) result pairs.new }
+    ensures { Put pairs.old at (pairs_with k (slice from to work.now)) result pairs.new }
 {
     let mut n = at;
     let mut place = from;
@@ -64,7 +64,7 @@ pub fn write_row(
 ) -> usize
     requires { SomeQuery (λ q. RowRoom lay q work.now p k from to at pairs.old) }
     ensures { (q : Query) → RowRoom lay q work.now p k from to at pairs.old
-        → Put pairs.old at (rowAmong q k (slice from to work.now)) result pairs.new }
+        → Put pairs.old at (row_among q k (slice from to work.now)) result pairs.new }
 {
     let mut n = at;
     let mut i = from;
@@ -81,7 +81,7 @@ pub fn write_row(
 pub fn is_contained(work: &[u32], lay: Layout, p: Probe, s: usize) -> bool
     requires some_query { SomeQuery (λ q. RightThere lay q work.now s) }
     requires rising { Rising p.from p.to work.now }
-    ensures { (q : Query) (k : ℕ) → CheckThere lay q work.now p k s → result ≡ containedAt q k s }
+    ensures { (q : Query) (k : ℕ) → CheckThere lay q work.now p k s → result ≡ contained_at q k s }
 {
     if p.to <= p.from {
         return true;

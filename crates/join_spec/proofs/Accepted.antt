@@ -8,59 +8,59 @@ use native.Mathlib.Omega.{arith}
 use lib.Dec.{ltb}
 use borrow.Author.Tests.{ltb-true, ltb-false, lt-ltb, le-ltb}
 use Rattle.lists.proofs.Bools.{true-false}
-use Rattle.sets.specs.Refusals.{refuseIf, unless, clears}
+use Rattle.sets.specs.Refusals.{refuse_if, unless, clears}
 use Rattle.sets.specs.declared.Refusal.{Refusal}
 use Rattle.sets.specs.declared.Refusal.TheVariants.{BadSettings, Spent, ShortPairs}
 use Rattle.sets.specs.declared.Tested.{Tested}
 use Rattle.sets.specs.declared.Tested.TheVariants.{Passed, Failed}
-use Rattle.inputs.specs.Input.{Input, leftSets, rightSets}
-use Rattle.inputs.specs.Tests.{setsTest, wordsNeeded, workTest}
-use Rattle.sets.proofs.Testing.{both-passed, refuse-passed, failed-same}
-use Rattle.inputs.proofs.TestLaws.{BothGood, sets-good, good-sets, work-enough, enough-work, sets-keep, work-keep}
+use Rattle.inputs.specs.Input.{Input, left_sets, right_sets}
+use Rattle.inputs.specs.Tests.{sets_test, words_needed, work_test}
+use Rattle.sets.proofs.Testing.{both_passed, refuse_passed, failed_same}
+use Rattle.inputs.proofs.TestLaws.{BothGood, sets_good, good_sets, work_enough, enough_work, sets-keep, work_keep}
 use Rattle.join_spec.specs.declared.Counts.{Counts}
 use Rattle.join_spec.specs.declared.JoinAnswer.{JoinAnswer}
 use Rattle.join_spec.specs.declared.JoinAnswer.TheVariants.{Joined, Refused}
-use Rattle.join_spec.specs.PairList.{pairCount}
-use Rattle.join_spec.specs.Query.{Settings, Query, queryOf}
-use Rattle.join_spec.specs.Counting.{countsOf, checksOf}
-use Rattle.join_spec.specs.Answer.{Room, badSettings, joinTests, walkAnswer, joinAnswer}
-use Rattle.join_spec.proofs.GoodSettings.{GoodSettings, good-settings, settings-good}
+use Rattle.join_spec.specs.PairList.{pair_count}
+use Rattle.join_spec.specs.Query.{Settings, Query, query_of}
+use Rattle.join_spec.specs.Counting.{counts_of, checks_of}
+use Rattle.join_spec.specs.Answer.{Room, bad_settings, join_tests, walk_answer, join_answer}
+use Rattle.join_spec.proofs.GoodSettings.{GoodSettings, good_settings, settings_good}
 
 -- what holds where the tests before the walk are passed
 pub record Tests (i : Input) (limit : ℕ) (ranks : List ℕ) (words : ℕ) : Type 0 where
   pub settings : GoodSettings i.T limit ranks
   pub good : BothGood i
-  pub work : wordsNeeded i ≤ words
+  pub work : words_needed i ≤ words
 
-pub tests-passed : (i : Input) (limit : ℕ) (ranks : List ℕ) (words : ℕ) → joinTests i limit ranks words ≡ Passed
+pub tests_passed : (i : Input) (limit : ℕ) (ranks : List ℕ) (words : ℕ) → join_tests i limit ranks words ≡ Passed
     → Tests i limit ranks words
-unfolding joinTests
-tests-passed i limit ranks words e =
-    let six = both-passed (refuseIf (badSettings i.T limit ranks) BadSettings) _ e in
-    let five = both-passed (setsTest i) (workTest i words) six.1 in
+unfolding join_tests
+tests_passed i limit ranks words e =
+    let six = both_passed (refuse_if (bad_settings i.T limit ranks) BadSettings) _ e in
+    let five = both_passed (sets_test i) (work_test i words) six.1 in
     record {
-      settings = good-settings i.T limit ranks (refuse-passed (badSettings i.T limit ranks) _ six.0);
-      good = sets-good i five.0;
-      work = work-enough i words five.1;
+      settings = good_settings i.T limit ranks (refuse_passed (bad_settings i.T limit ranks) _ six.0);
+      good = sets_good i five.0;
+      work = work_enough i words five.1;
     }
 
-pub passed-tests : (i : Input) (limit : ℕ) (ranks : List ℕ) (words : ℕ) → Tests i limit ranks words
-    → joinTests i limit ranks words ≡ Passed
-unfolding joinTests
-passed-tests i limit ranks words t =
-    rw (settings-good i.T limit ranks t.settings, good-sets i t.good, enough-work i words t.work)
+pub passed_tests : (i : Input) (limit : ℕ) (ranks : List ℕ) (words : ℕ) → Tests i limit ranks words
+    → join_tests i limit ranks words ≡ Passed
+unfolding join_tests
+passed_tests i limit ranks words t =
+    rw (settings_good i.T limit ranks t.settings, good_sets i t.good, enough_work i words t.work)
 
 -- what the tests before the walk refuse leaves every list as it was
-pub early-keeps : (i : Input) (limit : ℕ) (ranks : List ℕ) (words : ℕ) {why : Refusal} → joinTests i limit ranks words ≡ Failed why
+pub early_keeps : (i : Input) (limit : ℕ) (ranks : List ℕ) (words : ℕ) {why : Refusal} → join_tests i limit ranks words ≡ Failed why
     → clears why ≡ false
-unfolding joinTests
-early-keeps i limit ranks words {why} e =
-    go (badSettings i.T limit ranks) (setsTest i) (workTest i words) (sets-keep i) (work-keep i words) e
+unfolding join_tests
+early_keeps i limit ranks words {why} e =
+    go (bad_settings i.T limit ranks) (sets_test i) (work_test i words) (sets-keep i) (work_keep i words) e
   where
     go : (bad : Bool) (sets work : Tested) → ((w : Refusal) → sets ≡ Failed w → clears w ≡ false)
         → ((w : Refusal) → work ≡ Failed w → clears w ≡ false)
-        → unless Failed (refuseIf bad BadSettings) (unless Failed sets work) ≡ Failed why → clears why ≡ false
-    go true sets work keeps kept h = ap clears (sym (failed-same BadSettings why h))
+        → unless Failed (refuse_if bad BadSettings) (unless Failed sets work) ≡ Failed why → clears why ≡ false
+    go true sets work keeps kept h = ap clears (sym (failed_same BadSettings why h))
     go false Passed work keeps kept h = kept why h
     go false (Failed w) work keeps kept h = keeps why h
 
@@ -75,91 +75,91 @@ passed : (b : Bool) (why : Refusal) (answer : JoinAnswer) (counts : Counts) → 
 passed true why answer counts e = let z : ◌≡◌ {A = ℕ} 0 1 = cc in absurd (omega arith)
 passed false why answer counts e = (refl, e)
 
-joined-counts : (a b : Counts) → Joined a ≡ Joined b → b ≡ a
-joined-counts a b e = cc
+joined_counts : (a b : Counts) → Joined a ≡ Joined b → b ≡ a
+joined_counts a b e = cc
 
-is-spent : (b c : Bool) (counts : Counts)
+is_spent : (b c : Bool) (counts : Counts)
     → cond b (Refused Spent) (cond c (Refused ShortPairs) (Joined counts)) ≡ Refused Spent → b ≡ true
-is-spent true c counts e = refl
-is-spent false true counts e = let z : ◌≡◌ {A = ℕ} 0 1 = cc in absurd (omega arith)
-is-spent false false counts e = let z : ◌≡◌ {A = ℕ} 0 1 = cc in absurd (omega arith)
+is_spent true c counts e = refl
+is_spent false true counts e = let z : ◌≡◌ {A = ℕ} 0 1 = cc in absurd (omega arith)
+is_spent false false counts e = let z : ◌≡◌ {A = ℕ} 0 1 = cc in absurd (omega arith)
 
 -- the walk's answer: 8 exactly where the sum of checks is above the budget
 module _ (q : Query) (budget places : ℕ) where
-  pub spent-above : budget < checksOf q → walkAnswer q budget places ≡ Refused Spent
-  unfolding walkAnswer
-  spent-above h =
+  pub spent_above : budget < checks_of q → walk_answer q budget places ≡ Refused Spent
+  unfolding walk_answer
+  spent_above h =
       ap (λ (over : Bool).
       cond over (Refused Spent)
-      (cond (ltb places (2 * pairCount q.lefts q.rights)) (Refused ShortPairs) (Joined (countsOf q))))
-      (lt-ltb budget (checksOf q) h)
+      (cond (ltb places (2 * pair_count q.lefts q.rights)) (Refused ShortPairs) (Joined (counts_of q))))
+      (lt-ltb budget (checks_of q) h)
 
-  pub above-spent : walkAnswer q budget places ≡ Refused Spent → budget < checksOf q
-  unfolding walkAnswer
-  above-spent e =
-      ltb-true budget (checksOf q)
-      (is-spent (ltb budget (checksOf q)) (ltb places (2 * pairCount q.lefts q.rights)) (countsOf q) e)
+  pub above_spent : walk_answer q budget places ≡ Refused Spent → budget < checks_of q
+  unfolding walk_answer
+  above_spent e =
+      ltb-true budget (checks_of q)
+      (is_spent (ltb budget (checks_of q)) (ltb places (2 * pair_count q.lefts q.rights)) (counts_of q) e)
 
   -- and within it the walk is accepted where the places suffice
-  pub within-joined : checksOf q ≤ budget → 2 * pairCount q.lefts q.rights ≤ places
-      → walkAnswer q budget places ≡ Joined (countsOf q)
-  unfolding walkAnswer
-  within-joined few enough =
-      rw (le-ltb budget (checksOf q) few, le-ltb places (2 * pairCount q.lefts q.rights) enough)
+  pub within_joined : checks_of q ≤ budget → 2 * pair_count q.lefts q.rights ≤ places
+      → walk_answer q budget places ≡ Joined (counts_of q)
+  unfolding walk_answer
+  within_joined few enough =
+      rw (le-ltb budget (checks_of q) few, le-ltb places (2 * pair_count q.lefts q.rights) enough)
 
 -- what holds where a join is accepted: no cause of the refusal table is there, and the counts are the definitions'
 pub record Accepted (i : Input) (s : Settings) (room : Room) (counts : Counts) : Type 0 where
   pub tests : Tests i s.limit s.ranks room.words
-  pub within : checksOf (queryOf i s) ≤ s.budget
-  pub places : 2 * pairCount (leftSets i) (rightSets i) ≤ room.places
-  pub counted : counts ≡ countsOf (queryOf i s)
+  pub within : checks_of (query_of i s) ≤ s.budget
+  pub places : 2 * pair_count (left_sets i) (right_sets i) ≤ room.places
+  pub counted : counts ≡ counts_of (query_of i s)
 
 module _ (i : Input) (s : Settings) (room : Room) where
   -- the answer after tests that are passed
-  pub answer-tested : Tests i s.limit s.ranks room.words → joinAnswer i s room ≡ walkAnswer (queryOf i s) s.budget room.places
-  unfolding joinAnswer
-  answer-tested t = rw (passed-tests i s.limit s.ranks room.words t)
+  pub answer_tested : Tests i s.limit s.ranks room.words → join_answer i s room ≡ walk_answer (query_of i s) s.budget room.places
+  unfolding join_answer
+  answer_tested t = rw (passed_tests i s.limit s.ranks room.words t)
 
   -- and after one that fails
-  pub answer-refused : {why : Refusal} → joinTests i s.limit s.ranks room.words ≡ Failed why → joinAnswer i s room ≡ Refused why
-  unfolding joinAnswer
-  answer-refused e = rw e
+  pub answer_refused : {why : Refusal} → join_tests i s.limit s.ranks room.words ≡ Failed why → join_answer i s room ≡ Refused why
+  unfolding join_answer
+  answer_refused e = rw e
 
-  pub accepted : (counts : Counts) → joinAnswer i s room ≡ Joined counts → Accepted i s room counts
-  unfolding joinAnswer walkAnswer
+  pub accepted : (counts : Counts) → join_answer i s room ≡ Joined counts → Accepted i s room counts
+  unfolding join_answer walk_answer
   accepted counts e =
-      let early = unrefused (joinTests i s.limit s.ranks room.words) _ counts e in
-      let eight = passed (ltb s.budget (checksOf (queryOf i s))) Spent _ counts early.1 in
-      let nine = passed (ltb room.places (2 * pairCount (leftSets i) (rightSets i))) ShortPairs _ counts eight.1 in
+      let early = unrefused (join_tests i s.limit s.ranks room.words) _ counts e in
+      let eight = passed (ltb s.budget (checks_of (query_of i s))) Spent _ counts early.1 in
+      let nine = passed (ltb room.places (2 * pair_count (left_sets i) (right_sets i))) ShortPairs _ counts eight.1 in
       record {
-        tests = tests-passed i s.limit s.ranks room.words early.0;
-        within = ltb-false s.budget (checksOf (queryOf i s)) eight.0;
-        places = ltb-false room.places (2 * pairCount (leftSets i) (rightSets i)) nine.0;
-        counted = joined-counts (countsOf (queryOf i s)) counts nine.1;
+        tests = tests_passed i s.limit s.ranks room.words early.0;
+        within = ltb-false s.budget (checks_of (query_of i s)) eight.0;
+        places = ltb-false room.places (2 * pair_count (left_sets i) (right_sets i)) nine.0;
+        counted = joined_counts (counts_of (query_of i s)) counts nine.1;
       }
 
   -- and where all of it holds, the join is accepted
-  pub joined : (counts : Counts) → Accepted i s room counts → joinAnswer i s room ≡ Joined counts
+  pub joined : (counts : Counts) → Accepted i s room counts → join_answer i s room ≡ Joined counts
   joined counts a =
-      answer-tested a.tests
-      ∙ within-joined (queryOf i s) s.budget room.places a.within a.places
+      answer_tested a.tests
+      ∙ within_joined (query_of i s) s.budget room.places a.within a.places
       ∙ ap Joined (sym a.counted)
 
   -- 8 is returned only where the sum of checks is above the budget
-  pub spent-only-above : joinAnswer i s room ≡ Refused Spent → s.budget < checksOf (queryOf i s)
-  unfolding joinAnswer
-  spent-only-above e = go (joinTests i s.limit s.ranks room.words) refl e
+  pub spent_only_above : join_answer i s room ≡ Refused Spent → s.budget < checks_of (query_of i s)
+  unfolding join_answer
+  spent_only_above e = go (join_tests i s.limit s.ranks room.words) refl e
     where
-      go : (t : Tested) → joinTests i s.limit s.ranks room.words ≡ t
-          → unless Refused t (walkAnswer (queryOf i s) s.budget room.places) ≡ Refused Spent
-          → s.budget < checksOf (queryOf i s)
-      go Passed is h = above-spent (queryOf i s) s.budget room.places h
-      go (Failed why) is h = absurd (true-false refl (early-keeps i s.limit s.ranks room.words (is ∙ ap Failed (same-refusal why Spent h))))
+      go : (t : Tested) → join_tests i s.limit s.ranks room.words ≡ t
+          → unless Refused t (walk_answer (query_of i s) s.budget room.places) ≡ Refused Spent
+          → s.budget < checks_of (query_of i s)
+      go Passed is h = above_spent (query_of i s) s.budget room.places h
+      go (Failed why) is h = absurd (true-false refl (early_keeps i s.limit s.ranks room.words (is ∙ ap Failed (same_refusal why Spent h))))
         where
-          same-refusal : (a b : Refusal) → Refused a ≡ Refused b → a ≡ b
-          same-refusal a b e = cc
+          same_refusal : (a b : Refusal) → Refused a ≡ Refused b → a ≡ b
+          same_refusal a b e = cc
 
   -- and wherever that is so and nothing before it is at fault
-  pub spent-wherever-above : Tests i s.limit s.ranks room.words → s.budget < checksOf (queryOf i s) → joinAnswer i s room ≡ Refused Spent
-  spent-wherever-above tests above =
-      answer-tested tests ∙ spent-above (queryOf i s) s.budget room.places above
+  pub spent_wherever_above : Tests i s.limit s.ranks room.words → s.budget < checks_of (query_of i s) → join_answer i s room ≡ Refused Spent
+  spent_wherever_above tests above =
+      answer_tested tests ∙ spent_above (query_of i s) s.budget room.places above

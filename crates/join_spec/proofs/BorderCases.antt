@@ -8,20 +8,20 @@ use lib.Dec.{T}
 use lib.Ieee.{Float, nan, inf, fin, lt, add, mul, of_int}
 use lib.IntN.{pos, negsuc}
 use lib.ListN.{length}
-use Rattle.lists.specs.Lists.{all, any, count, sum, keep, memb, range, upto, rising, risingAfter, distinct, prefix}
+use Rattle.lists.specs.Lists.{all, any, count, sum, keep, memb, range, upto, rising, rising_after, distinct, prefix}
 use Rattle.inputs.specs.Input.{input_of}
-use Rattle.inputs.specs.Tests.{setsTest, wordsNeeded, workTest}
-use Rattle.sets.specs.Collections.{setsFrom, contained, firstBadFrom, badSet, last_end}
-use Rattle.sets.specs.Ordered.{ordered, isPermutation}
-use Rattle.sets.specs.Signatures.{position, signatureFrom}
+use Rattle.inputs.specs.Tests.{sets_test, words_needed, work_test}
+use Rattle.sets.specs.Collections.{sets_from, contained, first_bad_from, bad_set, last_end}
+use Rattle.sets.specs.Ordered.{ordered, is_permutation}
+use Rattle.sets.specs.Signatures.{position, signature_from}
 use Rattle.join_spec.specs.declared.Rule.{Rule}
 use Rattle.join_spec.specs.declared.Rule.TheVariants.{Merge, Check, Weighed}
-use Rattle.join_spec.specs.Query.{settingsOf}
-use Rattle.join_spec.specs.Node.{seen, goesOn, goesOnAt}
-use Rattle.join_spec.specs.Walk.{ending, endingFrom, isCandidate, goes, endingIn, outcome}
+use Rattle.join_spec.specs.Query.{settings_of}
+use Rattle.join_spec.specs.Node.{seen, goes_on, goes_on_at}
+use Rattle.join_spec.specs.Walk.{ending, ending_from, is_candidate, goes, ending_in, outcome}
 use Rattle.join_spec.specs.Counting.{total}
-use Rattle.join_spec.specs.Answer.{joinAnswer, joinWords, joinTests, walkAnswer, badSettings}
-use Rattle.join_spec.proofs.Examples.{same, greatest, accepted, noCounts}
+use Rattle.join_spec.specs.Answer.{join_answer, join_words, join_tests, walk_answer, bad_settings}
+use Rattle.join_spec.proofs.Examples.{same, greatest, accepted, no_counts}
 
 -- one case: sets by place, settings, lengths of work list and pair list; then number with detail, and the six counts
 record Case : Type 0 where
@@ -38,9 +38,9 @@ record Case : Type 0 where
   counts : List ℕ
 
 -- sets as a collection: the ends, the first set beginning at start, and the items
-endsFrom : ℕ → List (List ℕ) → List ℕ
-endsFrom start [] = []
-endsFrom start (set ∷ sets) = let end = start + length set in end ∷ endsFrom end sets
+ends_from : ℕ → List (List ℕ) → List ℕ
+ends_from start [] = []
+ends_from start (set ∷ sets) = let end = start + length set in end ∷ ends_from end sets
 
 items_of : List (List ℕ) → List ℕ
 items_of [] = []
@@ -49,12 +49,12 @@ items_of (set ∷ sets) = set ++ items_of sets
 -- whether the definitions give what the case says
 right : Case → Bool
 right e =
-    let leftEnds = endsFrom 0 e.lefts in
-    let rightEnds = endsFrom 0 e.rights in
+    let left_ends = ends_from 0 e.lefts in
+    let right_ends = ends_from 0 e.rights in
     let answer =
-    joinAnswer (input_of e.items leftEnds (items_of e.lefts) rightEnds (items_of e.rights))
-    (settingsOf e.limit e.ranks e.budget e.rule) (record { words = e.words; places = e.room }) in
-    same (joinWords answer) (e.refusal ++ e.counts)
+    join_answer (input_of e.items left_ends (items_of e.lefts) right_ends (items_of e.rights))
+    (settings_of e.limit e.ranks e.budget e.rule) (record { words = e.words; places = e.room }) in
+    same (join_words answer) (e.refusal ++ e.counts)
 
 -- sets of a case
 one : ℕ → List ℕ
@@ -105,8 +105,8 @@ shelf ranks limit rule budget words room refusal counts =
     }
 
 -- the shelf under weights, accepted
-shelfWeighed : Rule → List ℕ → Case
-shelfWeighed rule counts = shelf (upto 4) 255 rule greatest 448 8 accepted counts
+shelf_weighed : Rule → List ℕ → Case
+shelf_weighed rule counts = shelf (upto 4) 255 rule greatest 448 8 accepted counts
 
 -- refused with this number and detail, before the walk: items, sets, limit, ranks
 refuses : ℕ → List (List ℕ) → List (List ℕ) → ℕ → List ℕ → List ℕ → Case
@@ -122,12 +122,12 @@ refuses items lefts rights limit ranks refusal =
       words = 0;
       room = 0;
       refusal = refusal;
-      counts = noCounts;
+      counts = no_counts;
     }
 
 -- one empty left set and nothing else, with neither budget nor places
-emptyAlone : ℕ → List ℕ → Case
-emptyAlone words refusal =
+empty_alone : ℕ → List ℕ → Case
+empty_alone words refusal =
     record {
       items = 0;
       lefts = [] ∷ [];
@@ -139,11 +139,11 @@ emptyAlone words refusal =
       words = words;
       room = 0;
       refusal = refusal;
-      counts = noCounts;
+      counts = no_counts;
     }
 
-borderCases : List Case
-borderCases =
+border_cases : List Case
+border_cases =
     -- (2^53 + 1) + 1 rounds down twice and is below 2^53 + 2; 2^53 + (1 + 1) would not be
     meets 1 (one 0 ∷ []) (one 0 ∷ []) (weighed (whole (2 ^ 53)) (whole 1) (whole 1) (whole (2 ^ 53 + 2)))
     (1 ∷ 1 ∷ 0 ∷ 0 ∷ 0 ∷ 0 ∷ [])
@@ -151,11 +151,11 @@ borderCases =
     ∷ meets 1 (one 0 ∷ one 0 ∷ one 0 ∷ []) (one 0 ∷ one 0 ∷ one 0 ∷ [])
     (weighed (whole 0) (whole 0) (whole (9 * 2 ^ 52 + 8)) (whole (2 ^ 52 + 1))) (9 ∷ 0 ∷ 9 ∷ 9 ∷ 0 ∷ 0 ∷ [])
     -- not-a-number as a weight, or out of two infinities, doesn't go on; an infinite h goes on
-    ∷ shelfWeighed (weighed nan (whole 0) (whole 0) (whole 1)) (4 ∷ 0 ∷ 4 ∷ 7 ∷ 3 ∷ 0 ∷ [])
-    ∷ shelfWeighed (weighed (inf false) (whole 0) (inf true) (inf false)) (4 ∷ 0 ∷ 4 ∷ 7 ∷ 3 ∷ 0 ∷ [])
-    ∷ shelfWeighed (weighed (whole 1) (whole 1) (whole 0) (inf false)) (4 ∷ 4 ∷ 0 ∷ 0 ∷ 0 ∷ 0 ∷ [])
+    ∷ shelf_weighed (weighed nan (whole 0) (whole 0) (whole 1)) (4 ∷ 0 ∷ 4 ∷ 7 ∷ 3 ∷ 0 ∷ [])
+    ∷ shelf_weighed (weighed (inf false) (whole 0) (inf true) (inf false)) (4 ∷ 0 ∷ 4 ∷ 7 ∷ 3 ∷ 0 ∷ [])
+    ∷ shelf_weighed (weighed (whole 1) (whole 1) (whole 0) (inf false)) (4 ∷ 4 ∷ 0 ∷ 0 ∷ 0 ∷ 0 ∷ [])
     -- weights 0, 0, 0, 1 go on wherever a right set is left
-    ∷ shelfWeighed (weighed (whole 0) (whole 0) (whole 0) (whole 1)) (4 ∷ 4 ∷ 0 ∷ 0 ∷ 0 ∷ 0 ∷ [])
+    ∷ shelf_weighed (weighed (whole 0) (whole 0) (whole 0) (whole 1)) (4 ∷ 4 ∷ 0 ∷ 0 ∷ 0 ∷ 0 ∷ [])
     -- c counts the seen right sets with all items but the last: at {0,1} all three, so 2 is below 1 x 3
     ∷ meets 2 (two 0 1 ∷ []) (two 0 1 ∷ one 0 ∷ one 0 ∷ []) (weighed (whole 0) (whole 0) (whole 2) (whole 1))
     (1 ∷ 1 ∷ 0 ∷ 0 ∷ 0 ∷ 0 ∷ [])
@@ -171,12 +171,12 @@ borderCases =
     -- an empty left set pairs with no right set, an empty one or not; an empty right set is never seen
     ∷ meets 1 ([] ∷ one 0 ∷ []) ([] ∷ one 0 ∷ []) Check (1 ∷ 0 ∷ 1 ∷ 1 ∷ 0 ∷ 0 ∷ [])
     ∷ meets 1 (one 0 ∷ [] ∷ []) ([] ∷ one 0 ∷ []) Merge (1 ∷ 1 ∷ 0 ∷ 0 ∷ 0 ∷ 0 ∷ [])
-    ∷ meets 1 ([] ∷ [] ∷ []) (one 0 ∷ one 0 ∷ []) (weighed (whole 1) (whole 1) (whole 0) (inf false)) noCounts
+    ∷ meets 1 ([] ∷ [] ∷ []) (one 0 ∷ one 0 ∷ []) (weighed (whole 1) (whole 1) (whole 0) (inf false)) no_counts
     -- no items at all
-    ∷ meets 0 ([] ∷ []) ([] ∷ []) Check noCounts
+    ∷ meets 0 ([] ∷ []) ([] ∷ []) Check no_counts
     -- an empty left set is a set of n: with T of 0 it alone asks for 16 + 64 words
-    ∷ emptyAlone 80 accepted
-    ∷ emptyAlone 79 (7 ∷ 0 ∷ 0 ∷ [])
+    ∷ empty_alone 80 accepted
+    ∷ empty_alone 79 (7 ∷ 0 ∷ 0 ∷ [])
     -- items 161 and 0 share a position: 65 and 1 modulo 64
     ∷ meets 162 (one 161 ∷ []) (one 0 ∷ []) Check (0 ∷ 0 ∷ 0 ∷ 1 ∷ 0 ∷ 1 ∷ [])
     -- falling ranks: other right sets are seen than in P3; ranks 1, 2, 3, 0: other prefixes than in P2
@@ -185,8 +185,8 @@ borderCases =
     -- a budget of 0 where no check is due
     ∷ shelf (upto 4) 255 Merge 0 448 8 accepted (4 ∷ 4 ∷ 0 ∷ 0 ∷ 0 ∷ 0 ∷ [])
     -- 8 before 9, and 7 before both
-    ∷ shelf (upto 4) 1 Check 6 448 7 (8 ∷ 0 ∷ 0 ∷ []) noCounts
-    ∷ shelf (upto 4) 1 Check 6 447 7 (7 ∷ 0 ∷ 0 ∷ []) noCounts
+    ∷ shelf (upto 4) 1 Check 6 448 7 (8 ∷ 0 ∷ 0 ∷ []) no_counts
+    ∷ shelf (upto 4) 1 Check 6 447 7 (7 ∷ 0 ∷ 0 ∷ []) no_counts
     -- 6: a limit of 0 or 256, ranks that repeat, are too large, too few or too many, T over 4,096
     ∷ refuses 2 [] [] 0 (0 ∷ 1 ∷ []) (6 ∷ 0 ∷ 0 ∷ [])
     ∷ refuses 2 [] [] 256 (0 ∷ 1 ∷ []) (6 ∷ 0 ∷ 0 ∷ [])
@@ -202,9 +202,9 @@ borderCases =
     ∷ []
 
 -- the definitions give every case
-border-cases-right : T (all right borderCases)
-unfolding all any count sum keep memb range rising risingAfter distinct prefix setsFrom contained firstBadFrom badSet last_end ordered
-    isPermutation position signatureFrom seen goesOn goesOnAt ending endingFrom isCandidate goes endingIn outcome total
-    joinAnswer joinTests setsTest wordsNeeded workTest walkAnswer badSettings lt add mul of_int right borderCases endsFrom items_of one two whole weighed meets shelf
-    shelfWeighed refuses emptyAlone same greatest accepted noCounts
-border-cases-right = tt
+border_cases_right : T (all right border_cases)
+unfolding all any count sum keep memb range rising rising_after distinct prefix sets_from contained first_bad_from bad_set last_end ordered
+    is_permutation position signature_from seen goes_on goes_on_at ending ending_from is_candidate goes ending_in outcome total
+    join_answer join_tests sets_test words_needed work_test walk_answer bad_settings lt add mul of_int right border_cases ends_from items_of one two whole weighed meets shelf
+    shelf_weighed refuses empty_alone same greatest accepted no_counts
+border_cases_right = tt

@@ -19,8 +19,8 @@ first_of path = get_or path 0 0
 abbrev pub last_of : List ℕ → ℕ
 last_of path = get_or path (length path - 1) 0
 
-abbrev pub frontOf : List ℕ → List ℕ
-frontOf path = take (length path - 1) path
+abbrev pub front_of : List ℕ → List ℕ
+front_of path = take (length path - 1) path
 
 -- m: the left sets beginning with the path
 abbrev pub beginning : List (List ℕ) → List ℕ → ℕ
@@ -28,7 +28,7 @@ beginning lefts path = count (prefix path) lefts
 
 -- c: the seen right sets holding all ranks of the path but the last
 abbrev pub candidates : List (List ℕ) → List ℕ → ℕ
-candidates rights path = count (λ right. seen (first_of path) right && subset (frontOf path) right) rights
+candidates rights path = count (λ right. seen (first_of path) right && subset (front_of path) right) rights
 
 -- t: the seen right sets holding the path's last rank
 abbrev pub holders : List (List ℕ) → List ℕ → ℕ
@@ -40,14 +40,14 @@ whole n = of_int binary64 (pos n)
 
 -- whether the walk goes on at a node with these c, t and m. Each operation rounds once, in this order; a comparison with not-a-number
 -- is false
-unfoldable pub goesOn : Rule → ℕ → ℕ → ℕ → Bool
-goesOn Merge c t m = true
-goesOn Check c t m = false
-goesOn (Weighed w) c t m =
+unfoldable pub goes_on : Rule → ℕ → ℕ → ℕ → Bool
+goes_on Merge c t m = true
+goes_on Check c t m = false
+goes_on (Weighed w) c t m =
     lt
     (add binary64 (add binary64 (mul binary64 w.a (whole c)) (mul binary64 w.b (whole t))) w.g)
     (mul binary64 w.h (whole (c * m)))
 
 -- whether the walk goes on at the node of a path
-unfoldable pub goesOnAt : Rule → List (List ℕ) → List (List ℕ) → List ℕ → Bool
-goesOnAt rule lefts rights path = goesOn rule (candidates rights path) (holders rights path) (beginning lefts path)
+unfoldable pub goes_on_at : Rule → List (List ℕ) → List (List ℕ) → List ℕ → Bool
+goes_on_at rule lefts rights path = goes_on rule (candidates rights path) (holders rights path) (beginning lefts path)

@@ -1,7 +1,7 @@
 -- The settings of a join; and what the walk sees of an accepted input: the count of items, their ranks, the settings that bear on the
 -- walk, and both collections as sets.
 use Rattle.std.specs.Prelude.{ℕ, List}
-use Rattle.sets.specs.Collections.{setsOf}
+use Rattle.sets.specs.Collections.{sets_of}
 use Rattle.inputs.specs.Input.{Input}
 use Rattle.sets.specs.Ordered.{ordered}
 use Rattle.join_spec.specs.declared.Rule.{Rule}
@@ -13,8 +13,8 @@ pub record Settings : Type 0 where
   pub rule : Rule
 
 -- the settings as they are lent, by their names
-abbrev pub settingsOf : ℕ → List ℕ → ℕ → Rule → Settings
-settingsOf limit ranks budget rule = record { limit = limit; ranks = ranks; budget = budget; rule = rule }
+abbrev pub settings_of : ℕ → List ℕ → ℕ → Rule → Settings
+settings_of limit ranks budget rule = record { limit = limit; ranks = ranks; budget = budget; rule = rule }
 
 pub record Query : Type 0 where
   pub T : ℕ
@@ -26,21 +26,21 @@ pub record Query : Type 0 where
 
 -- the query of two collections and settings as they are lent
 abbrev pub query : ℕ → List ℕ → List ℕ → List ℕ → List ℕ → ℕ → List ℕ → Rule → Query
-query T leftEnds leftItems rightEnds rightItems limit ranks rule =
+query T left_ends left_items right_ends right_items limit ranks rule =
     record {
       T = T;
       ranks = ranks;
       limit = limit;
       rule = rule;
-      lefts = setsOf leftEnds leftItems;
-      rights = setsOf rightEnds rightItems;
+      lefts = sets_of left_ends left_items;
+      rights = sets_of right_ends right_items;
     }
 
 -- the query of an input and settings
-abbrev pub queryOf : Input → Settings → Query
-queryOf i s =
+abbrev pub query_of : Input → Settings → Query
+query_of i s =
     query i.T i.left.ends i.left.items i.right.ends i.right.items s.limit s.ranks s.rule
 
 -- a set in order of rising rank
-abbrev pub inOrder : Query → List ℕ → List ℕ
-inOrder q set = ordered q.T q.ranks set
+abbrev pub in_order : Query → List ℕ → List ℕ
+in_order q set = ordered q.T q.ranks set

@@ -4,60 +4,60 @@ use Rattle.std.specs.Prelude.{ℕ, zero, suc, ◌-◌, List, [], ◌∷◌, map,
 use Rattle.lists.specs.Lists.{subset}
 use Rattle.sets.specs.Collections.{contained}
 use Rattle.sets.specs.Signatures.{signature, drops}
-use Rattle.join_spec.specs.Query.{Query, inOrder}
-use Rattle.join_spec.specs.Node.{seen, goesOnAt}
+use Rattle.join_spec.specs.Query.{Query, in_order}
+use Rattle.join_spec.specs.Node.{seen, goes_on_at}
 
 -- how the walk of a left set ends: all its ranks were on the path, or it is checked after so many ranks
 pub data Ending : Type 0 where
   merged : Ending
-  checkedAfter : ℕ → Ending
+  checked_after : ℕ → Ending
 
 -- the ending from the node of depth d on, with n more levels within the limit
-unfoldable pub endingFrom : (List ℕ → Bool) → ℕ → ℕ → List ℕ → Ending
-endingFrom goes zero d ranks =
-    cond (goes (take d ranks)) (cond (eqb d (length ranks)) merged (checkedAfter d)) (checkedAfter (d - 1))
-endingFrom goes (suc n) d ranks =
-    let further = endingFrom goes n (suc d) ranks in
-    cond (goes (take d ranks)) (cond (eqb d (length ranks)) merged further) (checkedAfter (d - 1))
+unfoldable pub ending_from : (List ℕ → Bool) → ℕ → ℕ → List ℕ → Ending
+ending_from goes zero d ranks =
+    cond (goes (take d ranks)) (cond (eqb d (length ranks)) merged (checked_after d)) (checked_after (d - 1))
+ending_from goes (suc n) d ranks =
+    let further = ending_from goes n (suc d) ranks in
+    cond (goes (take d ranks)) (cond (eqb d (length ranks)) merged further) (checked_after (d - 1))
 
 -- the ending of a left set; an empty one has no node
 unfoldable pub ending : (List ℕ → Bool) → ℕ → List ℕ → Ending
 ending goes limit [] = merged
-ending goes limit (r ∷ ranks) = endingFrom goes (limit - 1) 1 (r ∷ ranks)
+ending goes limit (r ∷ ranks) = ending_from goes (limit - 1) 1 (r ∷ ranks)
 
 -- whether a right set is a candidate after the first d ranks of a left set: it is seen and holds them; an empty left set has none
-unfoldable pub isCandidate : ℕ → List ℕ → List ℕ → Bool
-isCandidate d [] right = false
-isCandidate d (r ∷ ranks) right = seen r right && subset (take d (r ∷ ranks)) right
+unfoldable pub is_candidate : ℕ → List ℕ → List ℕ → Bool
+is_candidate d [] right = false
+is_candidate d (r ∷ ranks) right = seen r right && subset (take d (r ∷ ranks)) right
 
 -- what becomes of a left and a right set
 pub data Outcome : Type 0 where
-  notMet : Outcome
-  byPath : Outcome
+  not_met : Outcome
+  by_path : Outcome
   dropped : Outcome
-  falseDrop : Outcome
+  false_drop : Outcome
   confirmed : Outcome
 
 -- a check compares signatures, then items
 abbrev pub check : List ℕ → List ℕ → Outcome
-check left right = cond (drops (signature left) (signature right)) dropped (cond (contained left right) confirmed falseDrop)
+check left right = cond (drops (signature left) (signature right)) dropped (cond (contained left right) confirmed false_drop)
 
 -- the outcome after an ending. It takes both sets by rank, what a pair by path is and what a check would find: the walk sees only
 -- ranks
-abbrev pub outcomeAfter : Ending → List ℕ → List ℕ → Outcome → Outcome → Outcome
-outcomeAfter merged leftRanks rightRanks paired checked =
-    cond (isCandidate (length leftRanks) leftRanks rightRanks) paired notMet
-outcomeAfter (checkedAfter d) leftRanks rightRanks paired checked =
-    cond (isCandidate d leftRanks rightRanks) checked notMet
+abbrev pub outcome_after : Ending → List ℕ → List ℕ → Outcome → Outcome → Outcome
+outcome_after merged left_ranks right_ranks paired checked =
+    cond (is_candidate (length left_ranks) left_ranks right_ranks) paired not_met
+outcome_after (checked_after d) left_ranks right_ranks paired checked =
+    cond (is_candidate d left_ranks right_ranks) checked not_met
 
 -- whether the walk of a query goes on at a path
 unfoldable pub goes : Query → List ℕ → Bool
-goes q path = goesOnAt q.rule (map (inOrder q) q.lefts) (map (inOrder q) q.rights) path
+goes q path = goes_on_at q.rule (map (in_order q) q.lefts) (map (in_order q) q.rights) path
 
 -- the ending of a left set in a query
-unfoldable pub endingIn : Query → List ℕ → Ending
-endingIn q left = ending (goes q) q.limit (inOrder q left)
+unfoldable pub ending_in : Query → List ℕ → Ending
+ending_in q left = ending (goes q) q.limit (in_order q left)
 
 -- the outcome of a left and a right set in a query
 unfoldable pub outcome : Query → List ℕ → List ℕ → Outcome
-outcome q left right = outcomeAfter (endingIn q left) (inOrder q left) (inOrder q right) byPath (check left right)
+outcome q left right = outcome_after (ending_in q left) (in_order q left) (in_order q right) by_path (check left right)

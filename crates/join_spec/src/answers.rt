@@ -1,13 +1,13 @@
 // The answer of a join as words at the C boundary.
 ghost use Rattle.std.specs.Prelude.{◌≡◌};
-ghost use Rattle.join_spec.specs.Answer.{joinWords};
+ghost use Rattle.join_spec.specs.Answer.{join_words};
 
 use crate::JoinAnswer;
 use sets::head_of;
 
 // The words of a join's answer at the C boundary.
 pub fn join_words(answer: JoinAnswer) -> [u64; 9]
-    ensures { result ≡ joinWords answer }
+    ensures { result ≡ join_words answer }
 {
     match answer {
         JoinAnswer::Joined(counts) => [

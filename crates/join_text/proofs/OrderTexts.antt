@@ -8,71 +8,71 @@ use native.Mathlib.Omega.{arith}
 use borrow.Author.Tests.{eq-eqb}
 use lib.Dec.{ltb}
 use lib.ListN.{length}
-use Rattle.sets.specs.Limits.{maxItems}
-use Rattle.sets.specs.Refusals.{refuseIf, unless}
+use Rattle.sets.specs.Limits.{max_items}
+use Rattle.sets.specs.Refusals.{refuse_if, unless}
 use Rattle.sets.specs.declared.Refusal.{Refusal}
 use Rattle.sets.specs.declared.Refusal.TheVariants.{BadSettings}
 use Rattle.sets.specs.declared.Tested.{Tested}
 use Rattle.sets.specs.declared.Tested.TheVariants.{Passed, Failed}
-use Rattle.inputs.specs.Input.{Input, leftSets, rightSets}
-use Rattle.inputs.specs.Tests.{setsTest, workTest}
+use Rattle.inputs.specs.Input.{Input, left_sets, right_sets}
+use Rattle.inputs.specs.Tests.{sets_test, work_test}
 use Rattle.item_order_spec.specs.declared.OrderAnswer.{OrderAnswer}
 use Rattle.item_order_spec.specs.declared.OrderAnswer.TheVariants as order
-use Rattle.item_order_spec.specs.Order.{rankTable, orderTest, orderAnswer, orderRanks, ranksAfter, OrderCall}
-use Rattle.item_order_spec.proofs.Ranks.{ranks-permutation}
+use Rattle.item_order_spec.specs.Order.{rank_table, order_test, order_answer, order_ranks, ranks_after, OrderCall}
+use Rattle.item_order_spec.proofs.Ranks.{ranks_permutation}
 use Rattle.join_spec.specs.declared.JoinAnswer.TheVariants.{Refused}
-use Rattle.join_spec.specs.PairList.{pairList}
-use Rattle.join_spec.specs.Answer.{badSettings, joinTests}
-use Rattle.join_spec.proofs.Accepted.{answer-refused}
+use Rattle.join_spec.specs.PairList.{pair_list}
+use Rattle.join_spec.specs.Answer.{bad_settings, join_tests}
+use Rattle.join_spec.proofs.Accepted.{answer_refused}
 use Rattle.tag_file.specs.declared.Repeats.{Repeats}
-use Rattle.text.specs.Lines.{refusalLine}
-use Rattle.text.specs.answer_text.AnswerText.{answerText}
-use Rattle.join_text.specs.JoinText.{programRoom, workWords, programSettings, joinText}
+use Rattle.text.specs.Lines.{refusal_line}
+use Rattle.text.specs.answer_text.AnswerText.{answer_text}
+use Rattle.join_text.specs.JoinText.{program_room, work_words, program_settings, join_text}
 
 -- a refused order failed its test
-failed-test : (t : Tested) (why : Refusal) → order.Refused why ≡ unless order.Refused t order.Ordered → t ≡ Failed why
-failed-test Passed why e = let z : ◌≡◌ {A = ℕ} 0 1 = cc in absurd (omega arith)
-failed-test (Failed w) why e = cc
+failed_test : (t : Tested) (why : Refusal) → order.Refused why ≡ unless order.Refused t order.Ordered → t ≡ Failed why
+failed_test Passed why e = let z : ◌≡◌ {A = ℕ} 0 1 = cc in absurd (omega arith)
+failed_test (Failed w) why e = cc
 
 module _ (i : Input) where
   abbrev table : List ℕ
-  table = rankTable false i.T (leftSets i) (rightSets i)
+  table = rank_table false i.T (left_sets i) (right_sets i)
 
   -- the program's settings are refused only where T is too great
-  settings-bad : badSettings i.T 2 table ≡ ltb maxItems i.T
-  unfolding badSettings
-  settings-bad = rw (ranks-permutation false i.T (leftSets i) (rightSets i)) (by_size (ltb maxItems i.T))
+  settings_bad : bad_settings i.T 2 table ≡ ltb max_items i.T
+  unfolding bad_settings
+  settings_bad = rw (ranks_permutation false i.T (left_sets i) (right_sets i)) (by_size (ltb max_items i.T))
     where
       by_size : (b : Bool) → (b || false) ≡ b
       by_size true = refl
       by_size false = refl
 
   -- what the order's test fails for the join's tests fail for, too
-  tests_same : (places words : ℕ) (why : Refusal) → places ≡ i.T → orderTest i places ≡ Failed why
-      → joinTests i 2 table words ≡ Failed why
-  unfolding orderTest joinTests
+  tests_same : (places words : ℕ) (why : Refusal) → places ≡ i.T → order_test i places ≡ Failed why
+      → join_tests i 2 table words ≡ Failed why
+  unfolding order_test join_tests
   tests_same places words why long e =
-      rw settings-bad (by_size (ltb maxItems i.T) (rw (eq-eqb places i.T long) at e))
+      rw settings_bad (by_size (ltb max_items i.T) (rw (eq-eqb places i.T long) at e))
     where
-      later : (t : Tested) → t ≡ Failed why → unless Failed t (workTest i words) ≡ Failed why
+      later : (t : Tested) → t ≡ Failed why → unless Failed t (work_test i words) ≡ Failed why
       later t e = rw e
 
-      by_size : (large : Bool) → unless Failed (refuseIf large BadSettings) (setsTest i) ≡ Failed why
-          → unless Failed (refuseIf large BadSettings) (unless Failed (setsTest i) (workTest i words)) ≡ Failed why
+      by_size : (large : Bool) → unless Failed (refuse_if large BadSettings) (sets_test i) ≡ Failed why
+          → unless Failed (refuse_if large BadSettings) (unless Failed (sets_test i) (work_test i words)) ≡ Failed why
       by_size true e = e
-      by_size false e = later (setsTest i) e
+      by_size false e = later (sets_test i) e
 
   module _ {ranks after : List ℕ} {answer : OrderAnswer} (call : OrderCall i false ranks after answer) where
-    pub ordered-ranks : answer ≡ order.Ordered → after ≡ table
-    unfolding orderRanks
-    ordered-ranks e =
-        call.ranks ∙ ap (λ (a : OrderAnswer). ranksAfter a table ranks) (sym call.answered ∙ e)
+    pub ordered_ranks : answer ≡ order.Ordered → after ≡ table
+    unfolding order_ranks
+    ordered_ranks e =
+        call.ranks ∙ ap (λ (a : OrderAnswer). ranks_after a table ranks) (sym call.answered ∙ e)
 
-    pub refused-order : {why : Refusal} → answer ≡ order.Refused why → length ranks ≡ i.T
-        → (repeats : Repeats) (leftNumbers rightNumbers : List ℕ)
-        → refusalLine why ≡ joinText repeats leftNumbers rightNumbers i (programSettings i)
-    unfolding orderAnswer joinText
-    refused-order {why} e long repeats leftNumbers rightNumbers =
-        let failed = failed-test (orderTest i (length ranks)) why (sym e ∙ call.answered) in
-        ap (answerText repeats leftNumbers rightNumbers (pairList (leftSets i) (rightSets i)))
-        (sym (answer-refused i (programSettings i) programRoom (tests_same (length ranks) workWords why long failed)))
+    pub refused_order : {why : Refusal} → answer ≡ order.Refused why → length ranks ≡ i.T
+        → (repeats : Repeats) (left_numbers right_numbers : List ℕ)
+        → refusal_line why ≡ join_text repeats left_numbers right_numbers i (program_settings i)
+    unfolding order_answer join_text
+    refused_order {why} e long repeats left_numbers right_numbers =
+        let failed = failed_test (order_test i (length ranks)) why (sym e ∙ call.answered) in
+        ap (answer_text repeats left_numbers right_numbers (pair_list (left_sets i) (right_sets i)))
+        (sym (answer_refused i (program_settings i) program_room (tests_same (length ranks) work_words why long failed)))

@@ -5,20 +5,20 @@ use mathlib.Core.List.{List}
 use native.Mathlib.Omega.{arith}
 use lib.ListN.{length, drop, length-append}
 use Rattle.lists.specs.Writing.{Put}
-use Rattle.lists.proofs.Writing.{written-whole}
+use Rattle.lists.proofs.Writing.{written_whole}
 use Rattle.join_text.specs.JoinText.{FillsText}
 
-pub put-fills : {text was : List ℕ} {r : ℕ} {is : List ℕ} → Put was 0 text r is → r ≤ length was → FillsText text was r is
-put-fills put room =
+pub put_fills : {text was : List ℕ} {r : ℕ} {is : List ℕ} → Put was 0 text r is → r ≤ length was → FillsText text was r is
+put_fills put room =
     record {
       long = omega (arith, put.past);
       room = room;
-      list = written-whole put (omega (arith, put.past));
+      list = written_whole put (omega (arith, put.past));
     }
 
 -- the text lies within the list
-pub fills-within : {text was : List ℕ} {r : ℕ} {is : List ℕ} → FillsText text was r is → r ≤ length is
-fills-within {text} {was} {r} {is} f =
+pub fills_within : {text was : List ℕ} {r : ℕ} {is : List ℕ} → FillsText text was r is → r ≤ length is
+fills_within {text} {was} {r} {is} f =
     omega (arith, f.long, ap length f.list, length-append text (drop (length text) was))
 
 -- the same text, said otherwise

@@ -2,8 +2,8 @@
 // them, and writes the counts, the repeats that were read with them and a line for each pair, or why there is no list. The text is
 // defined in specs/.
 ghost use Rattle.std.specs.Prelude.{◌≡◌, length};
-ghost use Rattle.inputs.specs.Input.{lentInput};
-ghost use Rattle.join_text.specs.JoinText.{workWords, pairPlaces, settingsUnder, programSettings, joinText, FillsText};
+ghost use Rattle.inputs.specs.Input.{lent_input};
+ghost use Rattle.join_text.specs.JoinText.{work_words, pair_places, settings_under, program_settings, join_text, FillsText};
 ghost use Rattle.join_text.specs.Inner.{Numbered};
 
 use item_order_spec::OrderAnswer;
@@ -24,13 +24,13 @@ const WORDS: usize = 16384;
 const PLACES: usize = 2 * MAX_PAIRS;
 
 fn new_work() -> [u32; WORDS]
-    ensures { workWords ≡ length result }
+    ensures { work_words ≡ length result }
 {
     [0; WORDS]
 }
 
 fn new_pairs() -> [u16; PLACES]
-    ensures { pairPlaces ≡ length result }
+    ensures { pair_places ≡ length result }
 {
     [0; PLACES]
 }
@@ -49,9 +49,9 @@ fn list_ordered(
     text: &mut [u8],
 ) -> usize
     requires { Numbered left_numbers.now left_ends.now right_numbers.now right_ends.now text.old }
-    ensures { FillsText (joinText repeats left_numbers.now right_numbers.now
-        (lentInput t left_ends left_items right_ends right_items)
-        (settingsUnder ranks.now)) text.old result text.new }
+    ensures { FillsText (join_text repeats left_numbers.now right_numbers.now
+        (lent_input t left_ends left_items right_ends right_items)
+        (settings_under ranks.now)) text.old result text.new }
 {
     let mut work = new_work();
     let mut pairs = new_pairs();
@@ -86,9 +86,9 @@ pub fn list_loaded(
 ) -> usize
     requires numbered { Numbered left_numbers.now left_ends.now right_numbers.now right_ends.now text.old }
     requires ranks_len { length ranks.old ≡ t }
-    ensures { FillsText (joinText repeats left_numbers.now right_numbers.now
-        (lentInput t left_ends left_items right_ends right_items)
-        (programSettings (lentInput t left_ends left_items right_ends right_items))) text.old result text.new }
+    ensures { FillsText (join_text repeats left_numbers.now right_numbers.now
+        (lent_input t left_ends left_items right_ends right_items)
+        (program_settings (lent_input t left_ends left_items right_ends right_items))) text.old result text.new }
 {
     let answer = item_order::order(
         t,

@@ -11,22 +11,22 @@ use Rattle.join_nodes.specs.declared.Progress.{Progress}
 use Rattle.join_nodes.specs.declared.WalkSettings.{WalkSettings}
 use Rattle.join_nodes.specs.declared.Walked.{Walked}
 use Rattle.join_nodes.proofs.PartLoop.{PartDone}
-use Rattle.join_walk.proofs.visit.ChildSteps.{childRank, first-child, kids-next}
+use Rattle.join_walk.proofs.visit.ChildSteps.{child_rank, first_child, kids_next}
 use Rattle.join_walk.specs.partition.Partition.{Partition, PartVisited}
 use Rattle.join_walk.specs.Partitions.{Partitions}
 
 -- the first of the partitions, visited, as a part of them
-pub partitions-done : {lay : Layout} {st : WalkSettings} {w w' : List ℕ} {i j hi : ℕ} {p : Progress} {one : Walked} → i < hi
+pub partitions_done : {lay : Layout} {st : WalkSettings} {w w' : List ℕ} {i j hi : ℕ} {p : Progress} {one : Walked} → i < hi
     → RangeEnd lay w 0 i hi j
     → ((q : Query) (r : ℕ) → Partition lay st q w i j p r → PartVisited lay st q w w' i j p.tally one)
     → (q : Query) (path : List ℕ) → Partitions lay st q w i hi p
     → PartDone lay st.budget 1 hi (λ path w. lay.slots) (λ q path w i r. Partitions lay st q w i hi r) q path w i p w'
     j one
-partitions-done more end each q path parts =
-    let visit = each q (childRank parts more) (first-child parts more end) in
+partitions_done more end each q path parts =
+    let visit = each q (child_rank parts more) (first_child parts more end) in
     record {
       facts = record { index = parts.index; few = parts.few; slots = omega arith };
       visit = visit;
       steady = refl;
-      next = λ calm. kids-next parts more end (omega arith) visit calm;
+      next = λ calm. kids_next parts more end (omega arith) visit calm;
     }

@@ -1,9 +1,9 @@
 -- Inner: the whole walk: left sets by first rank, each partition with the right sets seen at it. What is known before it, and what it
 -- answers.
 use Rattle.std.specs.Prelude.{ℕ, ◌≤◌, ◌<◌, ◌≡◌, List, [], true, false, length}
-use Rattle.sets.specs.Limits.{maxLimit}
+use Rattle.sets.specs.Limits.{max_limit}
 use Rattle.join_spec.specs.Query.{Query}
-use Rattle.join_spec.specs.Counting.{total, isCheck}
+use Rattle.join_spec.specs.Counting.{total, is_check}
 use Rattle.join_spec.specs.Kinds.{Kind, is_of}
 use Rattle.join_index.specs.declared.Layout.{Layout}
 use Rattle.join_index.specs.Asking.{Index}
@@ -22,16 +22,16 @@ Partitions lay st q w lo hi p = Children lay st q [] w 0 lo hi p
 pub record WalkReady (lay : Layout) (st : WalkSettings) (q : Query) (w : List ℕ) (lefts : ℕ) : Type 0 where
   pub index : Index lay q w
   pub limit : st.limit ≡ q.limit
-  pub shallow : q.limit ≤ maxLimit
+  pub shallow : q.limit ≤ max_limit
   pub rule : st.rule ≡ q.rule
   pub some : 0 < q.limit
-  pub leftCount : length q.lefts ≡ lefts
+  pub left_count : length q.lefts ≡ lefts
 
 -- the counter of each kind is the query's count, within the budget; or the checks of the whole walk exceed it
 pub record QueryCounted (q : Query) (budget : ℕ) (r : Walked) : Type 0 where
   pub counts : r.spent ≡ false → (kind : Kind) → counter kind r.at.tally ≡ total (is_of kind) q
-  pub within : r.spent ≡ false → total isCheck q ≤ budget
-  pub beyond : r.spent ≡ true → budget < total isCheck q
+  pub within : r.spent ≡ false → total is_check q ≤ budget
+  pub beyond : r.spent ≡ true → budget < total is_check q
 
 -- the walk was made
 pub record WalkDone (lay : Layout) (q : Query) (budget : ℕ) (w w' : List ℕ) (r : Walked) : Type 0 where

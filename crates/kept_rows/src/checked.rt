@@ -1,9 +1,9 @@
 // Rows that are kept while their left set is checked: the places of the right sets that a check confirms, stored at the end of the
 // kept rows as they are found.
 ghost use Rattle.std.specs.Prelude.{◌+◌, ◌-◌, ◌<◌};
-ghost use Rattle.sets.specs.Limits.{fullWords};
+ghost use Rattle.sets.specs.Limits.{full_words};
 ghost use Rattle.join_index.specs.Asking.{SomeQuery};
-ghost use Rattle.join_check.specs.Counters.{checksIn};
+ghost use Rattle.join_check.specs.Counters.{checks_in};
 ghost use Rattle.kept_rows.specs.checked.Recording.{RowRecordable, RowRecorded};
 
 use crate::keep_row;
@@ -31,7 +31,7 @@ pub fn record_row(
     top: usize,
 ) -> Recorded
     requires some_query { SomeQuery (λ q. RowRecordable lay q work.old k e from to top) }
-    requires from_bound { checksIn tally + (to - from) < fullWords }
+    requires from_bound { checks_in tally + (to - from) < full_words }
     ensures { RowRecorded lay work.old k e from to tally top work.new result }
 {
     let p = probe_left(work, lay, k, e);

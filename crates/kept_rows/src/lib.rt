@@ -2,7 +2,7 @@
 // for left sets that the same right sets contain. `checked` keeps a row while its left set is checked.
 ghost use Rattle.std.specs.Prelude.{◌≡◌};
 ghost use Rattle.join_index.specs.Asking.{SomeQuery};
-ghost use Rattle.kept_rows.specs.Keeping.{ClearThere, Cleared, WordsRoom, rowStored, ShareThere, Shared, ListThere, ListKept};
+ghost use Rattle.kept_rows.specs.Keeping.{ClearThere, Cleared, WordsRoom, row_stored, ShareThere, Shared, ListThere, ListKept};
 
 use join_index::Layout;
 use words::copies::copy_words;
@@ -26,7 +26,7 @@ pub fn clear_rows(work: &mut [u32], lay: Layout, lefts: usize)
 // The row of the left set k is work[from..to].
 pub fn keep_row(work: &mut [u32], lay: Layout, k: usize, from: usize, to: usize)
     requires { WordsRoom lay k from to work.old }
-    ensures { work.new ≡ rowStored lay k from to work.old }
+    ensures { work.new ≡ row_stored lay k from to work.old }
 {
     work[lay.row_starts + k] = from as u32;
     work[lay.row_ends + k] = to as u32;

@@ -1,16 +1,16 @@
 // The static library for C and Rust: thin exported functions, each over one proved operation. Names, parameters and answer words
 // are those of include/kitfinder.h; what the words hold is defined with each operation's answer.
 ghost use Rattle.std.specs.Prelude.{◌≡◌, not, eqb, length};
-ghost use Rattle.tag_file.specs.Repeats.{recordRead};
-ghost use Rattle.tag_file.specs.answers.Words.{readWords, loadWords};
-ghost use Rattle.join_spec.specs.Answer.{roomOf, joinWords, JoinCall};
-ghost use Rattle.inputs.specs.Input.{lentInput};
-ghost use Rattle.join.specs.Numbered.{weightsOf, numberedAnswer};
-ghost use Rattle.first_search_spec.specs.First.{firstAnswer, firstWords};
-ghost use Rattle.item_order_spec.specs.Order.{orderAnswer, orderRanks, orderWords};
-ghost use Rattle.tag_file.specs.Loading.{lentLists, returnedLists, loadAnswer, LoadCall};
-ghost use Rattle.pool_loader_spec.specs.Pooling.{pooledAnswer, PooledCall};
-ghost use Rattle.tag_writer_spec.specs.Writer.{writeAnswer, writtenFile, writeWords};
+ghost use Rattle.tag_file.specs.Repeats.{record_read};
+ghost use Rattle.tag_file.specs.answers.Words.{read_words, load_words};
+ghost use Rattle.join_spec.specs.Answer.{room_of, join_words, JoinCall};
+ghost use Rattle.inputs.specs.Input.{lent_input};
+ghost use Rattle.join.specs.Numbered.{weights_of, numbered_answer};
+ghost use Rattle.first_search_spec.specs.First.{first_answer, first_words};
+ghost use Rattle.item_order_spec.specs.Order.{order_answer, order_ranks, order_words};
+ghost use Rattle.tag_file.specs.Loading.{lent_lists, returned_lists, load_answer, LoadCall};
+ghost use Rattle.pool_loader_spec.specs.Pooling.{pooled_answer, PooledCall};
+ghost use Rattle.tag_writer_spec.specs.Writer.{write_answer, written_file, write_words};
 
 use join_spec::Weights;
 
@@ -34,17 +34,17 @@ pub extern "C" fn kitfinder_join(
     pairs: &mut [u16],
     answer: &mut [u64; 9],
 )
-    ensures answer { answer.new ≡ joinWords (numberedAnswer
-        (lentInput t left_ends left_items right_ends right_items)
-        limit ranks.now budget number (weightsOf a b g h) (roomOf work.old pairs.old)) }
-    ensures lists { JoinCall (numberedAnswer
-        (lentInput t left_ends left_items right_ends right_items)
-        limit ranks.now budget number (weightsOf a b g h) (roomOf work.old pairs.old))
-        (lentInput t left_ends left_items right_ends right_items)
+    ensures answer { answer.new ≡ join_words (numbered_answer
+        (lent_input t left_ends left_items right_ends right_items)
+        limit ranks.now budget number (weights_of a b g h) (room_of work.old pairs.old)) }
+    ensures lists { JoinCall (numbered_answer
+        (lent_input t left_ends left_items right_ends right_items)
+        limit ranks.now budget number (weights_of a b g h) (room_of work.old pairs.old))
+        (lent_input t left_ends left_items right_ends right_items)
         work.old pairs.old work.new pairs.new
-        (numberedAnswer
-        (lentInput t left_ends left_items right_ends right_items)
-        limit ranks.now budget number (weightsOf a b g h) (roomOf work.old pairs.old)) }
+        (numbered_answer
+        (lent_input t left_ends left_items right_ends right_items)
+        limit ranks.now budget number (weights_of a b g h) (room_of work.old pairs.old)) }
 {
     let weights = Weights { a, b, g, h };
     *answer = join_spec::answers::join_words(join::run_numbered(
@@ -72,7 +72,7 @@ pub extern "C" fn kitfinder_first(
     right: &[u16],
     answer: &mut [u64; 6],
 )
-    ensures answer { answer.new ≡ firstWords (firstAnswer t
+    ensures answer { answer.new ≡ first_words (first_answer t
         (record { ends = left_ends.now; items = left_items.now }) right.now) }
 {
     *answer = first_search_spec::first_words(first_search::find_first(
@@ -83,7 +83,7 @@ pub extern "C" fn kitfinder_first(
 // Reads the record at a place of a tag file.
 #[unsafe(no_mangle)]
 pub extern "C" fn kitfinder_read_record(file: &[u8], at: usize, answer: &mut [u64; 10])
-    ensures answer { answer.new ≡ readWords (recordRead file.now at) }
+    ensures answer { answer.new ≡ read_words (record_read file.now at) }
 {
     *answer = tag_file::answers::read_words(record_reader::read(file, at));
 }
@@ -100,11 +100,11 @@ pub extern "C" fn kitfinder_order(
     ranks: &mut [u16],
     answer: &mut [u64; 3],
 )
-    ensures answer { answer.new ≡ orderWords (orderAnswer
-        (lentInput t left_ends left_items right_ends right_items)
+    ensures answer { answer.new ≡ order_words (order_answer
+        (lent_input t left_ends left_items right_ends right_items)
         (length ranks.old)) }
-    ensures ranks { ranks.new ≡ orderRanks
-        (lentInput t left_ends left_items right_ends right_items)
+    ensures ranks { ranks.new ≡ order_ranks
+        (lent_input t left_ends left_items right_ends right_items)
         (not (eqb falling 0)) ranks.old }
 {
     *answer = item_order_spec::order_words(item_order::order(
@@ -131,13 +131,13 @@ pub extern "C" fn kitfinder_load(
     right_items: &mut [u16],
     answer: &mut [u64; 10],
 )
-    ensures answer { answer.new ≡ loadWords (loadAnswer file.now
-        (lentLists tags left_numbers left_ends left_items right_numbers right_ends right_items)) }
+    ensures answer { answer.new ≡ load_words (load_answer file.now
+        (lent_lists tags left_numbers left_ends left_items right_numbers right_ends right_items)) }
     ensures lists { LoadCall file.now
-        (lentLists tags left_numbers left_ends left_items right_numbers right_ends right_items)
-        (returnedLists tags left_numbers left_ends left_items right_numbers right_ends right_items)
-        (loadAnswer file.now
-        (lentLists tags left_numbers left_ends left_items right_numbers right_ends right_items)) }
+        (lent_lists tags left_numbers left_ends left_items right_numbers right_ends right_items)
+        (returned_lists tags left_numbers left_ends left_items right_numbers right_ends right_items)
+        (load_answer file.now
+        (lent_lists tags left_numbers left_ends left_items right_numbers right_ends right_items)) }
 {
     *answer = tag_file::answers::load_words(tag_loader::load(
         file,
@@ -165,13 +165,13 @@ pub extern "C" fn kitfinder_load_pooled(
     right_items: &mut [u16],
     answer: &mut [u64; 10],
 )
-    ensures answer { answer.new ≡ loadWords (pooledAnswer first.now second.now
-        (lentLists tags left_numbers left_ends left_items right_numbers right_ends right_items)) }
+    ensures answer { answer.new ≡ load_words (pooled_answer first.now second.now
+        (lent_lists tags left_numbers left_ends left_items right_numbers right_ends right_items)) }
     ensures lists { PooledCall first.now second.now
-        (lentLists tags left_numbers left_ends left_items right_numbers right_ends right_items)
-        (returnedLists tags left_numbers left_ends left_items right_numbers right_ends right_items)
-        (pooledAnswer first.now second.now
-        (lentLists tags left_numbers left_ends left_items right_numbers right_ends right_items)) }
+        (lent_lists tags left_numbers left_ends left_items right_numbers right_ends right_items)
+        (returned_lists tags left_numbers left_ends left_items right_numbers right_ends right_items)
+        (pooled_answer first.now second.now
+        (lent_lists tags left_numbers left_ends left_items right_numbers right_ends right_items)) }
 {
     *answer = tag_file::answers::load_words(pool_loader::load_pooled(
         first,
@@ -200,10 +200,10 @@ pub extern "C" fn kitfinder_write(
     file: &mut [u8],
     answer: &mut [u64; 4],
 )
-    ensures answer { answer.new ≡ writeWords (writeAnswer t
-        (lentLists tags left_numbers left_ends left_items right_numbers right_ends right_items) (length file.old)) }
-    ensures file { file.new ≡ writtenFile t
-        (lentLists tags left_numbers left_ends left_items right_numbers right_ends right_items) file.old }
+    ensures answer { answer.new ≡ write_words (write_answer t
+        (lent_lists tags left_numbers left_ends left_items right_numbers right_ends right_items) (length file.old)) }
+    ensures file { file.new ≡ written_file t
+        (lent_lists tags left_numbers left_ends left_items right_numbers right_ends right_items) file.old }
 {
     *answer = tag_writer_spec::write_words(tag_writer::write(
         t,

@@ -2,15 +2,15 @@
 // the join of its left sets (kits) with its right sets (stacks), with the repeats that the loader counted, or why there is no list.
 // The text is defined in `listing_spec`.
 ghost use Rattle.std.specs.Prelude.{◌≡◌, ◌≤◌, length};
-ghost use Rattle.sets.specs.Limits.{maxSets};
+ghost use Rattle.sets.specs.Limits.{max_sets};
 ghost use Rattle.sets.specs.Refusals.{unless};
 ghost use Rattle.tag_file.specs.Records.{records};
-ghost use Rattle.tag_file.specs.Loading.{fileFault};
-ghost use Rattle.text.specs.Lines.{refusalLine};
+ghost use Rattle.tag_file.specs.Loading.{file_fault};
+ghost use Rattle.text.specs.Lines.{refusal_line};
 ghost use Rattle.join_text.specs.JoinText.{FillsText};
-ghost use Rattle.join_text.specs.Inner.{textRoom};
-ghost use Rattle.listing_spec.specs.Listing.{maxFile, recordsText, listing};
-ghost use Rattle.listing_spec.specs.Inner.{tableBytes, sideItems, Within, cutText};
+ghost use Rattle.join_text.specs.Inner.{text_room};
+ghost use Rattle.listing_spec.specs.Listing.{max_file, records_text, listing};
+ghost use Rattle.listing_spec.specs.Inner.{table_bytes, side_items, Within, cut_text};
 
 use join_text::{MAX_PAIRS, list_loaded};
 use sets::{MAX_ITEMS, MAX_SETS, Refusal};
@@ -41,7 +41,7 @@ fn list_counted(
 ) -> usize
     requires { Within loaded left_numbers.now left_ends.now left_items.now
         right_numbers.now right_ends.now right_items.now ranks.old text.old }
-    ensures { FillsText (cutText loaded repeats
+    ensures { FillsText (cut_text loaded repeats
         left_numbers.now left_ends.now left_items.now
         right_numbers.now right_ends.now right_items.now)
         text.old result text.new }
@@ -66,33 +66,33 @@ fn list_counted(
 }
 
 fn new_tags() -> [u8; TABLE]
-    ensures { tableBytes ≡ length result }
+    ensures { table_bytes ≡ length result }
 {
     [0; TABLE]
 }
 
 fn new_places() -> [u16; MAX_SETS]
-    ensures { maxSets ≡ length result }
+    ensures { max_sets ≡ length result }
 {
     [0; MAX_SETS]
 }
 
 fn new_ends() -> [u32; MAX_SETS]
-    ensures { maxSets ≡ length result }
+    ensures { max_sets ≡ length result }
 {
     [0; MAX_SETS]
 }
 
 fn new_items() -> [u16; ITEMS]
-    ensures { sideItems ≡ length result }
+    ensures { side_items ≡ length result }
 {
     [0; ITEMS]
 }
 
 // The text of a file that is not too long. The lists hold every such file without a fault.
 fn list_short(file: &[u8], text: &mut [u8]) -> usize
-    requires { (length file.now ≤ maxFile) × (textRoom ≤ length text.old) }
-    ensures { FillsText (unless refusalLine (fileFault file.now) (recordsText (records file.now)))
+    requires { (length file.now ≤ max_file) × (text_room ≤ length text.old) }
+    ensures { FillsText (unless refusal_line (file_fault file.now) (records_text (records file.now)))
         text.old result text.new }
 {
     let mut tags = new_tags();

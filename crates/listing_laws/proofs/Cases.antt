@@ -12,178 +12,178 @@ use lib.Dec.{ltb}
 use lib.ListN.{length, get_or, length-map}
 use Rattle.lists.specs.Lists.{one}
 use Rattle.lists.proofs.Bools.{same_test}
-use Rattle.sets.specs.Limits.{maxSets, fullWords}
+use Rattle.sets.specs.Limits.{max_sets, full_words}
 use Rattle.sets.specs.Refusals.{unless}
 use Rattle.sets.specs.declared.Side.{Side}
 use Rattle.sets.specs.declared.Side.TheVariants.{Left, Right}
 use Rattle.sets.specs.declared.Refusal.TheVariants.{ShortWork, ShortPairs}
 use Rattle.sets.specs.declared.Tested.{Tested}
 use Rattle.sets.specs.declared.Tested.TheVariants.{Passed, Failed}
-use Rattle.inputs.specs.Input.{Input, leftSets, rightSets}
-use Rattle.inputs.specs.Tests.{wordsNeeded}
-use Rattle.inputs.proofs.TestLaws.{BothGood, good-sets, work-short}
-use Rattle.item_order_spec.specs.Order.{rankTable}
-use Rattle.item_order_spec.proofs.Ranks.{ranks-permutation}
+use Rattle.inputs.specs.Input.{Input, left_sets, right_sets}
+use Rattle.inputs.specs.Tests.{words_needed}
+use Rattle.inputs.proofs.TestLaws.{BothGood, good_sets, work_short}
+use Rattle.item_order_spec.specs.Order.{rank_table}
+use Rattle.item_order_spec.proofs.Ranks.{ranks_permutation}
 use Rattle.join_spec.specs.declared.JoinAnswer.{JoinAnswer}
 use Rattle.join_spec.specs.declared.JoinAnswer.TheVariants.{Joined, Refused}
 use Rattle.join_spec.specs.declared.Rule.TheVariants.{Merge}
-use Rattle.join_spec.specs.PairList.{pairList, pairCount}
-use Rattle.join_spec.specs.Query.{Query, queryOf}
-use Rattle.join_spec.specs.Counting.{isCheck, checksOf, countsOf}
-use Rattle.join_spec.specs.Answer.{joinTests, walkAnswer, joinAnswer}
-use Rattle.join_spec.proofs.Demand.{total-small}
-use Rattle.join_spec.proofs.GoodSettings.{GoodSettings, settings-good}
-use Rattle.join_spec.proofs.Accepted.{answer-tested, answer-refused}
-use Rattle.join_spec.proofs.PairListLaws.{pairOccurs, pair-occurs}
-use Rattle.tag_file.specs.Records.{TagRecord, records, ofSide, tagTable, items_of, setsOfSide}
+use Rattle.join_spec.specs.PairList.{pair_list, pair_count}
+use Rattle.join_spec.specs.Query.{Query, query_of}
+use Rattle.join_spec.specs.Counting.{is_check, checks_of, counts_of}
+use Rattle.join_spec.specs.Answer.{join_tests, walk_answer, join_answer}
+use Rattle.join_spec.proofs.Demand.{total_small}
+use Rattle.join_spec.proofs.GoodSettings.{GoodSettings, settings_good}
+use Rattle.join_spec.proofs.Accepted.{answer_tested, answer_refused}
+use Rattle.join_spec.proofs.PairListLaws.{pair_occurs, pair_occurs_lem}
+use Rattle.tag_file.specs.Records.{TagRecord, records, of_side, tag_table, items_of, sets_of_side}
 use Rattle.tag_file.specs.declared.Repeats.{Repeats}
-use Rattle.tag_file.specs.Repeats.{repeatTotals}
-use Rattle.tag_file.specs.Loading.{fileFault, numbersOf}
-use Rattle.tag_round_trip.proofs.Decoding.{sets-joined}
-use Rattle.tag_round_trip.proofs.Refilled.{side-unbad}
-use Rattle.tag_round_trip.proofs.FileRecords.{file-few}
-use Rattle.tag_containment.proofs.LoadedPairs.{tagsContained, sets-tags}
-use Rattle.text.specs.Lines.{refusalLine, countsLine, repeatsLine, pairLines}
-use Rattle.text.specs.answer_text.AnswerText.{answerText}
-use Rattle.join_text.specs.JoinText.{workWords, pairPlaces, programRoom, programSettings, joinText}
-use Rattle.listing_spec.specs.Listing.{recordsInput, recordsText, lengthTest, listing}
-use Rattle.listing_spec.proofs.LoadRoom.{fault-free}
-use Rattle.listing_laws.proofs.Sizes.{recordsSize, words-records}
+use Rattle.tag_file.specs.Repeats.{repeat_totals}
+use Rattle.tag_file.specs.Loading.{file_fault, numbers_of}
+use Rattle.tag_round_trip.proofs.Decoding.{sets_joined}
+use Rattle.tag_round_trip.proofs.Refilled.{side_unbad}
+use Rattle.tag_round_trip.proofs.FileRecords.{file_few}
+use Rattle.tag_containment.proofs.LoadedPairs.{tags_contained, sets_tags}
+use Rattle.text.specs.Lines.{refusal_line, counts_line, repeats_line, pair_lines}
+use Rattle.text.specs.answer_text.AnswerText.{answer_text}
+use Rattle.join_text.specs.JoinText.{work_words, pair_places, program_room, program_settings, join_text}
+use Rattle.listing_spec.specs.Listing.{records_input, records_text, length_test, listing}
+use Rattle.listing_spec.proofs.LoadRoom.{fault_free}
+use Rattle.listing_laws.proofs.Sizes.{records_size, words_records}
 
 -- the sets of a side's records, by place
-abbrev pub sideSets : Side → List TagRecord → List (List ℕ)
-sideSets side rs = setsOfSide side (tagTable rs) rs
+abbrev pub side_sets : Side → List TagRecord → List (List ℕ)
+side_sets side rs = sets_of_side side (tag_table rs) rs
 
 -- the walk over them: limit 2, Merge, ranks by rising frequency
-abbrev pub queryWith : ℕ → List (List ℕ) → List (List ℕ) → Query
-queryWith T lefts rights =
-    record { T = T; ranks = rankTable false T lefts rights; limit = 2; rule = Merge; lefts = lefts; rights = rights }
+abbrev pub query_with : ℕ → List (List ℕ) → List (List ℕ) → Query
+query_with T lefts rights =
+    record { T = T; ranks = rank_table false T lefts rights; limit = 2; rule = Merge; lefts = lefts; rights = rights }
 
-abbrev pub recordsQuery : List TagRecord → Query
-recordsQuery rs = queryWith (length (tagTable rs)) (sideSets Left rs) (sideSets Right rs)
+abbrev pub records_query : List TagRecord → Query
+records_query rs = query_with (length (tag_table rs)) (side_sets Left rs) (side_sets Right rs)
 
 -- the text of records without a fault
-abbrev pub plainText : List TagRecord → List ℕ
-plainText rs =
-    cond (ltb 1020 (recordsSize rs)) (refusalLine ShortWork)
-    (cond (ltb 8192 (pairCount (sideSets Left rs) (sideSets Right rs))) (refusalLine ShortPairs)
-    (countsLine (countsOf (recordsQuery rs))
-    ++ (repeatsLine (repeatTotals rs)
-    ++ pairLines (numbersOf Left rs) (numbersOf Right rs) (pairList (sideSets Left rs) (sideSets Right rs)))))
+abbrev pub plain_text : List TagRecord → List ℕ
+plain_text rs =
+    cond (ltb 1020 (records_size rs)) (refusal_line ShortWork)
+    (cond (ltb 8192 (pair_count (side_sets Left rs) (side_sets Right rs))) (refusal_line ShortPairs)
+    (counts_line (counts_of (records_query rs))
+    ++ (repeats_line (repeat_totals rs)
+    ++ pair_lines (numbers_of Left rs) (numbers_of Right rs) (pair_list (side_sets Left rs) (side_sets Right rs)))))
 
 -- the sets of the records' input
-lefts-are : (rs : List TagRecord) → leftSets (recordsInput rs) ≡ sideSets Left rs
-lefts-are rs = sets-joined (sideSets Left rs)
+lefts_are : (rs : List TagRecord) → left_sets (records_input rs) ≡ side_sets Left rs
+lefts_are rs = sets_joined (side_sets Left rs)
 
-rights-are : (rs : List TagRecord) → rightSets (recordsInput rs) ≡ sideSets Right rs
-rights-are rs = sets-joined (sideSets Right rs)
+rights_are : (rs : List TagRecord) → right_sets (records_input rs) ≡ side_sets Right rs
+rights_are rs = sets_joined (side_sets Right rs)
 
-query-is : (rs : List TagRecord) → queryOf (recordsInput rs) (programSettings (recordsInput rs)) ≡ recordsQuery rs
-query-is rs = ap₂ (queryWith (length (tagTable rs))) (lefts-are rs) (rights-are rs)
+query_is : (rs : List TagRecord) → query_of (records_input rs) (program_settings (records_input rs)) ≡ records_query rs
+query_is rs = ap₂ (query_with (length (tag_table rs))) (lefts_are rs) (rights_are rs)
 
 -- the work list and the pair list suffice for these
-work-size : (n : ℕ) → ltb workWords (16 * n + 64) ≡ ltb 1020 n
-work-size n =
-    same_test (ltb workWords (16 * n + 64)) (ltb 1020 n)
-    (λ e. let h = ltb-true workWords (16 * n + 64) e in lt-ltb 1020 n (omega arith))
-    (λ e. let h = ltb-true 1020 n e in lt-ltb workWords (16 * n + 64) (omega arith))
+work_size : (n : ℕ) → ltb work_words (16 * n + 64) ≡ ltb 1020 n
+work_size n =
+    same_test (ltb work_words (16 * n + 64)) (ltb 1020 n)
+    (λ e. let h = ltb-true work_words (16 * n + 64) e in lt-ltb 1020 n (omega arith))
+    (λ e. let h = ltb-true 1020 n e in lt-ltb work_words (16 * n + 64) (omega arith))
 
-pair_size : (n : ℕ) → ltb pairPlaces (2 * n) ≡ ltb 8192 n
+pair_size : (n : ℕ) → ltb pair_places (2 * n) ≡ ltb 8192 n
 pair_size n =
-    same_test (ltb pairPlaces (2 * n)) (ltb 8192 n)
-    (λ e. let h = ltb-true pairPlaces (2 * n) e in lt-ltb 8192 n (omega arith))
-    (λ e. let h = ltb-true 8192 n e in lt-ltb pairPlaces (2 * n) (omega arith))
+    same_test (ltb pair_places (2 * n)) (ltb 8192 n)
+    (λ e. let h = ltb-true pair_places (2 * n) e in lt-ltb 8192 n (omega arith))
+    (λ e. let h = ltb-true 8192 n e in lt-ltb pair_places (2 * n) (omega arith))
 
 -- an answer over one of two
-text-either : (repeats : Repeats) (ln rn pairs : List ℕ) (b : Bool) (x y : JoinAnswer)
-    → answerText repeats ln rn pairs (cond b x y) ≡ cond b (answerText repeats ln rn pairs x) (answerText repeats ln rn pairs y)
-text-either repeats ln rn pairs true x y = refl
-text-either repeats ln rn pairs false x y = refl
+text_either : (repeats : Repeats) (ln rn pairs : List ℕ) (b : Bool) (x y : JoinAnswer)
+    → answer_text repeats ln rn pairs (cond b x y) ≡ cond b (answer_text repeats ln rn pairs x) (answer_text repeats ln rn pairs y)
+text_either repeats ln rn pairs true x y = refl
+text_either repeats ln rn pairs false x y = refl
 
-module _ (file : List ℕ) (low : (i : ℕ) → get_or file i 0 < 256) (clear : fileFault file ≡ Passed) where
+module _ (file : List ℕ) (low : (i : ℕ) → get_or file i 0 < 256) (clear : file_fault file ≡ Passed) where
   abbrev rs : List TagRecord
   rs = records file
 
   abbrev input : Input
-  input = recordsInput rs
+  input = records_input rs
 
   -- no 5
   good : BothGood input
   good =
-      let free = fault-free file clear in
+      let free = fault_free file clear in
       record {
-        left = side-unbad rs Left (file-few file low) (free.places Left) (free.entries Left);
-        right = side-unbad rs Right (file-few file low) (free.places Right) (free.entries Right);
+        left = side_unbad rs Left (file_few file low) (free.places Left) (free.entries Left);
+        right = side_unbad rs Right (file_few file low) (free.places Right) (free.entries Right);
       }
 
   -- no 6
-  settings : GoodSettings input.T 2 (programSettings input).ranks
+  settings : GoodSettings input.T 2 (program_settings input).ranks
   settings =
       record {
-        few-items = (fault-free file clear).tags;
-        limit-above = λ e. omega (arith, e);
-        limit-within = omega arith;
-        permutation = ranks-permutation false input.T (leftSets input) (rightSets input);
+        few_items = (fault_free file clear).tags;
+        limit_above = λ e. omega (arith, e);
+        limit_within = omega arith;
+        permutation = ranks_permutation false input.T (left_sets input) (right_sets input);
       }
 
   -- no 8
-  few-checks : checksOf (recordsQuery rs) ≤ fullWords - 1
-  few-checks =
-      let free = fault-free file clear in
-      let few : (side : Side) → length (sideSets side rs) ≤ maxSets =
-      λ side. subst (λ (n : ℕ). n ≤ maxSets) (sym (length-map (ofSide side rs) (λ r. items_of (tagTable rs) r.tags))) (free.places side) in
-      omega (arith, total-small isCheck (recordsQuery rs) (few Left) (few Right))
+  few_checks : checks_of (records_query rs) ≤ full_words - 1
+  few_checks =
+      let free = fault_free file clear in
+      let few : (side : Side) → length (side_sets side rs) ≤ max_sets =
+      λ side. subst (λ (n : ℕ). n ≤ max_sets) (sym (length-map (of_side side rs) (λ r. items_of (tag_table rs) r.tags))) (free.places side) in
+      omega (arith, total_small is_check (records_query rs) (few Left) (few Right))
 
-  walked : walkAnswer (recordsQuery rs) (fullWords - 1) pairPlaces
-      ≡ cond (ltb 8192 (pairCount (sideSets Left rs) (sideSets Right rs))) (Refused ShortPairs) (Joined (countsOf (recordsQuery rs)))
-  unfolding walkAnswer
+  walked : walk_answer (records_query rs) (full_words - 1) pair_places
+      ≡ cond (ltb 8192 (pair_count (side_sets Left rs) (side_sets Right rs))) (Refused ShortPairs) (Joined (counts_of (records_query rs)))
+  unfolding walk_answer
   walked =
       rw (
-        le-ltb (fullWords - 1) (checksOf (recordsQuery rs)) few-checks,
-        pair_size (pairCount (sideSets Left rs) (sideSets Right rs)),
+        le-ltb (full_words - 1) (checks_of (records_query rs)) few_checks,
+        pair_size (pair_count (side_sets Left rs) (side_sets Right rs)),
       )
 
-  answered : (b : Bool) → ltb workWords (wordsNeeded input) ≡ b
-      → joinAnswer input (programSettings input) programRoom
-      ≡ cond b (Refused ShortWork) (walkAnswer (recordsQuery rs) (fullWords - 1) pairPlaces)
-  unfolding joinTests
+  answered : (b : Bool) → ltb work_words (words_needed input) ≡ b
+      → join_answer input (program_settings input) program_room
+      ≡ cond b (Refused ShortWork) (walk_answer (records_query rs) (full_words - 1) pair_places)
+  unfolding join_tests
   answered true short =
-      answer-refused input (programSettings input) programRoom
-      (rw (settings-good input.T 2 (programSettings input).ranks settings, good-sets input good)
-      (sym (work-short input workWords (ltb-true workWords (wordsNeeded input) short))))
+      answer_refused input (program_settings input) program_room
+      (rw (settings_good input.T 2 (program_settings input).ranks settings, good_sets input good)
+      (sym (work_short input work_words (ltb-true work_words (words_needed input) short))))
   answered false enough =
-      answer-tested input (programSettings input) programRoom
-      (record { settings = settings; good = good; work = ltb-false workWords (wordsNeeded input) enough })
-      ∙ ap (λ (q : Query). walkAnswer q (fullWords - 1) pairPlaces) (query-is rs)
+      answer_tested input (program_settings input) program_room
+      (record { settings = settings; good = good; work = ltb-false work_words (words_needed input) enough })
+      ∙ ap (λ (q : Query). walk_answer q (full_words - 1) pair_places) (query_is rs)
 
-  pub records-text : recordsText rs ≡ plainText rs
-  unfolding joinText
-  records-text =
-      let repeats = repeatTotals rs in
-      let ln = numbersOf Left rs in
-      let rn = numbersOf Right rs in
-      let pairs = pairList (sideSets Left rs) (sideSets Right rs) in
-      ap₂ (answerText repeats ln rn) (ap₂ pairList (lefts-are rs) (rights-are rs))
-      (answered (ltb 1020 (recordsSize rs)) (ap (ltb workWords) (words-records rs) ∙ work-size (recordsSize rs))
-      ∙ ap (cond (ltb 1020 (recordsSize rs)) (Refused ShortWork)) walked)
-      ∙ text-either repeats ln rn pairs (ltb 1020 (recordsSize rs)) _ _
-      ∙ ap (cond (ltb 1020 (recordsSize rs)) (refusalLine ShortWork))
-      (text-either repeats ln rn pairs (ltb 8192 (pairCount (sideSets Left rs) (sideSets Right rs))) _ _)
+  pub records_text : records_text rs ≡ plain_text rs
+  unfolding join_text
+  records_text =
+      let repeats = repeat_totals rs in
+      let ln = numbers_of Left rs in
+      let rn = numbers_of Right rs in
+      let pairs = pair_list (side_sets Left rs) (side_sets Right rs) in
+      ap₂ (answer_text repeats ln rn) (ap₂ pair_list (lefts_are rs) (rights_are rs))
+      (answered (ltb 1020 (records_size rs)) (ap (ltb work_words) (words_records rs) ∙ work_size (records_size rs))
+      ∙ ap (cond (ltb 1020 (records_size rs)) (Refused ShortWork)) walked)
+      ∙ text_either repeats ln rn pairs (ltb 1020 (records_size rs)) _ _
+      ∙ ap (cond (ltb 1020 (records_size rs)) (refusal_line ShortWork))
+      (text_either repeats ln rn pairs (ltb 8192 (pair_count (side_sets Left rs) (side_sets Right rs))) _ _)
 
 -- the text of a file of bytes
-pub listing-cases : (file : List ℕ) → ((i : ℕ) → get_or file i 0 < 256)
-    → listing file ≡ unless refusalLine (lengthTest file) (unless refusalLine (fileFault file) (plainText (records file)))
+pub listing_cases : (file : List ℕ) → ((i : ℕ) → get_or file i 0 < 256)
+    → listing file ≡ unless refusal_line (length_test file) (unless refusal_line (file_fault file) (plain_text (records file)))
 unfolding listing
-listing-cases file low = ap (unless refusalLine (lengthTest file)) (by-fault (fileFault file) refl)
+listing_cases file low = ap (unless refusal_line (length_test file)) (by_fault (file_fault file) refl)
   where
-    by-fault : (t : Tested) → fileFault file ≡ t
-        → unless refusalLine t (recordsText (records file)) ≡ unless refusalLine t (plainText (records file))
-    by-fault Passed clear = records-text file low clear
-    by-fault (Failed why) fault = refl
+    by_fault : (t : Tested) → file_fault file ≡ t
+        → unless refusal_line t (records_text (records file)) ≡ unless refusal_line t (plain_text (records file))
+    by_fault Passed clear = records_text file low clear
+    by_fault (Failed why) fault = refl
 
 -- each pair of records is listed once where the left one has a tag and each of its tags is a tag of the right one, else not at all
-pub listed-pairs : (rs : List TagRecord) (l r : ℕ)
-    → pairOccurs l r (pairList (sideSets Left rs) (sideSets Right rs)) ≡ one (tagsContained rs l r)
-listed-pairs rs l r =
-    pair-occurs l r (sideSets Left rs) (sideSets Right rs)
-    ∙ ap one (sets-tags rs l r (sideSets Left rs) (sideSets Right rs) refl refl)
+pub listed_pairs : (rs : List TagRecord) (l r : ℕ)
+    → pair_occurs l r (pair_list (side_sets Left rs) (side_sets Right rs)) ≡ one (tags_contained rs l r)
+listed_pairs rs l r =
+    pair_occurs_lem l r (side_sets Left rs) (side_sets Right rs)
+    ∙ ap one (sets_tags rs l r (side_sets Left rs) (side_sets Right rs) refl refl)

@@ -6,7 +6,7 @@ use mathlib.Core.Bool.{Bool, true, false, cond}
 use borrow.Author.Tests.{leb-true}
 use lib.Dec.{eqb, leb}
 use lib.ListN.{length}
-use Rattle.sets.specs.Refusals.{row_of, refuseIf, unless}
+use Rattle.sets.specs.Refusals.{row_of, refuse_if, unless}
 use Rattle.sets.specs.declared.Side.{Side}
 use Rattle.sets.specs.declared.Side.TheVariants.{Left, Right}
 use Rattle.sets.specs.declared.Refusal.{Refusal}
@@ -15,64 +15,64 @@ use Rattle.sets.specs.declared.Tested.{Tested}
 use Rattle.sets.specs.declared.Tested.TheVariants.{Passed, Failed}
 use Rattle.tag_file.specs.declared.ReadAnswer.{ReadAnswer}
 use Rattle.tag_file.specs.declared.ReadAnswer.TheVariants.{NoMore, Refused}
-use Rattle.tag_file.specs.Reading.{marked, whole_at, recordAt, readAt}
-use Rattle.tag_file.specs.Records.{TagRecord, records, totalLength}
-use Rattle.tag_file.specs.Loading.{numberUsed, tooMany, faultOf, firstFault, refusalOf, fileFault}
+use Rattle.tag_file.specs.Reading.{marked, whole_at, record_at, read_at}
+use Rattle.tag_file.specs.Records.{TagRecord, records, total_length}
+use Rattle.tag_file.specs.Loading.{number_used, too_many, fault_of, first_fault, refusal_of, file_fault}
 
 -- whether a test fails with a number up to 3 if it fails
 unfoldable early : Tested → Bool
 early Passed = true
 early (Failed why) = leb (row_of why).number 3
 
-unless-early : (first later : Tested) → early first ≡ true → early later ≡ true → early (unless Failed first later) ≡ true
-unless-early Passed later e d = d
-unless-early (Failed why) later e d = e
+unless_early : (first later : Tested) → early first ≡ true → early later ≡ true → early (unless Failed first later) ≡ true
+unless_early Passed later e d = d
+unless_early (Failed why) later e d = e
 
-used-early : (b : Bool) (place : ℕ) → early (refuseIf b (NumberUsed place)) ≡ true
+used_early : (b : Bool) (place : ℕ) → early (refuse_if b (NumberUsed place)) ≡ true
 unfolding early
-used-early true place = refl
-used-early false place = refl
+used_early true place = refl
+used_early false place = refl
 
-many-early : (b : Bool) (place : ℕ) → early (refuseIf b (TooMany place)) ≡ true
+many_early : (b : Bool) (place : ℕ) → early (refuse_if b (TooMany place)) ≡ true
 unfolding early
-many-early true place = refl
-many-early false place = refl
+many_early true place = refl
+many_early false place = refl
 
-fault-early : (seen : List TagRecord) (r : TagRecord) → early (faultOf seen r) ≡ true
-unfolding faultOf
-fault-early seen r =
-    unless-early (refuseIf (numberUsed seen r) (NumberUsed (totalLength seen)))
-    (refuseIf (tooMany r.side (seen ++ (r ∷ []))) (TooMany (totalLength seen)))
-    (used-early (numberUsed seen r) (totalLength seen))
-    (many-early (tooMany r.side (seen ++ (r ∷ []))) (totalLength seen))
+fault_early : (seen : List TagRecord) (r : TagRecord) → early (fault_of seen r) ≡ true
+unfolding fault_of
+fault_early seen r =
+    unless_early (refuse_if (number_used seen r) (NumberUsed (total_length seen)))
+    (refuse_if (too_many r.side (seen ++ (r ∷ []))) (TooMany (total_length seen)))
+    (used_early (number_used seen r) (total_length seen))
+    (many_early (too_many r.side (seen ++ (r ∷ []))) (total_length seen))
 
-first-early : (seen rs : List TagRecord) (last : Tested) → early last ≡ true → early (firstFault seen rs last) ≡ true
-unfolding firstFault
-first-early seen [] last e = e
-first-early seen (r ∷ rs) last e =
-    unless-early (faultOf seen r) (firstFault (seen ++ (r ∷ [])) rs last) (fault-early seen r)
-    (first-early (seen ++ (r ∷ [])) rs last e)
+first_early : (seen rs : List TagRecord) (last : Tested) → early last ≡ true → early (first_fault seen rs last) ≡ true
+unfolding first_fault
+first_early seen [] last e = e
+first_early seen (r ∷ rs) last e =
+    unless_early (fault_of seen r) (first_fault (seen ++ (r ∷ [])) rs last) (fault_early seen r)
+    (first_early (seen ++ (r ∷ [])) rs last e)
 
 -- what the reader refuses with
-either-early : (b : Bool) (x y : ReadAnswer) → early (refusalOf x) ≡ true → early (refusalOf y) ≡ true
-    → early (refusalOf (cond b x y)) ≡ true
-either-early true x y e d = e
-either-early false x y e d = d
+either_early : (b : Bool) (x y : ReadAnswer) → early (refusal_of x) ≡ true → early (refusal_of y) ≡ true
+    → early (refusal_of (cond b x y)) ≡ true
+either_early true x y e d = e
+either_early false x y e d = d
 
-record-early : (side : Side) (file : List ℕ) (at : ℕ) → early (refusalOf (recordAt side file at)) ≡ true
+record_early : (side : Side) (file : List ℕ) (at : ℕ) → early (refusal_of (record_at side file at)) ≡ true
 unfolding early
-record-early side file at = either-early (whole_at file at) _ (Refused (Malformed at)) refl refl
+record_early side file at = either_early (whole_at file at) _ (Refused (Malformed at)) refl refl
 
-read-early : (file : List ℕ) (at : ℕ) → early (refusalOf (readAt file at)) ≡ true
-unfolding readAt early
-read-early file at =
-    either-early (eqb at (length file)) NoMore _ refl
-    (either-early (marked Left file at) (recordAt Left file at) _ (record-early Left file at)
-    (either-early (marked Right file at) (recordAt Right file at) (Refused (Malformed at)) (record-early Right file at) refl))
+read_early : (file : List ℕ) (at : ℕ) → early (refusal_of (read_at file at)) ≡ true
+unfolding read_at early
+read_early file at =
+    either_early (eqb at (length file)) NoMore _ refl
+    (either_early (marked Left file at) (record_at Left file at) _ (record_early Left file at)
+    (either_early (marked Right file at) (record_at Right file at) (Refused (Malformed at)) (record_early Right file at) refl))
 
-pub fault-number : (file : List ℕ) {why : Refusal} → fileFault file ≡ Failed why → (row_of why).number ≤ 3
-unfolding fileFault early
-fault-number file {why} e =
-    let last = refusalOf (readAt file (totalLength (records file))) in
+pub fault_number : (file : List ℕ) {why : Refusal} → file_fault file ≡ Failed why → (row_of why).number ≤ 3
+unfolding file_fault early
+fault_number file {why} e =
+    let last = refusal_of (read_at file (total_length (records file))) in
     leb-true (row_of why).number 3
-    (sym (ap early e) ∙ first-early [] (records file) last (read-early file (totalLength (records file))))
+    (sym (ap early e) ∙ first_early [] (records file) last (read_early file (total_length (records file))))

@@ -5,7 +5,7 @@ use mathlib.Core.Path.{◌≡◌, refl, sym, ap, ap₂, subst, ◌∙◌}
 use mathlib.Core.List.{List}
 use native.Mathlib.Omega.{arith}
 use lib.ListN.{length}
-use Rattle.sets.specs.Limits.{maxItems}
+use Rattle.sets.specs.Limits.{max_items}
 use Rattle.sets.specs.Refusals.{unless}
 use Rattle.sets.specs.declared.Refusal.{Refusal}
 use Rattle.sets.specs.declared.Side.TheVariants.{Left, Right}
@@ -16,83 +16,83 @@ use Rattle.tag_file.specs.declared.Repeats.{Repeats}
 use Rattle.tag_file.specs.declared.LoadAnswer.{LoadAnswer}
 use Rattle.tag_file.specs.declared.LoadAnswer.TheVariants as load
 use Rattle.tag_file.specs.Records.{records}
-use Rattle.tag_file.specs.Loading.{Lists, fileFault, filled, totalsOf, loadAnswer, LoadCall}
-use Rattle.tag_file.proofs.ItemCount.{length-numbersOf, length-endsOf, length-flatItems}
-use Rattle.tag_file.proofs.AnswerLaws.{accepted, accepts, refuses-fault, room-each}
-use Rattle.tag_containment.proofs.LoadedLists.{load-counts, load-repeats, load-filled}
-use Rattle.text.specs.Lines.{refusalLine}
+use Rattle.tag_file.specs.Loading.{Lists, file_fault, filled, totals_of, load_answer, LoadCall}
+use Rattle.tag_file.proofs.ItemCount.{length-numbers_of, length-ends_of, length-flat_items}
+use Rattle.tag_file.proofs.AnswerLaws.{accepted, accepts, refuses_fault, room_each}
+use Rattle.tag_containment.proofs.LoadedLists.{load_counts, load_repeats, load-filled}
+use Rattle.text.specs.Lines.{refusal_line}
 use Rattle.inputs.specs.Input.{input_of}
-use Rattle.join_text.specs.JoinText.{programSettings, joinText}
-use Rattle.join_text.specs.Inner.{textRoom}
-use Rattle.listing_spec.specs.Listing.{maxFile, recordsText}
-use Rattle.listing_spec.specs.Inner.{Within, cutText}
-use Rattle.listing_spec.proofs.LoadRoom.{ProgramLists, fault-free, never-short}
+use Rattle.join_text.specs.JoinText.{program_settings, join_text}
+use Rattle.join_text.specs.Inner.{text_room}
+use Rattle.listing_spec.specs.Listing.{max_file, records_text}
+use Rattle.listing_spec.specs.Inner.{Within, cut_text}
+use Rattle.listing_spec.proofs.LoadRoom.{ProgramLists, fault_free, never_short}
 
 -- the text of T items and seven lists as a load fills them, with these repeats
-abbrev listsText : Repeats → ℕ → Lists → List ℕ
-listsText repeats T l =
-    let i = input_of T l.leftEnds l.leftItems l.rightEnds l.rightItems in
-    joinText repeats l.leftNumbers l.rightNumbers i (programSettings i)
+abbrev lists_text : Repeats → ℕ → Lists → List ℕ
+lists_text repeats T l =
+    let i = input_of T l.left_ends l.left_items l.right_ends l.right_items in
+    join_text repeats l.left_numbers l.right_numbers i (program_settings i)
 
 -- the text of a file by its first fault
-abbrev shortText : List ℕ → List ℕ
-shortText file = unless refusalLine (fileFault file) (recordsText (records file))
+abbrev short_text : List ℕ → List ℕ
+short_text file = unless refusal_line (file_fault file) (records_text (records file))
 
 module _ (file : List ℕ) {lent got : Lists} {answer : LoadAnswer} (call : LoadCall file lent got answer) where
   module _ {loaded : Loaded} {repeats : Repeats} (loads : answer ≡ load.Loaded loaded repeats) where
-    loaded-call : LoadCall file lent got (load.Loaded loaded repeats)
-    loaded-call = subst (λ (a : LoadAnswer). LoadCall file lent got a) loads call
+    loaded_call : LoadCall file lent got (load.Loaded loaded repeats)
+    loaded_call = subst (λ (a : LoadAnswer). LoadCall file lent got a) loads call
 
-    pub loaded-text : cutText loaded repeats got.leftNumbers got.leftEnds got.leftItems got.rightNumbers
-        got.rightEnds got.rightItems ≡ shortText file
-    loaded-text =
-        let clear = (accepted file lent loaded repeats (sym loaded-call.answered)).clear in
-        ap₂ (listsText repeats) (ap (λ (c : Loaded). c.tag_count) (load-counts file loaded-call)) (load-filled file loaded-call)
-        ∙ ap (λ (r : Repeats). listsText r (totalsOf (records file)).tag_count (filled (records file)))
-        (load-repeats file loaded-call)
-        ∙ ap (λ (t : Tested). unless refusalLine t (recordsText (records file))) (sym clear)
+    pub loaded_text : cut_text loaded repeats got.left_numbers got.left_ends got.left_items got.right_numbers
+        got.right_ends got.right_items ≡ short_text file
+    loaded_text =
+        let clear = (accepted file lent loaded repeats (sym loaded_call.answered)).clear in
+        ap₂ (lists_text repeats) (ap (λ (c : Loaded). c.tag_count) (load_counts file loaded_call)) (load-filled file loaded_call)
+        ∙ ap (λ (r : Repeats). lists_text r (totals_of (records file)).tag_count (filled (records file)))
+        (load_repeats file loaded_call)
+        ∙ ap (λ (t : Tested). unless refusal_line t (records_text (records file))) (sym clear)
 
     -- the counts lie within lists as long as those that were lent
-    pub loaded-within : (ranks text : List ℕ) → maxItems ≤ length ranks → textRoom ≤ length text
-        → length got.leftNumbers ≡ length lent.leftNumbers → length got.leftEnds ≡ length lent.leftEnds
-        → length got.leftItems ≡ length lent.leftItems → length got.rightNumbers ≡ length lent.rightNumbers
-        → length got.rightEnds ≡ length lent.rightEnds → length got.rightItems ≡ length lent.rightItems
-        → Within loaded got.leftNumbers got.leftEnds got.leftItems got.rightNumbers got.rightEnds
-        got.rightItems ranks text
-    loaded-within ranks text many room a b c d e f =
+    pub loaded_within : (ranks text : List ℕ) → max_items ≤ length ranks → text_room ≤ length text
+        → length got.left_numbers ≡ length lent.left_numbers → length got.left_ends ≡ length lent.left_ends
+        → length got.left_items ≡ length lent.left_items → length got.right_numbers ≡ length lent.right_numbers
+        → length got.right_ends ≡ length lent.right_ends → length got.right_items ≡ length lent.right_items
+        → Within loaded got.left_numbers got.left_ends got.left_items got.right_numbers got.right_ends
+        got.right_items ranks text
+    loaded_within ranks text many room a b c d e f =
         let rs = records file in
-        let so = accepted file lent loaded repeats (sym loaded-call.answered) in
-        let each = room-each (filled rs) lent so.room in
-        let free = fault-free file so.clear in
-        subst (λ (l : Loaded). Within l got.leftNumbers got.leftEnds got.leftItems got.rightNumbers got.rightEnds
-        got.rightItems ranks text)
+        let so = accepted file lent loaded repeats (sym loaded_call.answered) in
+        let each = room_each (filled rs) lent so.room in
+        let free = fault_free file so.clear in
+        subst (λ (l : Loaded). Within l got.left_numbers got.left_ends got.left_items got.right_numbers got.right_ends
+        got.right_items ranks text)
         so.counted
         (record {
-          few-items = free.tags;
-          left-numbered = omega (arith, each.leftNumbers, length-numbersOf Left rs, a);
-          left_ended = omega (arith, each.leftEnds, length-endsOf Left rs, b);
-          left-filled = omega (arith, each.leftItems, length-flatItems Left rs, c);
-          right-numbered = omega (arith, each.rightNumbers, length-numbersOf Right rs, d);
-          right-ended = omega (arith, each.rightEnds, length-endsOf Right rs, e);
-          right-filled = omega (arith, each.rightItems, length-flatItems Right rs, f);
+          few_items = free.tags;
+          left_numbered = omega (arith, each.left_numbers, length-numbers_of Left rs, a);
+          left_ended = omega (arith, each.left_ends, length-ends_of Left rs, b);
+          left_filled = omega (arith, each.left_items, length-flat_items Left rs, c);
+          right_numbered = omega (arith, each.right_numbers, length-numbers_of Right rs, d);
+          right_ended = omega (arith, each.right_ends, length-ends_of Right rs, e);
+          right_filled = omega (arith, each.right_items, length-flat_items Right rs, f);
           ranked = omega (arith, free.tags);
           room = room;
         })
 
-  pub refused-load : {why : Refusal} → answer ≡ load.Refused why → ProgramLists lent → length file ≤ maxFile
-      → refusalLine why ≡ shortText file
-  refused-load {why} e lists short = by-fault (fileFault file) refl
+  pub refused_load : {why : Refusal} → answer ≡ load.Refused why → ProgramLists lent → length file ≤ max_file
+      → refusal_line why ≡ short_text file
+  refused_load {why} e lists short = by_fault (file_fault file) refl
     where
-      refused : loadAnswer file lent ≡ load.Refused why
+      refused : load_answer file lent ≡ load.Refused why
       refused = sym call.answered ∙ e
 
-      same-refusal : (a b : Refusal) → load.Refused a ≡ load.Refused b → a ≡ b
-      same-refusal a b e = cc
+      same_refusal : (a b : Refusal) → load.Refused a ≡ load.Refused b → a ≡ b
+      same_refusal a b e = cc
 
       apart : {P : Type 0} (l : Loaded) (r : Repeats) → load.Loaded l r ≡ load.Refused why → P
       apart l r e = let z : ◌≡◌ {A = ℕ} 0 1 = cc in absurd (omega arith)
 
-      by-fault : (t : Tested) → fileFault file ≡ t → refusalLine why ≡ unless refusalLine t (recordsText (records file))
-      by-fault Passed clear = apart _ _ (sym (accepts file lent clear (never-short file clear lent lists short)) ∙ refused)
-      by-fault (Failed w) fault =
-          ap refusalLine (sym (same-refusal w why (sym (refuses-fault file lent w fault) ∙ refused)))
+      by_fault : (t : Tested) → file_fault file ≡ t → refusal_line why ≡ unless refusal_line t (records_text (records file))
+      by_fault Passed clear = apart _ _ (sym (accepts file lent clear (never_short file clear lent lists short)) ∙ refused)
+      by_fault (Failed w) fault =
+          ap refusal_line (sym (same_refusal w why (sym (refuses_fault file lent w fault) ∙ refused)))

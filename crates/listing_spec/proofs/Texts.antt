@@ -7,15 +7,15 @@ use lib.ListN.{length}
 use Rattle.sets.specs.Refusals.{unless}
 use Rattle.sets.specs.declared.Refusal.TheVariants.{ShortWork}
 use Rattle.tag_file.specs.Records.{records}
-use Rattle.tag_file.specs.Loading.{fileFault}
-use Rattle.text.specs.Lines.{refusalLine}
-use Rattle.listing_spec.specs.Listing.{maxFile, recordsText, listing}
+use Rattle.tag_file.specs.Loading.{file_fault}
+use Rattle.text.specs.Lines.{refusal_line}
+use Rattle.listing_spec.specs.Listing.{max_file, records_text, listing}
 
 module _ (file : List ℕ) where
-  pub listing-long : maxFile < length file → listing file ≡ refusalLine ShortWork
+  pub listing_long : max_file < length file → listing file ≡ refusal_line ShortWork
   unfolding listing
-  listing-long long = rw (lt-ltb maxFile (length file) long)
+  listing_long long = rw (lt-ltb max_file (length file) long)
 
-  pub listing-short : length file ≤ maxFile → listing file ≡ unless refusalLine (fileFault file) (recordsText (records file))
+  pub listing_short : length file ≤ max_file → listing file ≡ unless refusal_line (file_fault file) (records_text (records file))
   unfolding listing
-  listing-short short = rw (le-ltb maxFile (length file) short)
+  listing_short short = rw (le-ltb max_file (length file) short)

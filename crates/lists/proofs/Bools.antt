@@ -8,9 +8,9 @@ use lib.Dec.{eqb}
 use borrow.Author.Tests.{eqb-true, eq-eqb}
 
 -- by cases on a test, each with its equation
-pub by-test : {A : Type 0} (b : Bool) → (b ≡ true → A) → (b ≡ false → A) → A
-by-test true holds fails = holds refl
-by-test false holds fails = fails refl
+pub by_test : {A : Type 0} (b : Bool) → (b ≡ true → A) → (b ≡ false → A) → A
+by_test true holds fails = holds refl
+by_test false holds fails = fails refl
 
 pub true-false : {A : Type 0} {b : Bool} → b ≡ true → b ≡ false → A
 true-false {A} {b} t f = let z : ◌≡◌ {A = ℕ} 0 1 = cc in absurd (omega arith)

@@ -9,8 +9,8 @@ use lib.Dec.{eqb}
 use lib.ListN.{length}
 use borrow.Author.Tests.{eqb-true, eq-eqb}
 use Rattle.lists.specs.Lists.{one, onto, count, sum, keep, all, memb}
-use Rattle.lists.proofs.Bools.{and_left, and_right, and_both, by-test, true-false, refuted}
-use Rattle.lists.proofs.Membership.{memb-head, memb-tail}
+use Rattle.lists.proofs.Bools.{and_left, and_right, and_both, by_test, true-false, refuted}
+use Rattle.lists.proofs.Membership.{memb_head, memb_tail}
 
 module _ {A : Type 0} where
   -- tests that agree everywhere, or where a third holds that holds throughout
@@ -19,19 +19,19 @@ module _ {A : Type 0} where
   keep_same p q [] h = refl
   keep_same p q (x ∷ xs) h = ap₂ (λ (b : Bool) (l : List A). onto b x l) (h x) (keep_same p q xs h)
 
-  pub keep-same-where : (good p q : A → Bool) (xs : List A) → all good xs ≡ true
+  pub keep_same_where : (good p q : A → Bool) (xs : List A) → all good xs ≡ true
       → ((x : A) → good x ≡ true → p x ≡ q x) → keep p xs ≡ keep q xs
   unfolding keep all
-  keep-same-where good p q [] a h = refl
-  keep-same-where good p q (x ∷ xs) a h =
+  keep_same_where good p q [] a h = refl
+  keep_same_where good p q (x ∷ xs) a h =
       ap₂ (λ (b : Bool) (l : List A). onto b x l) (h x (and_left (good x) (all good xs) a))
-      (keep-same-where good p q xs (and_right (good x) (all good xs) a) h)
+      (keep_same_where good p q xs (and_right (good x) (all good xs) a) h)
 
   -- a test that none passes, and one that all pass
-  pub keep-none : (p : A → Bool) (xs : List A) → ((x : A) → p x ≡ false) → keep p xs ≡ []
+  pub keep_none : (p : A → Bool) (xs : List A) → ((x : A) → p x ≡ false) → keep p xs ≡ []
   unfolding keep
-  keep-none p [] h = refl
-  keep-none p (x ∷ xs) h = rw (h x) (keep-none p xs h)
+  keep_none p [] h = refl
+  keep_none p (x ∷ xs) h = rw (h x) (keep_none p xs h)
 
   pub keep_all : (p : A → Bool) (xs : List A) → all p xs ≡ true → keep p xs ≡ xs
   unfolding keep all
@@ -60,21 +60,21 @@ module _ {A : Type 0} where
       kept false e = e
 
   -- what passes need not be looked for where a second test fails that passing implies
-  pub keep-through : (p t good : A → Bool) (xs : List A) → all good xs ≡ true
+  pub keep_through : (p t good : A → Bool) (xs : List A) → all good xs ≡ true
       → ((x : A) → good x ≡ true → p x ≡ true → t x ≡ true) → keep p (keep t xs) ≡ keep p xs
   unfolding keep all
-  keep-through p t good [] a implies = refl
-  keep-through p t good (x ∷ xs) a implies =
-      let rest = keep-through p t good xs (and_right (good x) (all good xs) a) implies in
-      by-test (t x)
+  keep_through p t good [] a implies = refl
+  keep_through p t good (x ∷ xs) a implies =
+      let rest = keep_through p t good xs (and_right (good x) (all good xs) a) implies in
+      by_test (t x)
       (λ e. rw e (ap (λ (l : List A). onto (p x) x l) rest))
       (λ e. rw (e, refuted (p x) (λ h. true-false (implies x (and_left (good x) (all good xs) a) h) e)) rest)
 
   -- what is kept passes the test, and what holds throughout still does
-  pub all-kept : (p : A → Bool) (xs : List A) → all p (keep p xs) ≡ true
+  pub all_kept : (p : A → Bool) (xs : List A) → all p (keep p xs) ≡ true
   unfolding keep all
-  all-kept p [] = refl
-  all-kept p (x ∷ xs) = kept (p x) refl (all-kept p xs)
+  all_kept p [] = refl
+  all_kept p (x ∷ xs) = kept (p x) refl (all_kept p xs)
     where
       kept : (b : Bool) → p x ≡ b → all p (keep p xs) ≡ true → all p (onto b x (keep p xs)) ≡ true
       kept true e a = and_both e a
@@ -122,18 +122,18 @@ module _ {A : Type 0} where
       kept false e = omega (arith, e)
 
 -- tests that agree on the members
-pub keep-agree : (p q : ℕ → Bool) (xs : List ℕ) → ((x : ℕ) → memb x xs ≡ true → p x ≡ q x) → keep p xs ≡ keep q xs
+pub keep_agree : (p q : ℕ → Bool) (xs : List ℕ) → ((x : ℕ) → memb x xs ≡ true → p x ≡ q x) → keep p xs ≡ keep q xs
 unfolding keep
-keep-agree p q [] h = refl
-keep-agree p q (x ∷ xs) h =
-    ap₂ (λ (b : Bool) (l : List ℕ). onto b x l) (h x (memb-head x xs)) (keep-agree p q xs (λ y m. h y (memb-tail y x xs m)))
+keep_agree p q [] h = refl
+keep_agree p q (x ∷ xs) h =
+    ap₂ (λ (b : Bool) (l : List ℕ). onto b x l) (h x (memb_head x xs)) (keep_agree p q xs (λ y m. h y (memb_tail y x xs m)))
 
 -- a number is kept where it is there and passes
 pub memb-keep : (p : ℕ → Bool) (xs : List ℕ) (x : ℕ) → memb x (keep p xs) ≡ (memb x xs && p x)
 unfolding keep memb
 memb-keep p [] x = refl
 memb-keep p (y ∷ ys) x =
-    by-test (eqb x y)
+    by_test (eqb x y)
     (λ e. here (eqb-true x y e) (p y) refl (memb-keep p ys x))
     (λ e. there e (p y) (memb-keep p ys x))
   where
@@ -151,4 +151,4 @@ memb-keep p (y ∷ ys) x =
 -- the numbers of a filtered list, picked out of the whole list again
 pub keep-memb : (p : ℕ → Bool) (xs : List ℕ) → keep (λ x. memb x (keep p xs)) xs ≡ keep p xs
 keep-memb p xs =
-    keep-agree (λ x. memb x (keep p xs)) p xs (λ x m. memb-keep p xs x ∙ ap (λ (b : Bool). b && p x) m)
+    keep_agree (λ x. memb x (keep p xs)) p xs (λ x m. memb-keep p xs x ∙ ap (λ (b : Bool). b && p x) m)

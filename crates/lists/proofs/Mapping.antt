@@ -7,7 +7,7 @@ use Prim.Native.Nat.{ℕ, zero, suc, ◌<◌}
 use native.Mathlib.Nat.{not-suc-le-zero, le_of_suc-le-suc}
 use lib.ListN.{length, get_or, take, drop}
 use Rattle.lists.specs.Lists.{memb}
-use Rattle.lists.proofs.Membership.{memb-head, memb-tail}
+use Rattle.lists.proofs.Membership.{memb_head, memb_tail}
 
 module _ {A B : Type 0} (f : A → B) where
   pub map-take : (n : ℕ) (l : List A) → map f (take n l) ≡ take n (map f l)
@@ -25,7 +25,7 @@ module _ {A B : Type 0} (f : A → B) where
   map_at (x ∷ xs) zero d e h = refl
   map_at (x ∷ xs) (suc j) d e h = map_at xs j d e (le_of_suc-le-suc h)
 
-pub map-agree : {A : Type 0} (f g : ℕ → A) (xs : List ℕ) → ((x : ℕ) → memb x xs ≡ true → f x ≡ g x) → map f xs ≡ map g xs
-map-agree f g [] h = refl
-map-agree {A} f g (x ∷ xs) h =
-    ap₂ (λ (y : A) (l : List A). y ∷ l) (h x (memb-head x xs)) (map-agree f g xs (λ y m. h y (memb-tail y x xs m)))
+pub map_agree : {A : Type 0} (f g : ℕ → A) (xs : List ℕ) → ((x : ℕ) → memb x xs ≡ true → f x ≡ g x) → map f xs ≡ map g xs
+map_agree f g [] h = refl
+map_agree {A} f g (x ∷ xs) h =
+    ap₂ (λ (y : A) (l : List A). y ∷ l) (h x (memb_head x xs)) (map_agree f g xs (λ y m. h y (memb_tail y x xs m)))

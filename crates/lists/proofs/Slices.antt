@@ -14,19 +14,19 @@ use lib.Seq.{get_or-take, get_or-drop, length-take-le, slice_empty, slice-cons}
 use lib.Seq.{length-slice as length-drop-take}
 use Rattle.lists.specs.Lists.{all, slice}
 use Rattle.lists.specs.Parts.{Changed}
-use Rattle.lists.proofs.Throughout.{all-at}
+use Rattle.lists.proofs.Throughout.{all_at}
 
 module _ {A : Type 0} where
   -- the same up to n
-  pub frame-less : (m n : ℕ) (w v : List A) → m ≤ n → take n v ≡ take n w → take m v ≡ take m w
-  frame-less m n w v h e = sym (take-take m n v h) ∙ ap (λ (l : List A). take m l) e ∙ take-take m n w h
+  pub frame_less : (m n : ℕ) (w v : List A) → m ≤ n → take n v ≡ take n w → take m v ≡ take m w
+  frame_less m n w v h e = sym (take-take m n v h) ∙ ap (λ (l : List A). take m l) e ∙ take-take m n w h
 
   pub frame_at : (d : A) (i n : ℕ) (w v : List A) → i < n → take n v ≡ take n w → get_or v i d ≡ get_or w i d
   frame_at d i n w v h e = sym (get_or-take n v i d h) ∙ ap (λ (l : List A). get_or l i d) e ∙ get_or-take n w i d h
 
   pub frame-slice : (f t n : ℕ) (w v : List A) → t ≤ n → take n v ≡ take n w → slice f t v ≡ slice f t w
   unfolding slice
-  frame-slice f t n w v h e = ap (λ (l : List A). drop f l) (frame-less t n w v h e)
+  frame-slice f t n w v h e = ap (λ (l : List A). drop f l) (frame_less t n w v h e)
 
   -- the same from n on
   pub rest_more : (n m : ℕ) (w v : List A) → n ≤ m → drop n v ≡ drop n w → drop m v ≡ drop m w
@@ -54,30 +54,30 @@ module _ {A : Type 0} where
   drop-take (suc f) (suc t) [] = rw take-nil
   drop-take (suc f) (suc t) (x ∷ xs) = rw (suc-sub-suc t f) (drop-take f t xs)
 
-  pub slice-from : (f t : ℕ) (l : List A) → slice f t l ≡ take (t - f) (drop f l)
+  pub slice_from : (f t : ℕ) (l : List A) → slice f t l ≡ take (t - f) (drop f l)
   unfolding slice
-  slice-from f t l = drop-take f t l
+  slice_from f t l = drop-take f t l
 
   pub rest-slice : (n f t : ℕ) (w v : List A) → n ≤ f → drop n v ≡ drop n w → slice f t v ≡ slice f t w
   rest-slice n f t w v h e =
-      slice-from f t v ∙ ap (λ (l : List A). take (t - f) l) (rest_more n f w v h e) ∙ sym (slice-from f t w)
+      slice_from f t v ∙ ap (λ (l : List A). take (t - f) l) (rest_more n f w v h e) ∙ sym (slice_from f t w)
 
   -- a run
-  pub slice-none : (t : ℕ) (l : List A) → slice t t l ≡ []
+  pub slice_none : (t : ℕ) (l : List A) → slice t t l ≡ []
   unfolding slice
-  slice-none t l = slice_empty t l
+  slice_none t l = slice_empty t l
 
-  pub slice-past : (f t : ℕ) (l : List A) → t ≤ f → slice f t l ≡ []
+  pub slice_past : (f t : ℕ) (l : List A) → t ≤ f → slice f t l ≡ []
   unfolding slice
-  slice-past f t l h = drop_of_length-le (take t l) {i = f} (omega (arith, length-take t l))
+  slice_past f t l h = drop_of_length-le (take t l) {i = f} (omega (arith, length-take t l))
 
   pub length-slice : (f t : ℕ) (l : List A) → t ≤ length l → length (slice f t l) ≡ t - f
   unfolding slice
   length-slice f t l h = length-drop-take f t l h
 
-  pub getD-slice : (d : A) (f t i : ℕ) (l : List A) → f + i < t → get_or (slice f t l) i d ≡ get_or l (f + i) d
+  pub get_d_slice : (d : A) (f t i : ℕ) (l : List A) → f + i < t → get_or (slice f t l) i d ≡ get_or l (f + i) d
   unfolding slice
-  getD-slice d f t i l h = get_or-drop f (take t l) i d ∙ get_or-take t l (f + i) d h
+  get_d_slice d f t i l h = get_or-drop f (take t l) i d ∙ get_or-take t l (f + i) d h
 
   pub slice_snoc : (d : A) (f t : ℕ) (l : List A) → f ≤ t → t < length l → slice f (suc t) l ≡ slice f t l ++ (get_or l t d ∷ [])
   unfolding slice
@@ -95,60 +95,60 @@ module _ {A : Type 0} where
 
   pub slice-split : (f m t : ℕ) (l : List A) → f ≤ m → m ≤ t → m ≤ length l → slice f t l ≡ slice f m l ++ slice m t l
   slice-split f m t l low high within =
-      slice_cut f m t l low high within ∙ ap (λ (r : List A). slice f m l ++ r) (sym (slice-from m t l))
+      slice_cut f m t l low high within ∙ ap (λ (r : List A). slice f m l ++ r) (sym (slice_from m t l))
 
   -- a store before, after, and at the end of a run
-  pub slice-set-below : (f t : ℕ) (l : List A) (i : ℕ) (a : A) → i < f → slice f t (set l i a) ≡ slice f t l
-  slice-set-below f t l i a h =
-      slice-from f t (set l i a) ∙ ap (λ (k : List A). take (t - f) k) (drop-set-lt f l i a h) ∙ sym (slice-from f t l)
+  pub slice-set_below : (f t : ℕ) (l : List A) (i : ℕ) (a : A) → i < f → slice f t (set l i a) ≡ slice f t l
+  slice-set_below f t l i a h =
+      slice_from f t (set l i a) ∙ ap (λ (k : List A). take (t - f) k) (drop-set-lt f l i a h) ∙ sym (slice_from f t l)
 
-  pub slice-set-above : (f t : ℕ) (l : List A) (i : ℕ) (a : A) → t ≤ i → slice f t (set l i a) ≡ slice f t l
+  pub slice-set_above : (f t : ℕ) (l : List A) (i : ℕ) (a : A) → t ≤ i → slice f t (set l i a) ≡ slice f t l
   unfolding slice
-  slice-set-above f t l i a h = ap (λ (k : List A). drop f k) (take-set-le t l i a h)
+  slice-set_above f t l i a h = ap (λ (k : List A). drop f k) (take-set-le t l i a h)
 
-  pub slice-set-end : (f i : ℕ) (l : List A) (a : A) → f ≤ i → i < length l
+  pub slice-set_end : (f i : ℕ) (l : List A) (a : A) → f ≤ i → i < length l
       → slice f (suc i) (set l i a) ≡ slice f i l ++ (a ∷ [])
   unfolding slice
-  slice-set-end f i l a h below =
+  slice-set_end f i l a h below =
       ap (λ (k : List A). drop f k) (take-suc-set l i a below)
       ∙ drop-append-le f (take i l) (a ∷ []) (omega (arith, length-take-le i l (omega arith)))
 
-pub slice-next : (f t : ℕ) (l : List ℕ) → f < t → t ≤ length l → slice f t l ≡ get_or l f 0 ∷ slice (f + 1) t l
+pub slice_next : (f t : ℕ) (l : List ℕ) → f < t → t ≤ length l → slice f t l ≡ get_or l f 0 ∷ slice (f + 1) t l
 unfolding slice
-slice-next f t l h k = rw (add-one f) (slice-cons f t l 0 h k)
+slice_next f t l h k = rw (add-one f) (slice-cons f t l 0 h k)
 
 -- a test that holds throughout a part of a list holds at each place of it
-pub all-slice : (p : ℕ → Bool) (f t : ℕ) (l : List ℕ) → t ≤ length l → all p (slice f t l) ≡ true
+pub all_slice : (p : ℕ → Bool) (f t : ℕ) (l : List ℕ) → t ≤ length l → all p (slice f t l) ≡ true
     → (i : ℕ) → f ≤ i → i < t → p (get_or l i 0) ≡ true
-all-slice p f t l within a i low high =
+all_slice p f t l within a i low high =
     let at : f + (i - f) ≡ i = omega arith in
     let here : get_or (slice f t l) (i - f) 0 ≡ get_or l i 0 =
-    getD-slice 0 f t (i - f) l (omega arith) ∙ ap (λ (k : ℕ). get_or l k 0) at
+    get_d_slice 0 f t (i - f) l (omega arith) ∙ ap (λ (k : ℕ). get_or l k 0) at
     in
-    ap p (sym here) ∙ all-at p 0 (slice f t l) a (i - f) (omega (arith, length-slice f t l within))
+    ap p (sym here) ∙ all_at p 0 (slice f t l) a (i - f) (omega (arith, length-slice f t l within))
 
 -- frames
-pub changed-none : (lo hi : ℕ) (w : List ℕ) → Changed lo hi w w
-changed-none lo hi w = record { size = refl; low = refl; high = refl }
+pub changed_none : (lo hi : ℕ) (w : List ℕ) → Changed lo hi w w
+changed_none lo hi w = record { size = refl; low = refl; high = refl }
 
 module _ {lo hi : ℕ} {w v : List ℕ} where
-  pub changed-more : (from to : ℕ) → from ≤ lo → hi ≤ to → Changed lo hi w v → Changed from to w v
-  changed-more from to low high c =
-      record { size = c.size; low = frame-less from lo w v low c.low; high = rest_more hi to w v high c.high }
+  pub changed_more : (from to : ℕ) → from ≤ lo → hi ≤ to → Changed lo hi w v → Changed from to w v
+  changed_more from to low high c =
+      record { size = c.size; low = frame_less from lo w v low c.low; high = rest_more hi to w v high c.high }
 
-  pub changed-store : (i a : ℕ) → lo ≤ i → i < hi → Changed lo hi w v → Changed lo hi w (set v i a)
-  changed-store i a low high c =
+  pub changed_store : (i a : ℕ) → lo ≤ i → i < hi → Changed lo hi w v → Changed lo hi w (set v i a)
+  changed_store i a low high c =
       record {
         size = length-set v i a ∙ c.size;
         low = take-set-le lo v i a low ∙ c.low;
         high = drop-set-lt hi v i a high ∙ c.high;
       }
 
-  pub changed-at-low : (i : ℕ) → i < lo → Changed lo hi w v → get_or v i 0 ≡ get_or w i 0
-  changed-at-low i h c = frame_at 0 i lo w v h c.low
+  pub changed_at_low : (i : ℕ) → i < lo → Changed lo hi w v → get_or v i 0 ≡ get_or w i 0
+  changed_at_low i h c = frame_at 0 i lo w v h c.low
 
-  pub changed-at-high : (i : ℕ) → hi ≤ i → Changed lo hi w v → get_or v i 0 ≡ get_or w i 0
-  changed-at-high i h c = rest_at 0 hi i w v h c.high
+  pub changed_at_high : (i : ℕ) → hi ≤ i → Changed lo hi w v → get_or v i 0 ≡ get_or w i 0
+  changed_at_high i h c = rest_at 0 hi i w v h c.high
 
-  pub changed-slice-high : (f t : ℕ) → hi ≤ f → Changed lo hi w v → slice f t v ≡ slice f t w
-  changed-slice-high f t h c = rest-slice hi f t w v h c.high
+  pub changed_slice_high : (f t : ℕ) → hi ≤ f → Changed lo hi w v → slice f t v ≡ slice f t w
+  changed_slice_high f t h c = rest-slice hi f t w v h c.high

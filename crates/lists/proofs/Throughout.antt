@@ -8,72 +8,72 @@ use native.Mathlib.Omega.{arith}
 use lib.ListN.{length, get_or, take, drop}
 use Rattle.lists.specs.Lists.{all, any, memb, subset}
 use Rattle.lists.proofs.Bools.{and_left, and_right, and_both, or_left, or_right, or_cases}
-use Rattle.lists.proofs.Membership.{memb-head, memb-tail, memb-cons, memb-nil}
+use Rattle.lists.proofs.Membership.{memb_head, memb_tail, memb_cons, memb_nil}
 
 -- by members
 module _ (p : ℕ → Bool) where
-  pub all-elim : (xs : List ℕ) → all p xs ≡ true → (x : ℕ) → memb x xs ≡ true → p x ≡ true
+  pub all_elim : (xs : List ℕ) → all p xs ≡ true → (x : ℕ) → memb x xs ≡ true → p x ≡ true
   unfolding all
-  all-elim [] a x h = memb-nil x h
-  all-elim (y ∷ ys) a x h =
-      memb-cons x y ys h
+  all_elim [] a x h = memb_nil x h
+  all_elim (y ∷ ys) a x h =
+      memb_cons x y ys h
       (λ e. subst (λ (k : ℕ). p k ≡ true) (sym e) (and_left (p y) (all p ys) a))
-      (λ m. all-elim ys (and_right (p y) (all p ys) a) x m)
+      (λ m. all_elim ys (and_right (p y) (all p ys) a) x m)
 
-  pub all-intro : (xs : List ℕ) → ((x : ℕ) → memb x xs ≡ true → p x ≡ true) → all p xs ≡ true
+  pub all_intro : (xs : List ℕ) → ((x : ℕ) → memb x xs ≡ true → p x ≡ true) → all p xs ≡ true
   unfolding all
-  all-intro [] h = refl
-  all-intro (y ∷ ys) h =
-      and_both (h y (memb-head y ys)) (all-intro ys (λ x m. h x (memb-tail x y ys m)))
+  all_intro [] h = refl
+  all_intro (y ∷ ys) h =
+      and_both (h y (memb_head y ys)) (all_intro ys (λ x m. h x (memb_tail x y ys m)))
 
-  pub any-intro : (xs : List ℕ) (x : ℕ) → memb x xs ≡ true → p x ≡ true → any p xs ≡ true
+  pub any_intro : (xs : List ℕ) (x : ℕ) → memb x xs ≡ true → p x ≡ true → any p xs ≡ true
   unfolding any
-  any-intro [] x m h = memb-nil x m
-  any-intro (y ∷ ys) x m h =
-      memb-cons x y ys m
+  any_intro [] x m h = memb_nil x m
+  any_intro (y ∷ ys) x m h =
+      memb_cons x y ys m
       (λ e. or_left (p y) (any p ys) (subst (λ (k : ℕ). p k ≡ true) e h))
-      (λ t. or_right (p y) (any p ys) (any-intro ys x t h))
+      (λ t. or_right (p y) (any p ys) (any_intro ys x t h))
 
-  pub any-elim : {P : Type 0} (xs : List ℕ) → any p xs ≡ true → ((x : ℕ) → memb x xs ≡ true → p x ≡ true → P) → P
+  pub any_elim : {P : Type 0} (xs : List ℕ) → any p xs ≡ true → ((x : ℕ) → memb x xs ≡ true → p x ≡ true → P) → P
   unfolding any
-  any-elim [] a k = absurd (false≢true a)
-  any-elim (y ∷ ys) a k =
+  any_elim [] a k = absurd (false≢true a)
+  any_elim (y ∷ ys) a k =
       or_cases (p y) (any p ys) a
-      (λ h. k y (memb-head y ys) h)
-      (λ t. any-elim ys t (λ x m h. k x (memb-tail x y ys m) h))
+      (λ h. k y (memb_head y ys) h)
+      (λ t. any_elim ys t (λ x m h. k x (memb_tail x y ys m) h))
 
-pub subset-elim : (xs ys : List ℕ) → subset xs ys ≡ true → (x : ℕ) → memb x xs ≡ true → memb x ys ≡ true
-subset-elim xs ys s x m = all-elim (λ (k : ℕ). memb k ys) xs s x m
+pub subset_elim : (xs ys : List ℕ) → subset xs ys ≡ true → (x : ℕ) → memb x xs ≡ true → memb x ys ≡ true
+subset_elim xs ys s x m = all_elim (λ (k : ℕ). memb k ys) xs s x m
 
-pub subset-intro : (xs ys : List ℕ) → ((x : ℕ) → memb x xs ≡ true → memb x ys ≡ true) → subset xs ys ≡ true
-subset-intro xs ys h = all-intro (λ (k : ℕ). memb k ys) xs h
+pub subset_intro : (xs ys : List ℕ) → ((x : ℕ) → memb x xs ≡ true → memb x ys ≡ true) → subset xs ys ≡ true
+subset_intro xs ys h = all_intro (λ (k : ℕ). memb k ys) xs h
 
-pub subset-nil : (ys : List ℕ) → subset [] ys ≡ true
+pub subset_nil : (ys : List ℕ) → subset [] ys ≡ true
 unfolding all
-subset-nil ys = refl
+subset_nil ys = refl
 
-pub subset-none : (x : ℕ) (xs : List ℕ) → subset (x ∷ xs) [] ≡ false
+pub subset_none : (x : ℕ) (xs : List ℕ) → subset (x ∷ xs) [] ≡ false
 unfolding all memb
-subset-none x xs = refl
+subset_none x xs = refl
 
 -- by places, and for a weaker test
 module _ {A : Type 0} (p : A → Bool) where
-  pub all-at : (d : A) (l : List A) → all p l ≡ true → (i : ℕ) → i < length l → p (get_or l i d) ≡ true
+  pub all_at : (d : A) (l : List A) → all p l ≡ true → (i : ℕ) → i < length l → p (get_or l i d) ≡ true
   unfolding all
-  all-at d [] a i below = absurd (omega arith)
-  all-at d (x ∷ xs) a zero below = and_left (p x) (all p xs) a
-  all-at d (x ∷ xs) a (suc i) below = all-at d xs (and_right (p x) (all p xs) a) i (omega arith)
+  all_at d [] a i below = absurd (omega arith)
+  all_at d (x ∷ xs) a zero below = and_left (p x) (all p xs) a
+  all_at d (x ∷ xs) a (suc i) below = all_at d xs (and_right (p x) (all p xs) a) i (omega arith)
 
-  pub all-make : (d : A) (l : List A) → ((i : ℕ) → i < length l → p (get_or l i d) ≡ true) → all p l ≡ true
+  pub all_make : (d : A) (l : List A) → ((i : ℕ) → i < length l → p (get_or l i d) ≡ true) → all p l ≡ true
   unfolding all
-  all-make d [] at = refl
-  all-make d (x ∷ xs) at = and_both (at 0 (omega arith)) (all-make d xs (λ i below. at (suc i) (omega arith)))
+  all_make d [] at = refl
+  all_make d (x ∷ xs) at = and_both (at 0 (omega arith)) (all_make d xs (λ i below. at (suc i) (omega arith)))
 
-  pub all-weaken : (q : A → Bool) (xs : List A) → ((x : A) → p x ≡ true → q x ≡ true) → all p xs ≡ true → all q xs ≡ true
+  pub all_weaken : (q : A → Bool) (xs : List A) → ((x : A) → p x ≡ true → q x ≡ true) → all p xs ≡ true → all q xs ≡ true
   unfolding all
-  all-weaken q [] h a = refl
-  all-weaken q (x ∷ xs) h a =
-      and_both (h x (and_left (p x) (all p xs) a)) (all-weaken q xs h (and_right (p x) (all p xs) a))
+  all_weaken q [] h a = refl
+  all_weaken q (x ∷ xs) h a =
+      and_both (h x (and_left (p x) (all p xs) a)) (all_weaken q xs h (and_right (p x) (all p xs) a))
 
   -- lists one after the other, and their parts
   pub all_append : (xs ys : List A) → all p xs ≡ true → all p ys ≡ true → all p (xs ++ ys) ≡ true
@@ -82,11 +82,11 @@ module _ {A : Type 0} (p : A → Bool) where
   all_append (x ∷ xs) ys hx hy =
       and_both (and_left (p x) (all p xs) hx) (all_append xs ys (and_right (p x) (all p xs) hx) hy)
 
-  pub all-front : (xs ys : List A) → all p (xs ++ ys) ≡ true → all p xs ≡ true
+  pub all_front : (xs ys : List A) → all p (xs ++ ys) ≡ true → all p xs ≡ true
   unfolding all
-  all-front [] ys a = refl
-  all-front (x ∷ xs) ys a =
-      and_both (and_left (p x) (all p (xs ++ ys)) a) (all-front xs ys (and_right (p x) (all p (xs ++ ys)) a))
+  all_front [] ys a = refl
+  all_front (x ∷ xs) ys a =
+      and_both (and_left (p x) (all p (xs ++ ys)) a) (all_front xs ys (and_right (p x) (all p (xs ++ ys)) a))
 
   pub all_back : (xs ys : List A) → all p (xs ++ ys) ≡ true → all p ys ≡ true
   unfolding all
@@ -116,4 +116,4 @@ module _ {A : Type 0} (p : A → Bool) where
 pub all_map : (f : ℕ → ℕ) (p : ℕ → Bool) (xs : List ℕ) → ((x : ℕ) → memb x xs ≡ true → p (f x) ≡ true) → all p (map f xs) ≡ true
 unfolding all
 all_map f p [] h = refl
-all_map f p (x ∷ xs) h = and_both (h x (memb-head x xs)) (all_map f p xs (λ y m. h y (memb-tail y x xs m)))
+all_map f p (x ∷ xs) h = and_both (h x (memb_head x xs)) (all_map f p xs (λ y m. h y (memb_tail y x xs m)))

@@ -7,16 +7,16 @@ use native.Mathlib.Omega.{arith}
 use lib.ListN.{length, drop, length-append}
 use lib.Seq.{sets, length-sets}
 use Rattle.lists.specs.Writing.{Put}
-use Rattle.lists.proofs.Filling.{sets-append, sets-front}
+use Rattle.lists.proofs.Filling.{sets_append, sets_front}
 
 -- one run written after another
-pub put-append : {was mid is : List ℕ} {at r end : ℕ} {a b : List ℕ} → Put was at a r mid → Put mid r b end is
+pub put_append : {was mid is : List ℕ} {at r end : ℕ} {a b : List ℕ} → Put was at a r mid → Put mid r b end is
     → Put was at (a ++ b) end is
-put-append {was} {mid} {is} {at} {r} {end} {a} {b} p q =
+put_append {was} {mid} {is} {at} {r} {end} {a} {b} p q =
     record {
       written =
           q.written ∙ ap (λ (l : List ℕ). sets l r b) p.written ∙ ap (λ (k : ℕ). sets (sets was at a) k b) p.past
-          ∙ sym (sets-append was at a b);
+          ∙ sym (sets_append was at a b);
       past = omega (arith, p.past, q.past, length-append a b);
     }
 
@@ -33,24 +33,24 @@ writing_start was pos wanted room = record { left = refl; total = refl; room = r
 
 module _ {was : List ℕ} {pos : ℕ} {wanted is : List ℕ} {end : ℕ} {rest : List ℕ} (w : Writing was pos wanted is end rest) where
   -- there is room for the next run
-  pub writing-room : (new later : List ℕ) → rest ≡ new ++ later → end + length new ≤ length is
-  writing-room new later e = omega (arith, w.total, w.room, w.same, ap length e, length-append new later)
+  pub writing_room : (new later : List ℕ) → rest ≡ new ++ later → end + length new ≤ length is
+  writing_room new later e = omega (arith, w.total, w.room, w.same, ap length e, length-append new later)
 
   pub writing_step : {new later next : List ℕ} {r : ℕ} → rest ≡ new ++ later → Put is end new r next
       → Writing was pos wanted next r later
   writing_step {new} {later} {next} {r} e p =
       record {
         left = ap (λ (l : List ℕ). sets l r later) p.written ∙ ap (λ (k : ℕ). sets (sets is end new) k later) p.past
-            ∙ sym (sets-append is end new later) ∙ ap (sets is end) (sym e) ∙ w.left;
+            ∙ sym (sets_append is end new later) ∙ ap (sets is end) (sym e) ∙ w.left;
         total = omega (arith, w.total, p.past, ap length e, length-append new later);
         room = w.room;
         same = ap length p.written ∙ length-sets is end new ∙ w.same;
       }
 
-  pub writing-end : rest ≡ [] → Put was pos wanted end is
-  writing-end e = record { written = ap (sets is end) (sym e) ∙ w.left; past = omega (arith, w.total, ap length e) }
+  pub writing_end : rest ≡ [] → Put was pos wanted end is
+  writing_end e = record { written = ap (sets is end) (sym e) ∙ w.left; past = omega (arith, w.total, ap length e) }
 
 -- a list that was written whole from its beginning
-pub written-whole : {was wanted is : List ℕ} {end : ℕ} → Put was 0 wanted end is → length wanted ≤ length was
+pub written_whole : {was wanted is : List ℕ} {end : ℕ} → Put was 0 wanted end is → length wanted ≤ length was
     → is ≡ wanted ++ drop (length wanted) was
-written-whole {was} {wanted} p room = p.written ∙ sets-front wanted was room
+written_whole {was} {wanted} p room = p.written ∙ sets_front wanted was room

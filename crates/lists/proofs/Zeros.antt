@@ -26,13 +26,13 @@ zeroed_step {was} {is} {i} {n} z below =
       within = omega arith;
     }
 
-pub zeroed-end : {was is : List ℕ} {i n : ℕ} → Zeroed was is i n → n ≤ i → is ≡ replicate (length was) 0
-zeroed-end {was} {is} {i} {n} z past =
+pub zeroed_end : {was is : List ℕ} {i n : ℕ} → Zeroed was is i n → n ≤ i → is ≡ replicate (length was) 0
+zeroed_end {was} {is} {i} {n} z past =
     let here : i ≡ length was = omega arith in
     let gone : drop i was ≡ [] = drop_of_length-le was {i = i} (omega arith) in
     z.filled ∙ rw (gone, append-nil, here)
 
-pub getD-zeros : (n k : ℕ) → ◌≡◌ {A = ℕ} (get_or (replicate n 0) k 0) 0
-getD-zeros zero k = refl
-getD-zeros (suc n) zero = refl
-getD-zeros (suc n) (suc k) = getD-zeros n k
+pub get_d_zeros : (n k : ℕ) → ◌≡◌ {A = ℕ} (get_or (replicate n 0) k 0) 0
+get_d_zeros zero k = refl
+get_d_zeros (suc n) zero = refl
+get_d_zeros (suc n) (suc k) = get_d_zeros n k

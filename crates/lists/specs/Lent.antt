@@ -7,5 +7,5 @@ abbrev pub Lent : Type 0
 Lent = Both (Bor (List ℕ)) (Bor (List ℕ))
 
 -- what it holds at the call
-abbrev pub atCall : Lent → List ℕ
-atCall list = list.entry.now
+abbrev pub at_call : Lent → List ℕ
+at_call list = list.entry.now

@@ -56,14 +56,14 @@ abbrev pub upto : ℕ → List ℕ
 upto n = range 0 n
 
 -- whether each number is greater than the one before, the first greater than x
-unfoldable pub risingAfter : ℕ → List ℕ → Bool
-risingAfter x [] = true
-risingAfter x (y ∷ ys) = ltb x y && risingAfter y ys
+unfoldable pub rising_after : ℕ → List ℕ → Bool
+rising_after x [] = true
+rising_after x (y ∷ ys) = ltb x y && rising_after y ys
 
 -- whether the numbers strictly rise; true of []
 unfoldable pub rising : List ℕ → Bool
 rising [] = true
-rising (x ∷ xs) = risingAfter x xs
+rising (x ∷ xs) = rising_after x xs
 
 -- whether no number occurs twice
 unfoldable pub distinct : List ℕ → Bool

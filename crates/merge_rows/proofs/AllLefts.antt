@@ -8,41 +8,41 @@ use native.Mathlib.Omega.{arith}
 use lib.ListN.{length, get_or}
 use Rattle.lists.specs.Lists.{sum}
 use Rattle.lists.proofs.Bools.{true-false}
-use Rattle.lists.proofs.Slices.{frame-less, frame_at, rest_at}
-use Rattle.sets.specs.Limits.{maxSetLength, fullWords}
-use Rattle.sets.specs.Collections.{setsOf, between}
+use Rattle.lists.proofs.Slices.{frame_less, frame_at, rest_at}
+use Rattle.sets.specs.Limits.{max_set_length, full_words}
+use Rattle.sets.specs.Collections.{sets_of, between}
 use Rattle.sets.proofs.Between.{length-sets}
 use Rattle.side_index.specs.inverted.Placing.{start_at}
 use Rattle.side_index.proofs.inverted.Collected.{SetAt, set_at}
 use Rattle.inputs.specs.Input.{input_of}
-use Rattle.join_spec.specs.PairList.{pairsFrom}
+use Rattle.join_spec.specs.PairList.{pairs_from}
 use Rattle.join_spec.specs.Query.{Query}
-use Rattle.join_spec.specs.Counting.{isConfirmed, isDropped, isFalse}
-use Rattle.join_spec.proofs.Demand.{checks-end}
+use Rattle.join_spec.specs.Counting.{is_confirmed, is_dropped, is_false}
+use Rattle.join_spec.proofs.Demand.{checks_end}
 use Rattle.signatures.specs.Signing.{double}
 use Rattle.merge_rows.specs.declared.Met.{Met}
 use Rattle.merge_rows.specs.declared.Regions.{Regions}
-use Rattle.merge_rows.specs.Filled.{rowWords}
+use Rattle.merge_rows.specs.Filled.{row_words}
 use Rattle.merge_rows.specs.SignedSets.{Signs}
 use Rattle.merge_rows.specs.ShortLists.{Listed}
 use Rattle.merge_rows.specs.Meeting.{Laid, Ground, CountersRoom, CountersStored}
-use Rattle.merge_rows.specs.Merging.{mergeQuery, totalTo, pairsTo, MetAfter, MetFits, CountersKept, Over, LeftsRoom, SetThere, LeftAdded, AllMet}
-use Rattle.merge_rows.proofs.ShortWriting.{listed-none, listed-append, listed-take}
-use Rattle.merge_rows.proofs.RowReads.{rows-kept, ground-signs}
-use Rattle.merge_rows.proofs.Totals.{pairs_next, met_next, counters-next, total-upto, total-all}
-use Rattle.merge_rows.proofs.LeftSteps.{lefts-count, met-room, met-fits}
+use Rattle.merge_rows.specs.Merging.{merge_query, total_to, pairs_to, MetAfter, MetFits, CountersKept, Over, LeftsRoom, SetThere, LeftAdded, AllMet}
+use Rattle.merge_rows.proofs.ShortWriting.{listed_none, listed_append, listed_take}
+use Rattle.merge_rows.proofs.RowReads.{rows_kept, ground_signs}
+use Rattle.merge_rows.proofs.Totals.{pairs_next, met_next, counters_next, total-upto, total_all}
+use Rattle.merge_rows.proofs.LeftSteps.{lefts_count, met_room, met_fits}
 
 -- the counters of a left set lie above the rows and below the signatures
-stored-ground : {r : Regions} {lefts k : ℕ} {m : Met} {ends items w w' : List ℕ} → Laid r lefts (length ends) w → k < lefts
+stored_ground : {r : Regions} {lefts k : ℕ} {m : Met} {ends items w w' : List ℕ} → Laid r lefts (length ends) w → k < lefts
     → CountersStored r.counters k m w w' → Ground r ends items w → Ground r ends items w'
-stored-ground {r} {lefts} {k} {m} {ends} {items} {w} {w'} laid place stored ground =
+stored_ground {r} {lefts} {k} {m} {ends} {items} {w} {w'} laid place stored ground =
     record {
       few = ground.few;
       good = ground.good;
       above = ground.above;
       rows =
-          rows-kept ground.rows w' stored.changed.size
-          (frame-less (2 * rowWords r.t (length (setsOf ends items))) (r.counters + 3 * k) w w' (omega (arith, below-counters)) stored.changed.low);
+          rows_kept ground.rows w' stored.changed.size
+          (frame_less (2 * row_words r.t (length (sets_of ends items))) (r.counters + 3 * k) w w' (omega (arith, below_counters)) stored.changed.low);
       signed =
           record {
             room = omega (arith, ground.signed.room, stored.changed.size);
@@ -50,21 +50,21 @@ stored-ground {r} {lefts} {k} {m} {ends} {items} {w} {w'} laid place stored grou
           };
     }
   where
-    below-counters : 2 * rowWords r.t (length (setsOf ends items)) ≤ r.counters
-    below-counters = subst (λ (n : ℕ). 2 * rowWords r.t n ≤ r.counters) (sym (length-sets 0 ends items)) laid.counters
+    below_counters : 2 * row_words r.t (length (sets_of ends items)) ≤ r.counters
+    below_counters = subst (λ (n : ℕ). 2 * row_words r.t n ≤ r.counters) (sym (length-sets 0 ends items)) laid.counters
 
     word : (i : ℕ) → r.counters + 3 * k + 3 ≤ i → get_or w' i 0 ≡ get_or w i 0
     word i past = rest_at 0 (r.counters + 3 * k + 3) i w w' past stored.changed.high
 
     same : (s : ℕ) → double w' (r.signatures + 2 * s) ≡ double w (r.signatures + 2 * s)
     same s =
-        ap₂ (λ (a b : ℕ). a + fullWords * b) (word (r.signatures + 2 * s) (omega (arith, laid.signatures)))
+        ap₂ (λ (a b : ℕ). a + full_words * b) (word (r.signatures + 2 * s) (omega (arith, laid.signatures)))
         (word (r.signatures + 2 * s + 1) (omega (arith, laid.signatures)))
 
 -- the counters lie below the signatures
-counters-signs : {q : Query} {counters k at : ℕ} {rights : List (List ℕ)} {w w' : List ℕ} → counters + 3 * (k + 1) ≤ at → Signs at rights w w'
+counters_signs : {q : Query} {counters k at : ℕ} {rights : List (List ℕ)} {w w' : List ℕ} → counters + 3 * (k + 1) ≤ at → Signs at rights w w'
     → CountersKept q counters k w → (j : ℕ) → j ≤ k → CountersKept q counters j w'
-counters-signs {q} {counters} {k} {at} {rights} {w} {w'} room signs kept j within =
+counters_signs {q} {counters} {k} {at} {rights} {w} {w'} room signs kept j within =
     record {
       at = λ i low. same (counters + 3 * i) (omega arith) ∙ kept.at i (omega arith);
       dropped = λ i low. same (counters + 3 * i + 1) (omega arith) ∙ kept.dropped i (omega arith);
@@ -74,81 +74,81 @@ counters-signs {q} {counters} {k} {at} {rights} {w} {w'} room signs kept j withi
     same : (i : ℕ) → i < at → get_or w' i 0 ≡ get_or w i 0
     same i below = frame_at 0 i at w w' below signs.low
 
-laid-size : {r : Regions} {lefts rights : ℕ} {w w' : List ℕ} → length w' ≡ length w → Laid r lefts rights w → Laid r lefts rights w'
-laid-size size laid =
+laid_size : {r : Regions} {lefts rights : ℕ} {w w' : List ℕ} → length w' ≡ length w → Laid r lefts rights w → Laid r lefts rights w'
+laid_size size laid =
     record { counters = laid.counters; signatures = laid.signatures; hints = laid.hints; end = omega (arith, size, laid.end) }
 
 -- after k left sets, the next of which begins at start
-pub record LeftsMet (r : Regions) (leftEnds leftItems ends items : List ℕ) (limit : ℕ) (ranks : List ℕ) (budget : ℕ)
+pub record LeftsMet (r : Regions) (left_ends left_items ends items : List ℕ) (limit : ℕ) (ranks : List ℕ) (budget : ℕ)
     (was wasPath wasPairs is path pairs : List ℕ) (m : Met) (start k : ℕ) : Type 0 where
-  pub over : Over r (input_of r.t leftEnds leftItems ends items) limit ranks is
-  pub place : k ≤ length leftEnds
-  pub here : start ≡ start_at leftEnds k
-  pub met : MetAfter (mergeQuery r.t leftEnds leftItems ends items limit ranks) k m
-  pub counters : (j : ℕ) → j < k → CountersKept (mergeQuery r.t leftEnds leftItems ends items limit ranks) r.counters j is
-  pub listed : Listed wasPairs 0 (pairsTo (mergeQuery r.t leftEnds leftItems ends items limit ranks) k) m.at pairs
+  pub over : Over r (input_of r.t left_ends left_items ends items) limit ranks is
+  pub place : k ≤ length left_ends
+  pub here : start ≡ start_at left_ends k
+  pub met : MetAfter (merge_query r.t left_ends left_items ends items limit ranks) k m
+  pub counters : (j : ℕ) → j < k → CountersKept (merge_query r.t left_ends left_items ends items limit ranks) r.counters j is
+  pub listed : Listed wasPairs 0 (pairs_to (merge_query r.t left_ends left_items ends items limit ranks) k) m.at pairs
   pub calm : m.confirmed + (m.dropped + m.falses) ≤ budget
   pub size : length is ≡ length was
-  pub pathSize : length path ≡ length wasPath
+  pub path_size : length path ≡ length wasPath
 
-module _ {r : Regions} {leftEnds leftItems ends items : List ℕ} {limit : ℕ} {ranks : List ℕ} {budget : ℕ} where
-  pub lefts-start : {w path : List ℕ} (pairs : List ℕ) → LeftsRoom r (input_of r.t leftEnds leftItems ends items) limit ranks w path
-      → LeftsMet r leftEnds leftItems ends items limit ranks budget w path pairs w path pairs
+module _ {r : Regions} {left_ends left_items ends items : List ℕ} {limit : ℕ} {ranks : List ℕ} {budget : ℕ} where
+  pub lefts_start : {w path : List ℕ} (pairs : List ℕ) → LeftsRoom r (input_of r.t left_ends left_items ends items) limit ranks w path
+      → LeftsMet r left_ends left_items ends items limit ranks budget w path pairs w path pairs
       (record { at = 0; confirmed = 0; dropped = 0; falses = 0 }) 0 0
-  unfolding pairsTo totalTo pairsFrom sum
-  lefts-start pairs room =
+  unfolding pairs_to total_to pairs_from sum
+  lefts_start pairs room =
       record {
         over = room.over;
         place = omega arith;
         here = refl;
         met = record { at = refl; confirmed = refl; dropped = refl; falses = refl };
         counters = λ j none. absurd (omega arith);
-        listed = listed-none pairs 0;
+        listed = listed_none pairs 0;
         calm = omega arith;
         size = refl;
-        pathSize = refl;
+        path_size = refl;
       }
 
   module _ {was wasPath wasPairs is path pairs : List ℕ} {m : Met} {start k : ℕ}
-      (c : LeftsMet r leftEnds leftItems ends items limit ranks budget was wasPath wasPairs is path pairs m start k) where
+      (c : LeftsMet r left_ends left_items ends items limit ranks budget was wasPath wasPairs is path pairs m start k) where
     abbrev q : Query
-    q = mergeQuery r.t leftEnds leftItems ends items limit ranks
+    q = merge_query r.t left_ends left_items ends items limit ranks
 
     -- the end
-    pub lefts-end : length leftEnds ≤ k → AllMet q budget (record { spent = false; met = m }) wasPairs pairs
-    lefts-end past =
-        let all-lefts : k ≡ length q.lefts = omega (arith, c.place, lefts-count c.over.tests) in
+    pub lefts_end : length left_ends ≤ k → AllMet q budget (record { spent = false; met = m }) wasPairs pairs
+    lefts_end past =
+        let all-lefts : k ≡ length q.lefts = omega (arith, c.place, lefts_count c.over.tests) in
         let met = subst (λ (n : ℕ). MetAfter q n m) all-lefts c.met in
         record {
           size = c.listed.size;
-          fits = met-fits c.over.tests c.met c.place;
+          fits = met_fits c.over.tests c.met c.place;
           spent = λ over. true-false over refl;
           calm = λ within.
               omega (
                 arith,
                 c.calm,
-                checks-end q,
+                checks_end q,
                 met.confirmed,
                 met.dropped,
                 met.falses,
-                total-all isConfirmed q,
-                total-all isDropped q,
-                total-all isFalse q,
+                total_all is_confirmed q,
+                total_all is_dropped q,
+                total_all is_false q,
               );
           met = λ within. met;
-          listed = λ within. subst (λ (n : ℕ). Listed wasPairs 0 (pairsTo q n) m.at pairs) all-lefts c.listed;
+          listed = λ within. subst (λ (n : ℕ). Listed wasPairs 0 (pairs_to q n) m.at pairs) all-lefts c.listed;
         }
 
-    module _ (more : k < length leftEnds) where
+    module _ (more : k < length left_ends) where
       -- the left set at hand
-      pub this-set : SetAt r.t k start (get_or leftEnds k 0) (get_or q.lefts k []) leftItems
-      this-set =
-          subst (λ (s : ℕ). SetAt r.t k s (get_or leftEnds k 0) (get_or q.lefts k []) leftItems) (sym c.here)
-          (set_at r.t leftEnds leftItems c.over.tests.good.left k more)
+      pub this_set : SetAt r.t k start (get_or left_ends k 0) (get_or q.lefts k []) left_items
+      this_set =
+          subst (λ (s : ℕ). SetAt r.t k s (get_or left_ends k 0) (get_or q.lefts k []) left_items) (sym c.here)
+          (set_at r.t left_ends left_items c.over.tests.good.left k more)
 
-      pub counters-room : CountersRoom r.counters k m is
-      counters-room =
-          let room = met-room c.over.tests c.met more in
+      pub counters_room : CountersRoom r.counters k m is
+      counters_room =
+          let room = met_room c.over.tests c.met more in
           let laid = c.over.laid in
           record {
             small = record { at = omega (arith, room.at); dropped = omega (arith, room.dropped); falses = omega (arith, room.falses) };
@@ -156,93 +156,93 @@ module _ {r : Regions} {leftEnds leftItems ends items : List ℕ} {limit : ℕ} 
           }
 
       module _ {stored : List ℕ} (put : CountersStored r.counters k m is stored) where
-        now-over : Over r (input_of r.t leftEnds leftItems ends items) limit ranks stored
-        now-over =
+        now_over : Over r (input_of r.t left_ends left_items ends items) limit ranks stored
+        now_over =
             record {
               words = c.over.words;
               tests = c.over.tests;
-              laid = laid-size put.changed.size c.over.laid;
-              ground = stored-ground c.over.laid more put c.over.ground;
+              laid = laid_size put.changed.size c.over.laid;
+              ground = stored_ground c.over.laid more put c.over.ground;
             }
 
-        now-counters : CountersKept q r.counters k stored
-        now-counters = counters-next c.counters c.met put
+        now_counters : CountersKept q r.counters k stored
+        now_counters = counters_next c.counters c.met put
 
-        pub set_there : maxSetLength ≤ length wasPath
-            → SetThere r (input_of r.t leftEnds leftItems ends items) limit ranks stored q k (between start (get_or leftEnds k 0) leftItems)
+        pub set_there : max_set_length ≤ length wasPath
+            → SetThere r (input_of r.t left_ends left_items ends items) limit ranks stored q k (between start (get_or left_ends k 0) left_items)
             path pairs m
         set_there longest =
             record {
-              over = now-over;
+              over = now_over;
               place = more;
-              is = sym this-set.is;
-              longest = omega (arith, longest, c.pathSize);
+              is = sym this_set.is;
+              longest = omega (arith, longest, c.path_size);
               met = c.met;
-              counters = now-counters;
-              listed = λ fits. listed-take c.listed (omega (arith, fits, c.listed.size));
+              counters = now_counters;
+              listed = λ fits. listed_take c.listed (omega (arith, fits, c.listed.size));
             }
 
         module _ {met : Met} {next nextPairs : List ℕ}
-            (added : LeftAdded q k (between start (get_or leftEnds k 0) leftItems) m met pairs nextPairs)
+            (added : LeftAdded q k (between start (get_or left_ends k 0) left_items) m met pairs nextPairs)
             (signs : Signs r.signatures q.rights stored next) where
           place : k < length q.lefts
-          place = omega (arith, lefts-count c.over.tests)
+          place = omega (arith, lefts_count c.over.tests)
 
-          this-added : LeftAdded q k (get_or q.lefts k []) m met pairs nextPairs
-          this-added = subst (λ (l : List ℕ). LeftAdded q k l m met pairs nextPairs) (sym this-set.is) added
+          this_added : LeftAdded q k (get_or q.lefts k []) m met pairs nextPairs
+          this_added = subst (λ (l : List ℕ). LeftAdded q k l m met pairs nextPairs) (sym this_set.is) added
 
           after : MetAfter q (k + 1) met
-          after = met_next q k place c.met this-added
+          after = met_next q k place c.met this_added
 
-          all_listed : Listed wasPairs 0 (pairsTo q (k + 1)) met.at nextPairs
+          all_listed : Listed wasPairs 0 (pairs_to q (k + 1)) met.at nextPairs
           all_listed =
               subst (λ (l : List ℕ). Listed wasPairs 0 l met.at nextPairs) (sym (pairs_next q k place))
-              (listed-append c.listed this-added.listed)
+              (listed_append c.listed this_added.listed)
 
-          pub lefts-fit : MetFits met
-          lefts-fit = met-fits c.over.tests after (omega arith)
+          pub lefts_fit : MetFits met
+          lefts_fit = met_fits c.over.tests after (omega arith)
 
-          pub lefts-spent : budget < met.confirmed + (met.dropped + met.falses)
+          pub lefts_spent : budget < met.confirmed + (met.dropped + met.falses)
               → AllMet q budget (record { spent = true; met = met }) wasPairs nextPairs
-          lefts-spent over =
+          lefts_spent over =
               record {
                 size = all_listed.size;
-                fits = lefts-fit;
+                fits = lefts_fit;
                 spent = λ is.
                     omega (
                       arith,
                       over,
-                      checks-end q,
+                      checks_end q,
                       after.confirmed,
                       after.dropped,
                       after.falses,
-                      total-upto isConfirmed q (k + 1),
-                      total-upto isDropped q (k + 1),
-                      total-upto isFalse q (k + 1),
+                      total-upto is_confirmed q (k + 1),
+                      total-upto is_dropped q (k + 1),
+                      total-upto is_false q (k + 1),
                     );
                 calm = λ within. true-false refl within;
                 met = λ within. true-false refl within;
                 listed = λ within. true-false refl within;
               }
 
-          pub lefts-step : (nextPath : List ℕ) → met.confirmed + (met.dropped + met.falses) ≤ budget → length nextPath ≡ length path
-              → LeftsMet r leftEnds leftItems ends items limit ranks budget was wasPath wasPairs next nextPath nextPairs met
-              (get_or leftEnds k 0) (k + 1)
-          lefts-step nextPath within same =
+          pub lefts_step : (nextPath : List ℕ) → met.confirmed + (met.dropped + met.falses) ≤ budget → length nextPath ≡ length path
+              → LeftsMet r left_ends left_items ends items limit ranks budget was wasPath wasPairs next nextPath nextPairs met
+              (get_or left_ends k 0) (k + 1)
+          lefts_step nextPath within same =
               record {
                 over =
                     record {
                       words = c.over.words;
                       tests = c.over.tests;
-                      laid = laid-size signs.size now-over.laid;
-                      ground = ground-signs now-over.ground signs;
+                      laid = laid_size signs.size now_over.laid;
+                      ground = ground_signs now_over.ground signs;
                     };
                 place = omega arith;
                 here = rw (add-one k);
                 met = after;
-                counters = λ j low. counters-signs (omega (arith, now-over.laid.signatures)) signs now-counters j (omega arith);
+                counters = λ j low. counters_signs (omega (arith, now_over.laid.signatures)) signs now_counters j (omega arith);
                 listed = all_listed;
                 calm = within;
                 size = signs.size ∙ put.changed.size ∙ c.size;
-                pathSize = same ∙ c.pathSize;
+                path_size = same ∙ c.path_size;
               }

@@ -11,75 +11,75 @@ use lib.Dec.{ltb}
 use lib.ListN.{length, take, get_or}
 use Rattle.lists.specs.Lists.{all, memb, range, upto}
 use Rattle.lists.proofs.Bools.{and_right, and_both}
-use Rattle.lists.proofs.Membership.{memb-at, memb-head, memb-tail}
+use Rattle.lists.proofs.Membership.{memb_at, memb_head, memb_tail}
 use Rattle.lists.proofs.Ranges.{range-memb}
-use Rattle.lists.proofs.Slices.{frame-less}
-use Rattle.lists.proofs.Throughout.{all-elim, all-intro, all-at}
-use Rattle.sets.specs.Collections.{setsOf}
+use Rattle.lists.proofs.Slices.{frame_less}
+use Rattle.lists.proofs.Throughout.{all_elim, all_intro, all_at}
+use Rattle.sets.specs.Collections.{sets_of}
 use Rattle.sets.proofs.Between.{length-sets}
 use Rattle.counting_sort.specs.Sorting.{WordsCleared}
 use Rattle.bit_sets.specs.BitSets.{bit_at}
-use Rattle.signatures.proofs.SigningSets.{double-stays}
+use Rattle.signatures.proofs.SigningSets.{double_stays}
 use Rattle.merge_rows.specs.declared.Regions.{Regions}
 use Rattle.merge_rows.specs.Words.{digit, ReadRoom}
-use Rattle.merge_rows.specs.Filled.{blocksOf, rowWords, RowsHold}
+use Rattle.merge_rows.specs.Filled.{blocks_of, row_words, RowsHold}
 use Rattle.merge_rows.specs.SignedSets.{Signs}
-use Rattle.merge_rows.specs.Yields.{holdsAll}
+use Rattle.merge_rows.specs.Yields.{holds_all}
 use Rattle.merge_rows.specs.Meeting.{Ground, Blocks, KeptBelow}
 use Rattle.merge_rows.specs.Merging.{RowsReady}
-use Rattle.merge_rows.proofs.WordDigits.{double-cleared}
+use Rattle.merge_rows.proofs.WordDigits.{double_cleared}
 
 -- r has those digits of a word that the words of a list have
 abbrev pub Shares : List ℕ → ℕ → List ℕ → ℕ → ℕ → Type 0
 Shares w from list word r = (j : ℕ) → bit_at r j ≡ (bit_at word j && all (λ x. digit w (from + x) j) list)
 
 -- tests that agree on the elements of a list
-all-agree : (p q : ℕ → Bool) (xs : List ℕ) → ((x : ℕ) → memb x xs ≡ true → p x ≡ q x) → all p xs ≡ all q xs
+all_agree : (p q : ℕ → Bool) (xs : List ℕ) → ((x : ℕ) → memb x xs ≡ true → p x ≡ q x) → all p xs ≡ all q xs
 unfolding all memb
-all-agree p q [] same = refl
-all-agree p q (x ∷ xs) same =
-    ap₂ (λ (a b : Bool). a && b) (same x (memb-head x xs)) (all-agree p q xs (λ y m. same y (memb-tail y x xs m)))
+all_agree p q [] same = refl
+all_agree p q (x ∷ xs) same =
+    ap₂ (λ (a b : Bool). a && b) (same x (memb_head x xs)) (all_agree p q xs (λ y m. same y (memb_tail y x xs m)))
 
 -- every digit of the greatest word is 1
-full-digits : all (bit_at 18446744073709551615) (upto 64) ≡ true
+full_digits : all (bit_at 18446744073709551615) (upto 64) ≡ true
 unfolding all range
-full-digits = refl
+full_digits = refl
 
-full-digit : (j : ℕ) → j < 64 → bit_at 18446744073709551615 j ≡ true
-full-digit j below = all-elim (bit_at 18446744073709551615) (upto 64) full-digits j (range-memb 0 64 j (omega arith) (omega arith))
+full_digit : (j : ℕ) → j < 64 → bit_at 18446744073709551615 j ≡ true
+full_digit j below = all_elim (bit_at 18446744073709551615) (upto 64) full_digits j (range-memb 0 64 j (omega arith) (omega arith))
 
 -- the words of an item: its sum, and its word in a block
-sum-within : (t n x : ℕ) → x < t → 2 * x + 2 ≤ 2 * rowWords t n
-sum-within t n x low = omega arith
+sum_within : (t n x : ℕ) → x < t → 2 * x + 2 ≤ 2 * row_words t n
+sum_within t n x low = omega arith
 
-cell-within : (t n q x : ℕ) → q < blocksOf n → x < t → 2 * (t * (q + 1) + x) + 2 ≤ 2 * rowWords t n
-cell-within t n q x within low = omega (arith, mul-le-mul_left t within)
+cell_within : (t n q x : ℕ) → q < blocks_of n → x < t → 2 * (t * (q + 1) + x) + 2 ≤ 2 * row_words t n
+cell_within t n q x within low = omega (arith, mul-le-mul_left t within)
 
 module _ {t : ℕ} {rights : List (List ℕ)} {w : List ℕ} (rows : RowsHold t rights w) where
-  item-low : (list : List ℕ) → all (λ x. ltb x t) list ≡ true → (x : ℕ) → memb x list ≡ true → x < t
-  item-low list low x there = ltb-true x t (all-elim (λ x. ltb x t) list low x there)
+  item_low : (list : List ℕ) → all (λ x. ltb x t) list ≡ true → (x : ℕ) → memb x list ≡ true → x < t
+  item_low list low x there = ltb-true x t (all_elim (λ x. ltb x t) list low x there)
 
   -- the words of a list are there, in the sums and in a block
-  pub sums-room : (list : List ℕ) → all (λ x. ltb x t) list ≡ true → ReadRoom 0 list w
-  sums-room list low e below =
+  pub sums_room : (list : List ℕ) → all (λ x. ltb x t) list ≡ true → ReadRoom 0 list w
+  sums_room list low e below =
       let x = get_or list e 0 in
-      omega (arith, sum-within t (length rights) x (item-low list low x (memb-at list e 0 below)), rows.room)
+      omega (arith, sum_within t (length rights) x (item_low list low x (memb_at list e 0 below)), rows.room)
 
-  pub cells-room : (q : ℕ) (list : List ℕ) → q < blocksOf (length rights) → all (λ x. ltb x t) list ≡ true
+  pub cells_room : (q : ℕ) (list : List ℕ) → q < blocks_of (length rights) → all (λ x. ltb x t) list ≡ true
       → ReadRoom (t * (q + 1)) list w
-  cells-room q list within low e below =
+  cells_room q list within low e below =
       let x = get_or list e 0 in
-      omega (arith, cell-within t (length rights) q x within (item-low list low x (memb-at list e 0 below)), rows.room)
+      omega (arith, cell_within t (length rights) q x within (item_low list low x (memb_at list e 0 below)), rows.room)
 
   -- the right sets of a block that hold all of a list
-  pub shared-cells : (q : ℕ) (list : List ℕ) (word r : ℕ) → q < blocksOf (length rights) → all (λ x. ltb x t) list ≡ true
+  pub shared_cells : (q : ℕ) (list : List ℕ) (word r : ℕ) → q < blocks_of (length rights) → all (λ x. ltb x t) list ≡ true
       → Shares w (t * (q + 1)) list word r
-      → (j : ℕ) → j < 64 → bit_at r j ≡ (bit_at word j && holdsAll rights list (64 * q + j))
-  shared-cells q list word r within low shares j below =
+      → (j : ℕ) → j < 64 → bit_at r j ≡ (bit_at word j && holds_all rights list (64 * q + j))
+  shared_cells q list word r within low shares j below =
       shares j
       ∙ ap (λ (b : Bool). bit_at word j && b)
-      (all-agree (λ x. digit w (t * (q + 1) + x) j) (λ x. memb x (get_or rights (64 * q + j) [])) list
-      (λ x there. cell x (item-low list low x there)))
+      (all_agree (λ x. digit w (t * (q + 1) + x) j) (λ x. memb x (get_or rights (64 * q + j) [])) list
+      (λ x there. cell x (item_low list low x there)))
     where
       cell : (x : ℕ) → x < t → digit w (t * (q + 1) + x) j ≡ memb x (get_or rights (64 * q + j) [])
       cell x small =
@@ -89,79 +89,79 @@ module _ {t : ℕ} {rights : List (List ℕ)} {w : List ℕ} (rows : RowsHold t 
           ∙ rows.cells (64 * q + j) x (omega arith) small
 
   -- the blocks with a right set that holds all of a list, and maybe others
-  pub shared-sums : (list : List ℕ) (r : ℕ) → 0 < length list → all (λ x. ltb x t) list ≡ true → length rights ≤ 4096
+  pub shared_sums : (list : List ℕ) (r : ℕ) → 0 < length list → all (λ x. ltb x t) list ≡ true → length rights ≤ 4096
       → Shares w 0 list 18446744073709551615 r → Blocks rights list r
-  shared-sums list r some low few shares =
+  shared_sums list r some low few shares =
       record {
         cover = λ s here held.
             shares (s / 64)
-            ∙ and_both (full-digit (s / 64) (omega arith))
-            (all-intro (λ x. digit w (0 + x) (s / 64)) list
+            ∙ and_both (full_digit (s / 64) (omega arith))
+            (all_intro (λ x. digit w (0 + x) (s / 64)) list
             (λ x there.
             ap (λ (y : ℕ). digit w y (s / 64)) (zero-add x)
-            ∙ rows.sums s x (item-low list low x there) (all-elim (λ y. memb y (get_or rights s [])) list held x there)));
+            ∙ rows.sums s x (item_low list low x there) (all_elim (λ y. memb y (get_or rights s [])) list held x there)));
         within = λ q is.
             let x = get_or list 0 0 in
             let both = sym (shares q) ∙ is in
             let named =
-            all-at (λ y. digit w (0 + y) q) 0 list
+            all_at (λ y. digit w (0 + y) q) 0 list
             (and_right (bit_at 18446744073709551615 q) (all (λ y. digit w (0 + y) q) list) both) 0 some
             in
-            rows.within x q (item-low list low x (memb-at list 0 0 some))
+            rows.within x q (item_low list low x (memb_at list 0 0 some))
             (ap (λ (y : ℕ). digit w y q) (sym (zero-add x)) ∙ named);
       }
 
-  pub rows-kept : (w' : List ℕ) → length w' ≡ length w → take (2 * rowWords t (length rights)) w' ≡ take (2 * rowWords t (length rights)) w
+  pub rows_kept : (w' : List ℕ) → length w' ≡ length w → take (2 * row_words t (length rights)) w' ≡ take (2 * row_words t (length rights)) w
       → RowsHold t rights w'
-  rows-kept w' size same =
+  rows_kept w' size same =
       record {
         room = omega (arith, rows.room);
-        cells = λ s x here low. kept (t * (s / 64 + 1) + x) (s % 64) (cell-within t (length rights) (s / 64) x (omega arith) low)
+        cells = λ s x here low. kept (t * (s / 64 + 1) + x) (s % 64) (cell_within t (length rights) (s / 64) x (omega arith) low)
             ∙ rows.cells s x here low;
-        sums = λ s x low held. kept x (s / 64) (sum-within t (length rights) x low) ∙ rows.sums s x low held;
-        within = λ x j low is. rows.within x j low (sym (kept x j (sum-within t (length rights) x low)) ∙ is);
+        sums = λ s x low held. kept x (s / 64) (sum_within t (length rights) x low) ∙ rows.sums s x low held;
+        within = λ x j low is. rows.within x j low (sym (kept x j (sum_within t (length rights) x low)) ∙ is);
       }
     where
-      kept : (c j : ℕ) → 2 * c + 2 ≤ 2 * rowWords t (length rights) → digit w' c j ≡ digit w c j
-      kept c j below = ap (λ (x : ℕ). bit_at x j) (double-stays (2 * rowWords t (length rights)) (2 * c) w w' same below)
+      kept : (c j : ℕ) → 2 * c + 2 ≤ 2 * row_words t (length rights) → digit w' c j ≡ digit w c j
+      kept c j below = ap (λ (x : ℕ). bit_at x j) (double_stays (2 * row_words t (length rights)) (2 * c) w w' same below)
 
 -- signatures made on demand, and a hint, leave the ground as it is
-pub ground-signs : {r : Regions} {ends items w w' : List ℕ} → Ground r ends items w
-    → Signs r.signatures (setsOf ends items) w w' → Ground r ends items w'
-ground-signs {r} {ends} {items} {w} {w'} ground signs =
+pub ground_signs : {r : Regions} {ends items w w' : List ℕ} → Ground r ends items w
+    → Signs r.signatures (sets_of ends items) w w' → Ground r ends items w'
+ground_signs {r} {ends} {items} {w} {w'} ground signs =
     record {
       few = ground.few;
       good = ground.good;
       above = ground.above;
       rows =
-          rows-kept ground.rows w' signs.size
-          (frame-less (2 * rowWords r.t (length (setsOf ends items))) r.signatures w w'
-          (subst (λ (n : ℕ). 2 * rowWords r.t n ≤ r.signatures) (sym (length-sets 0 ends items)) ground.above)
+          rows_kept ground.rows w' signs.size
+          (frame_less (2 * row_words r.t (length (sets_of ends items))) r.signatures w w'
+          (subst (λ (n : ℕ). 2 * row_words r.t n ≤ r.signatures) (sym (length-sets 0 ends items)) ground.above)
           signs.low);
       signed = signs.signed;
     }
 
-pub ground-below : {r : Regions} {ends items w w' : List ℕ} (lo : ℕ) → r.signatures + 2 * length ends ≤ lo → Ground r ends items w
+pub ground_below : {r : Regions} {ends items w w' : List ℕ} (lo : ℕ) → r.signatures + 2 * length ends ≤ lo → Ground r ends items w
     → KeptBelow lo w w' → Ground r ends items w'
-ground-below {r} {ends} {items} {w} {w'} lo above ground kept =
+ground_below {r} {ends} {items} {w} {w'} lo above ground kept =
     let n = length-sets 0 ends items in
-    ground-signs ground
+    ground_signs ground
     (record {
-      low = frame-less r.signatures lo w w' (omega arith) kept.low;
+      low = frame_less r.signatures lo w w' (omega arith) kept.low;
       size = kept.size;
       signed =
           record {
             room = omega (arith, ground.signed.room, kept.size);
             each = λ s here some.
-                let same = double-stays lo (r.signatures + 2 * s) w w' kept.low (omega arith) in
+                let same = double_stays lo (r.signatures + 2 * s) w w' kept.low (omega arith) in
                 same ∙ ground.signed.each s here (λ none. some (same ∙ none));
           };
     })
 
 -- rows filled, and the words of signatures and hints cleared
-pub ground-ready : {r : Regions} {lefts : ℕ} {ends items w v u : List ℕ} → RowsReady r lefts ends items w → RowsHold r.t (setsOf ends items) v
+pub ground_ready : {r : Regions} {lefts : ℕ} {ends items w v u : List ℕ} → RowsReady r lefts ends items w → RowsHold r.t (sets_of ends items) v
     → length v ≡ length w → WordsCleared r.signatures (2 * length ends + lefts) v u → Ground r ends items u
-ground-ready {r} {lefts} {ends} {items} {w} {v} {u} ready rows size cleared =
+ground_ready {r} {lefts} {ends} {items} {w} {v} {u} ready rows size cleared =
     let n = length-sets 0 ends items in
     let above = ready.above in
     record {
@@ -169,11 +169,11 @@ ground-ready {r} {lefts} {ends} {items} {w} {v} {u} ready rows size cleared =
       good = ready.good;
       above = above;
       rows =
-          rows-kept rows u cleared.changed.size
-          (frame-less (2 * rowWords r.t (length (setsOf ends items))) r.signatures v u (rw n above) cleared.changed.low);
+          rows_kept rows u cleared.changed.size
+          (frame_less (2 * row_words r.t (length (sets_of ends items))) r.signatures v u (rw n above) cleared.changed.low);
       signed =
           record {
             room = omega (arith, ready.room, cleared.changed.size);
-            each = λ s here some. absurd (some (double-cleared cleared (r.signatures + 2 * s) (omega arith) (omega arith)));
+            each = λ s here some. absurd (some (double_cleared cleared (r.signatures + 2 * s) (omega arith) (omega arith)));
           };
     }

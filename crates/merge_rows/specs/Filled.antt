@@ -2,19 +2,19 @@
 -- follow those of the blocks before it, and word x of them tells which sets of the block hold item x.
 use Rattle.std.specs.Prelude.{ℕ, ◌+◌, ◌*◌, ◌/◌, ◌%◌, ◌<◌, ◌≤◌, ◌≡◌, List, [], Bool, true, false, ◌&&◌, ◌||◌, eqb, ltb, length, get_or}
 use Rattle.lists.specs.Lists.{all, any, memb}
-use Rattle.sets.specs.Limits.{maxItems, maxSets}
-use Rattle.sets.specs.Collections.{firstBad}
+use Rattle.sets.specs.Limits.{max_items, max_sets}
+use Rattle.sets.specs.Collections.{first_bad}
 use Rattle.sets.specs.declared.Verdict.TheVariants.{Good}
 use Rattle.signatures.specs.Signing.{double}
 use Rattle.merge_rows.specs.Words.{digit}
 
 -- the blocks of 64 that so many right sets make
-abbrev pub blocksOf : ℕ → ℕ
-blocksOf n = (n + 63) / 64
+abbrev pub blocks_of : ℕ → ℕ
+blocks_of n = (n + 63) / 64
 
 -- the words of 64 bits that the rows of so many items and right sets take
-abbrev pub rowWords : ℕ → ℕ → ℕ
-rowWords t rights = t * (blocksOf rights + 1)
+abbrev pub row_words : ℕ → ℕ → ℕ
+row_words t rights = t * (blocks_of rights + 1)
 
 -- whether the rows say that right set s holds item x
 abbrev pub cell_at : ℕ → List ℕ → ℕ → ℕ → Bool
@@ -22,21 +22,21 @@ cell_at t w x s = digit w (t * (s / 64 + 1) + x) (s % 64)
 
 -- the rows are those of the right sets; a block that no sum names has no right set with the item, and no block past the last is named
 pub record RowsHold (t : ℕ) (rights : List (List ℕ)) (w : List ℕ) : Type 0 where
-  pub room : 2 * rowWords t (length rights) ≤ length w
-  pub cells : (s x : ℕ) → s < 64 * blocksOf (length rights) → x < t → cell_at t w x s ≡ memb x (get_or rights s [])
+  pub room : 2 * row_words t (length rights) ≤ length w
+  pub cells : (s x : ℕ) → s < 64 * blocks_of (length rights) → x < t → cell_at t w x s ≡ memb x (get_or rights s [])
   pub sums : (s x : ℕ) → x < t → memb x (get_or rights s []) ≡ true → digit w x (s / 64) ≡ true
-  pub within : (x j : ℕ) → x < t → digit w x j ≡ true → j < blocksOf (length rights)
+  pub within : (x j : ℕ) → x < t → digit w x j ≡ true → j < blocks_of (length rights)
 
 -- right sets without a bad one, and room for their rows
 pub record FillRoom (t : ℕ) (ends items w : List ℕ) : Type 0 where
-  pub few : t ≤ maxItems
-  pub good : firstBad t ends items ≡ Good
-  pub room : 2 * rowWords t (length ends) ≤ length w
+  pub few : t ≤ max_items
+  pub good : first_bad t ends items ≡ Good
+  pub room : 2 * row_words t (length ends) ≤ length w
 
 -- the block of right set s has room
 pub record BlockRoom (t s : ℕ) (w : List ℕ) : Type 0 where
-  pub few : t ≤ maxItems
-  pub place : s < maxSets
+  pub few : t ≤ max_items
+  pub place : s < max_sets
   pub room : 2 * (t * (s / 64 + 2)) ≤ length w
 
 -- w became w': where right set s is the first of its block, the block is cleared

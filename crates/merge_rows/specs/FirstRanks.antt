@@ -1,29 +1,29 @@
 -- Inner: the path of a left set that is longer than the limit, as a set: the items before which fewer than the limit come by rank.
 use Rattle.std.specs.Prelude.{ℕ, ◌+◌, ◌*◌, ◌<◌, ◌≤◌, ◌≡◌, List, map, Bool, true, ◌||◌, eqb, ltb, leb, length, take, get_or}
 use Rattle.lists.specs.Lists.{count, keep, any, memb, upto}
-use Rattle.sets.specs.Limits.{maxItems, halfWords, fullWords}
-use Rattle.sets.specs.Collections.{goodItems}
-use Rattle.sets.specs.Ordered.{isPermutation}
+use Rattle.sets.specs.Limits.{max_items, half_words, full_words}
+use Rattle.sets.specs.Collections.{good_items}
+use Rattle.sets.specs.Ordered.{is_permutation}
 use Rattle.bit_sets.specs.BitSets.{bit_at, member}
 use Rattle.merge_rows.specs.declared.paths.Two.{Two}
 
 -- how many items of a set have a rank below r
-abbrev pub ranksBelow : List ℕ → List ℕ → ℕ → ℕ
-ranksBelow ranks set r = count (λ y. ltb (get_or ranks y 0) r) set
+abbrev pub ranks_below : List ℕ → List ℕ → ℕ → ℕ
+ranks_below ranks set r = count (λ y. ltb (get_or ranks y 0) r) set
 
 -- whether an item of a set has one of its first ranks
 abbrev pub on_path : ℕ → List ℕ → List ℕ → ℕ → Bool
-on_path limit ranks set x = ltb (ranksBelow ranks set (get_or ranks x 0)) limit
+on_path limit ranks set x = ltb (ranks_below ranks set (get_or ranks x 0)) limit
 
 -- the items with its first ranks
-unfoldable pub pathOf : ℕ → List ℕ → List ℕ → List ℕ
-pathOf limit ranks set = keep (on_path limit ranks set) set
+unfoldable pub path_of : ℕ → List ℕ → List ℕ → List ℕ
+path_of limit ranks set = keep (on_path limit ranks set) set
 
 -- a set with items below T, and their ranks
 pub record Ranked (ranks set : List ℕ) : Type 0 where
-  pub few : length ranks ≤ maxItems
-  pub permutation : isPermutation (length ranks) ranks ≡ true
-  pub good : goodItems (length ranks) set ≡ true
+  pub few : length ranks ≤ max_items
+  pub permutation : is_permutation (length ranks) ranks ≡ true
+  pub good : good_items (length ranks) set ≡ true
 
 -- a set that is longer than the limit, and room for its path
 pub record PathRoom (limit : ℕ) (ranks set path : List ℕ) : Type 0 where
@@ -36,19 +36,19 @@ pub record PathRoom (limit : ℕ) (ranks set path : List ℕ) : Type 0 where
 pub record PathTaken (limit : ℕ) (ranks set path : List ℕ) (n : ℕ) : Type 0 where
   pub some : 0 < n
   pub within : n ≤ length path
-  pub members : (x : ℕ) → memb x (take n path) ≡ memb x (pathOf limit ranks set)
+  pub members : (x : ℕ) → memb x (take n path) ≡ memb x (path_of limit ranks set)
 
 -- rank and item in one number: the order of these is that of the ranks
 abbrev pub key_of : List ℕ → ℕ → ℕ
-key_of ranks x = halfWords * get_or ranks x 0 + x
+key_of ranks x = half_words * get_or ranks x 0 + x
 
 -- how many keys of a set are below b
-abbrev pub keysBelow : List ℕ → List ℕ → ℕ → ℕ
-keysBelow ranks set b = count (λ x. ltb (key_of ranks x) b) set
+abbrev pub keys_below : List ℕ → List ℕ → ℕ → ℕ
+keys_below ranks set b = count (λ x. ltb (key_of ranks x) b) set
 
 -- the numbers up to r are those below which fewer than m keys are
 pub record FewerBelow (ranks set : List ℕ) (m r : ℕ) : Type 0 where
-  pub upto : (b : ℕ) → b < fullWords → leb b r ≡ ltb (keysBelow ranks set b) m
+  pub upto : (b : ℕ) → b < full_words → leb b r ≡ ltb (keys_below ranks set b) m
 
 -- the two least keys: up to the first no key is below, up to the second at most one
 pub record LeastTwo (ranks set : List ℕ) (r : Two) : Type 0 where
@@ -70,7 +70,7 @@ pub record NthDigit (word n r : ℕ) : Type 0 where
 pub record MembersRoom (words : List ℕ) (n : ℕ) : Type 0 where
   pub some : 0 < n
   pub enough : n ≤ count (member words) (upto (64 * length words))
-  pub few : 64 * length words ≤ maxItems
+  pub few : 64 * length words ≤ max_items
 
 -- the n-th member of a set: n - 1 are below it
 pub record NthMember (words : List ℕ) (n r : ℕ) : Type 0 where

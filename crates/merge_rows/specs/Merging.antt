@@ -1,14 +1,14 @@
 -- Inner: the join of all left sets over the rows: what the left sets up to one have come to, by the definitions.
 use Rattle.std.specs.Prelude.{ℕ, ◌+◌, ◌-◌, ◌*◌, ◌/◌, ◌<◌, ◌≤◌, ◌≡◌, List, [], Bool, true, false, length, take, get_or, replicate}
 use Rattle.lists.specs.Lists.{count}
-use Rattle.sets.specs.Limits.{maxItems, maxSets, maxSetLength, fullWords}
-use Rattle.sets.specs.Collections.{contained, firstBad}
+use Rattle.sets.specs.Limits.{max_items, max_sets, max_set_length, full_words}
+use Rattle.sets.specs.Collections.{contained, first_bad}
 use Rattle.sets.specs.declared.Verdict.TheVariants.{Good}
 use Rattle.inputs.specs.Input.{Input}
-use Rattle.join_spec.specs.PairList.{rowFrom, pairsFrom, countPairs}
+use Rattle.join_spec.specs.PairList.{row_from, pairs_from, count_pairs}
 use Rattle.join_spec.specs.Query.{Query, query}
 use Rattle.join_spec.specs.Walk.{Outcome, outcome}
-use Rattle.join_spec.specs.Counting.{isConfirmed, isDropped, isFalse, checksOf}
+use Rattle.join_spec.specs.Counting.{is_confirmed, is_dropped, is_false, checks_of}
 use Rattle.join_spec.specs.declared.Rule.TheVariants.{Merge}
 use Rattle.join_spec.specs.declared.JoinAnswer.{JoinAnswer}
 use Rattle.join_spec.specs.declared.JoinAnswer.TheVariants.{Joined, Refused}
@@ -17,60 +17,60 @@ use Rattle.join_check.specs.declared.Tally.{Tally}
 use Rattle.merge_rows.specs.declared.Met.{Met}
 use Rattle.merge_rows.specs.declared.Merged.{Merged}
 use Rattle.merge_rows.specs.declared.Regions.{Regions}
-use Rattle.merge_rows.specs.Filled.{rowWords}
+use Rattle.merge_rows.specs.Filled.{row_words}
 use Rattle.merge_rows.specs.ShortLists.{Listed}
-use Rattle.merge_rows.specs.Meeting.{Laid, Ground, countersAt, countersDropped, countersFalses}
+use Rattle.merge_rows.specs.Meeting.{Laid, Ground, counters_at, counters_dropped, counters_falses}
 
 -- so many items and sets
 pub record Sizes (t lefts rights : ℕ) : Type 0 where
-  pub items : t ≤ maxItems
-  pub left : lefts ≤ maxSets
-  pub right : rights ≤ maxSets
+  pub items : t ≤ max_items
+  pub left : lefts ≤ max_sets
+  pub right : rights ≤ max_sets
 
 -- the regions for so many items and sets
 abbrev pub rows_of : ℕ → ℕ → ℕ → Regions
 rows_of t lefts rights =
-    let counters = 2 * rowWords t rights in
+    let counters = 2 * row_words t rights in
     record { t = t; counters = counters; signatures = counters + 3 * lefts; hints = counters + 3 * lefts + 2 * rights }
 
 -- the words of the work list that they take
-abbrev pub wordsFor : ℕ → ℕ → ℕ → ℕ
-wordsFor t lefts rights = (rows_of t lefts rights).hints + lefts
+abbrev pub words_for : ℕ → ℕ → ℕ → ℕ
+words_for t lefts rights = (rows_of t lefts rights).hints + lefts
 
 -- right sets without a bad one, and room for their rows and signatures
 pub record RowsReady (r : Regions) (lefts : ℕ) (ends items w : List ℕ) : Type 0 where
-  pub few : r.t ≤ maxItems
-  pub good : firstBad r.t ends items ≡ Good
-  pub above : 2 * rowWords r.t (length ends) ≤ r.signatures
+  pub few : r.t ≤ max_items
+  pub good : first_bad r.t ends items ≡ Good
+  pub above : 2 * row_words r.t (length ends) ≤ r.signatures
   pub room : r.signatures + (2 * length ends + lefts) ≤ length w
 
 -- the query of two collections under Merge
-abbrev pub mergeQuery : ℕ → List ℕ → List ℕ → List ℕ → List ℕ → ℕ → List ℕ → Query
-mergeQuery T leftEnds leftItems rightEnds rightItems limit ranks = query T leftEnds leftItems rightEnds rightItems limit ranks Merge
+abbrev pub merge_query : ℕ → List ℕ → List ℕ → List ℕ → List ℕ → ℕ → List ℕ → Query
+merge_query T left_ends left_items right_ends right_items limit ranks = query T left_ends left_items right_ends right_items limit ranks Merge
 
 -- how many pairs of one left set with the right sets have such an outcome, and of the first n left sets
-abbrev pub oneTotal : (Outcome → Bool) → Query → List ℕ → ℕ
-oneTotal is q left = count (λ right. is (outcome q left right)) q.rights
+abbrev pub one_total : (Outcome → Bool) → Query → List ℕ → ℕ
+one_total is q left = count (λ right. is (outcome q left right)) q.rights
 
-unfoldable pub totalTo : (Outcome → Bool) → Query → ℕ → ℕ
-totalTo is q n = countPairs (λ left right. is (outcome q left right)) (take n q.lefts) q.rights
+unfoldable pub total_to : (Outcome → Bool) → Query → ℕ → ℕ
+total_to is q n = count_pairs (λ left right. is (outcome q left right)) (take n q.lefts) q.rights
 
 -- the pairs of the first n left sets
-unfoldable pub pairsTo : Query → ℕ → List ℕ
-pairsTo q n = pairsFrom contained 0 (take n q.lefts) q.rights
+unfoldable pub pairs_to : Query → ℕ → List ℕ
+pairs_to q n = pairs_from contained 0 (take n q.lefts) q.rights
 
 -- the counters after n left sets
 pub record MetAfter (q : Query) (n : ℕ) (m : Met) : Type 0 where
-  pub at : m.at ≡ length (pairsTo q n)
-  pub confirmed : m.confirmed ≡ totalTo isConfirmed q n
-  pub dropped : m.dropped ≡ totalTo isDropped q n
-  pub falses : m.falses ≡ totalTo isFalse q n
+  pub at : m.at ≡ length (pairs_to q n)
+  pub confirmed : m.confirmed ≡ total_to is_confirmed q n
+  pub dropped : m.dropped ≡ total_to is_dropped q n
+  pub falses : m.falses ≡ total_to is_false q n
 
 -- the words of the left sets up to k
 pub record CountersKept (q : Query) (counters k : ℕ) (w : List ℕ) : Type 0 where
-  pub at : (j : ℕ) → j ≤ k → countersAt counters w j ≡ length (pairsTo q j)
-  pub dropped : (j : ℕ) → j ≤ k → countersDropped counters w j ≡ totalTo isDropped q j
-  pub falses : (j : ℕ) → j ≤ k → countersFalses counters w j ≡ totalTo isFalse q j
+  pub at : (j : ℕ) → j ≤ k → counters_at counters w j ≡ length (pairs_to q j)
+  pub dropped : (j : ℕ) → j ≤ k → counters_dropped counters w j ≡ total_to is_dropped q j
+  pub falses : (j : ℕ) → j ≤ k → counters_falses counters w j ≡ total_to is_false q j
 
 -- a query whose tests are passed, over its rows
 pub record Over (r : Regions) (i : Input) (limit : ℕ) (ranks w : List ℕ) : Type 0 where
@@ -82,12 +82,12 @@ pub record Over (r : Regions) (i : Input) (limit : ℕ) (ranks w : List ℕ) : T
 -- and room for the longest path
 pub record LeftsRoom (r : Regions) (i : Input) (limit : ℕ) (ranks w path : List ℕ) : Type 0 where
   pub over : Over r i limit ranks w
-  pub longest : maxSetLength ≤ length path
+  pub longest : max_set_length ≤ length path
 
 -- an input that passed the tests, whose rows fit the work list
 pub record MergeRoom (i : Input) (limit : ℕ) (ranks w : List ℕ) : Type 0 where
   pub tests : Tests i limit ranks (length w)
-  pub room : wordsFor i.T (length i.left.ends) (length i.right.ends) ≤ length w
+  pub room : words_for i.T (length i.left.ends) (length i.right.ends) ≤ length w
 
 -- left set k, with what those before it came to: their pairs stand in the list where they fit it
 pub record SetThere (r : Regions) (i : Input) (limit : ℕ) (ranks w : List ℕ) (q : Query) (k : ℕ) (set path pairs : List ℕ) (m : Met)
@@ -95,33 +95,33 @@ pub record SetThere (r : Regions) (i : Input) (limit : ℕ) (ranks w : List ℕ)
   pub over : Over r i limit ranks w
   pub place : k < length i.left.ends
   pub is : set ≡ get_or q.lefts k []
-  pub longest : maxSetLength ≤ length path
+  pub longest : max_set_length ≤ length path
   pub met : MetAfter q k m
   pub counters : CountersKept q r.counters k w
-  pub listed : m.at ≤ length pairs → take m.at pairs ≡ pairsTo q k
+  pub listed : m.at ≤ length pairs → take m.at pairs ≡ pairs_to q k
 
 -- left set k was added to the counters and to the pair list
 pub record LeftAdded (q : Query) (k : ℕ) (left : List ℕ) (m m' : Met) (was is : List ℕ) : Type 0 where
-  pub listed : Listed was m.at (rowFrom (contained left) k 0 q.rights) m'.at is
-  pub confirmed : m'.confirmed ≡ m.confirmed + oneTotal isConfirmed q left
-  pub dropped : m'.dropped ≡ m.dropped + oneTotal isDropped q left
-  pub falses : m'.falses ≡ m.falses + oneTotal isFalse q left
+  pub listed : Listed was m.at (row_from (contained left) k 0 q.rights) m'.at is
+  pub confirmed : m'.confirmed ≡ m.confirmed + one_total is_confirmed q left
+  pub dropped : m'.dropped ≡ m.dropped + one_total is_dropped q left
+  pub falses : m'.falses ≡ m.falses + one_total is_false q left
 
 -- counters that fit words, whose confirmed checks are pairs
 pub record MetFits (m : Met) : Type 0 where
-  pub at : m.at < fullWords
+  pub at : m.at < full_words
   pub confirmed : m.confirmed ≤ m.at / 2
-  pub dropped : m.dropped < fullWords
-  pub falses : m.falses < fullWords
+  pub dropped : m.dropped < full_words
+  pub falses : m.falses < full_words
 
 -- what all left sets came to, or those up to the one at which the checks passed the budget
 pub record AllMet (q : Query) (budget : ℕ) (r : Merged) (was is : List ℕ) : Type 0 where
   pub size : length is ≡ length was
   pub fits : MetFits r.met
-  pub spent : r.spent ≡ true → budget < checksOf q
-  pub calm : r.spent ≡ false → checksOf q ≤ budget
+  pub spent : r.spent ≡ true → budget < checks_of q
+  pub calm : r.spent ≡ false → checks_of q ≤ budget
   pub met : r.spent ≡ false → MetAfter q (length q.lefts) r.met
-  pub listed : r.spent ≡ false → Listed was 0 (pairsTo q (length q.lefts)) r.met.at is
+  pub listed : r.spent ≡ false → Listed was 0 (pairs_to q (length q.lefts)) r.met.at is
 
 -- the counters of a join by those of its left sets: pairs are by path or confirmed
 abbrev pub tally_of : Met → Tally

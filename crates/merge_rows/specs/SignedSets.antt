@@ -1,7 +1,7 @@
 -- Inner: signatures of right sets on demand: two words each, low then high, which are 0 until the signature is asked for.
 use Rattle.std.specs.Prelude.{ℕ, ◌+◌, ◌*◌, ◌<◌, ◌≤◌, ◌≡◌, List, [], Bool, true, ltb, length, take, get_or}
 use Rattle.lists.specs.Lists.{all}
-use Rattle.sets.specs.Collections.{setsOf, firstBad}
+use Rattle.sets.specs.Collections.{sets_of, first_bad}
 use Rattle.sets.specs.Signatures.{signature, drops}
 use Rattle.sets.specs.declared.Verdict.TheVariants.{Good}
 use Rattle.signatures.specs.Signing.{double}
@@ -14,8 +14,8 @@ pub record SignedSome (at : ℕ) (rights : List (List ℕ)) (w : List ℕ) : Typ
 -- right sets without a bad one, and the signatures of some
 pub record SignRoom (at : ℕ) (ends items w : List ℕ) : Type 0 where
   pub T : ℕ
-  pub good : firstBad T ends items ≡ Good
-  pub signed : SignedSome at (setsOf ends items) w
+  pub good : first_bad T ends items ≡ Good
+  pub signed : SignedSome at (sets_of ends items) w
 
 -- w became w': more right sets may have their signatures; nothing below changed
 pub record Signs (at : ℕ) (rights : List (List ℕ)) (w w' : List ℕ) : Type 0 where
@@ -24,8 +24,8 @@ pub record Signs (at : ℕ) (rights : List (List ℕ)) (w w' : List ℕ) : Type 
   pub signed : SignedSome at rights w'
 
 -- whether a check of a left set with this signature drops right set s
-abbrev pub dropsAt : ℕ → List (List ℕ) → ℕ → Bool
-dropsAt mark rights s = drops mark (signature (get_or rights s []))
+abbrev pub drops_at : ℕ → List (List ℕ) → ℕ → Bool
+drops_at mark rights s = drops mark (signature (get_or rights s []))
 
 -- places of right sets
 abbrev pub PlacesIn : ℕ → List ℕ → Type 0

@@ -1,15 +1,15 @@
 // One left set: as an equal one before it, or block by block.
 ghost use Rattle.std.specs.Prelude.{◌≡◌, true, [], ℕ, ◌+◌, ◌-◌, ◌*◌, ◌/◌, ◌<◌, ◌≤◌, length, get_or};
-ghost use Rattle.sets.specs.Limits.{fullWords};
-ghost use Rattle.sets.specs.Collections.{setsOf};
+ghost use Rattle.sets.specs.Limits.{full_words};
+ghost use Rattle.sets.specs.Collections.{sets_of};
 ghost use Rattle.inputs.specs.Input.{input_of};
-ghost use Rattle.signatures.specs.item_bits.Bits.{positionTable};
-ghost use Rattle.bit_sets.specs.BitSets.{digitsFrom};
+ghost use Rattle.signatures.specs.item_bits.Bits.{position_table};
+ghost use Rattle.bit_sets.specs.BitSets.{digits_from};
 ghost use Rattle.merge_rows.specs.SignedSets.{Signs};
-ghost use Rattle.merge_rows.specs.Yields.{Yield, yieldAmong, yieldOf, Yielded};
+ghost use Rattle.merge_rows.specs.Yields.{Yield, yield_among, yield_of, Yielded};
 ghost use Rattle.merge_rows.specs.Meeting.{BlockThere, Blocks, PathThere, CountersHeld, CountersThere, HintRoom, KeptBelow, Earlier};
 ghost use Rattle.merge_rows.specs.Meeting.{Laid, LeftsThere, Alike, CountersRoom, CountersStored};
-ghost use Rattle.merge_rows.specs.Merging.{SetThere, LeftAdded, mergeQuery};
+ghost use Rattle.merge_rows.specs.Merging.{SetThere, LeftAdded, merge_query};
 
 use crate::listed::{list_copy, list_word};
 use crate::paths::take_path;
@@ -37,11 +37,11 @@ fn meet_block(
     m: Met,
 ) -> Met
     requires there { BlockThere r ends.now items.now work.old k q more.now word m }
-    requires positions { table.now ≡ positionTable }
+    requires positions { table.now ≡ position_table }
     ensures yielded { Yielded k
-        (yieldAmong (setsOf ends.now items.now) more.now (digitsFrom 64 (64 * q) word))
+        (yield_among (sets_of ends.now items.now) more.now (digits_from 64 (64 * q) word))
         m result pairs.old pairs.new }
-    ensures signs { Signs r.signatures (setsOf ends.now items.now)
+    ensures signs { Signs r.signatures (sets_of ends.now items.now)
         work.old work.new }
 {
     let t = r.t;
@@ -82,12 +82,12 @@ fn meet_blocks(
     m: Met,
 ) -> Met
     requires there { PathThere r ends.now items.now work.old k path.now more.now m }
-    requires blocks { Blocks (setsOf ends.now items.now) path.now blocks }
-    requires positions { table.now ≡ positionTable }
+    requires blocks { Blocks (sets_of ends.now items.now) path.now blocks }
+    requires positions { table.now ≡ position_table }
     ensures yielded { Yielded k
-        (yieldOf (setsOf ends.now items.now) path.now more.now)
+        (yield_of (sets_of ends.now items.now) path.now more.now)
         m result pairs.old pairs.new }
-    ensures signs { Signs r.signatures (setsOf ends.now items.now)
+    ensures signs { Signs r.signatures (sets_of ends.now items.now)
         work.old work.new }
 {
     let t = r.t;
@@ -199,13 +199,13 @@ fn meet_path(
     requires laid { Laid r (length left_ends.now) (length ends.now) work.old }
     requires hint { HintRoom r (length left_ends.now) k set.now work.old }
     requires lefts { LeftsThere left_ends.now left_items.now k }
-    requires alike { Alike r (setsOf left_ends.now left_items.now) work.old k m.at set.now pairs.old
-        (yieldOf (setsOf ends.now items.now) path.now more.now) }
-    requires positions { table.now ≡ positionTable }
+    requires alike { Alike r (sets_of left_ends.now left_items.now) work.old k m.at set.now pairs.old
+        (yield_of (sets_of ends.now items.now) path.now more.now) }
+    requires positions { table.now ≡ position_table }
     ensures yielded { Yielded k
-        (yieldOf (setsOf ends.now items.now) path.now more.now)
+        (yield_of (sets_of ends.now items.now) path.now more.now)
         m result pairs.old pairs.new }
-    ensures signs { Signs r.signatures (setsOf ends.now items.now)
+    ensures signs { Signs r.signatures (sets_of ends.now items.now)
         work.old work.new }
 {
     let lefts = left_ends.len();
@@ -223,7 +223,7 @@ fn meet_path(
 // The pairs since a place are confirmed checks.
 fn confirm(m: Met, from: usize) -> Met
     requires order { from ≤ m.at }
-    requires small { m.confirmed + (m.at - from) / 2 < fullWords }
+    requires small { m.confirmed + (m.at - from) / 2 < full_words }
     ensures { result ≡ record { at = m.at; confirmed = m.confirmed + (m.at - from) / 2; dropped = m.dropped; falses = m.falses } }
 {
     Met {
@@ -253,13 +253,13 @@ pub fn meet_left(
     m: Met,
 ) -> Met
     requires there { SetThere r (input_of r.t left_ends.now left_items.now ends.now items.now) limit ranks.now
-        work.old (mergeQuery r.t left_ends.now left_items.now ends.now items.now limit ranks.now)
+        work.old (merge_query r.t left_ends.now left_items.now ends.now items.now limit ranks.now)
         k set.now path.old pairs.old m }
-    requires positions { table.now ≡ positionTable }
+    requires positions { table.now ≡ position_table }
     ensures added { LeftAdded
-        (mergeQuery r.t left_ends.now left_items.now ends.now items.now limit
+        (merge_query r.t left_ends.now left_items.now ends.now items.now limit
         ranks.now) k set.now m result pairs.old pairs.new }
-    ensures signs { Signs r.signatures (setsOf ends.now items.now)
+    ensures signs { Signs r.signatures (sets_of ends.now items.now)
         work.old work.new }
 {
     let n = set.len();

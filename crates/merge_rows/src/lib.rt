@@ -15,15 +15,15 @@ pub mod shared;
 pub mod signed;
 
 ghost use Rattle.std.specs.Prelude.{◌≡◌, Bool, true, ◌+◌, ◌*◌, ◌≤◌, leb, length};
-ghost use Rattle.sets.specs.Collections.{setsOf};
-ghost use Rattle.signatures.specs.item_bits.Bits.{positionTable};
+ghost use Rattle.sets.specs.Collections.{sets_of};
+ghost use Rattle.signatures.specs.item_bits.Bits.{position_table};
 ghost use Rattle.inputs.specs.Input.{input_of};
-ghost use Rattle.join_spec.specs.PairList.{pairList};
-ghost use Rattle.join_spec.specs.Answer.{walkAnswer, pairsAfter};
+ghost use Rattle.join_spec.specs.PairList.{pair_list};
+ghost use Rattle.join_spec.specs.Answer.{walk_answer, pairs_after};
 ghost use Rattle.join_spec.proofs.Accepted.{Tests};
 ghost use Rattle.merge_rows.specs.Meeting.{Ground};
-ghost use Rattle.merge_rows.specs.Merging.{mergeQuery, LeftsRoom, AllMet, MetFits, tally_of, settled};
-ghost use Rattle.merge_rows.specs.Merging.{rows_of, wordsFor, MergeRoom, RowsReady, Sizes};
+ghost use Rattle.merge_rows.specs.Merging.{merge_query, LeftsRoom, AllMet, MetFits, tally_of, settled};
+ghost use Rattle.merge_rows.specs.Merging.{rows_of, words_for, MergeRoom, RowsReady, Sizes};
 
 use crate::left::{meet_left, store_counters};
 use crate::rows::fill_rows;
@@ -73,7 +73,7 @@ fn lay_rows(t: usize, lefts: usize, rights: usize) -> Regions
 // Whether the rows of so many items and sets fit a work list.
 pub fn rows_fit(t: u32, lefts: usize, rights: usize, words: usize) -> bool
     requires { Sizes t lefts rights }
-    ensures { result ≡ leb (wordsFor t lefts rights) words }
+    ensures { result ≡ leb (words_for t lefts rights) words }
 {
     let r = lay_rows(t as usize, lefts, rights);
     r.hints + lefts <= words
@@ -114,9 +114,9 @@ fn meet_lefts(
 ) -> Merged
     requires there { LeftsRoom r (input_of r.t left_ends.now left_items.now ends.now items.now) limit ranks.now
         work.old path.old }
-    requires positions { table.now ≡ positionTable }
+    requires positions { table.now ≡ position_table }
     ensures { AllMet
-        (mergeQuery r.t left_ends.now left_items.now ends.now items.now limit
+        (merge_query r.t left_ends.now left_items.now ends.now items.now limit
         ranks.now) budget result pairs.old pairs.new }
 {
     let mut met = Met {
@@ -200,12 +200,12 @@ pub fn merge_sets(
 ) -> JoinAnswer
     requires { MergeRoom (input_of t left_ends.now left_items.now right_ends.now right_items.now)
         limit ranks.now work.old }
-    ensures answer { result ≡ walkAnswer
-        (mergeQuery t left_ends.now left_items.now right_ends.now right_items.now
+    ensures answer { result ≡ walk_answer
+        (merge_query t left_ends.now left_items.now right_ends.now right_items.now
         limit ranks.now) budget (length pairs.old) }
-    ensures pairs { pairs.new ≡ pairsAfter result
-        (pairList (setsOf left_ends.now left_items.now)
-        (setsOf right_ends.now right_items.now)) pairs.old }
+    ensures pairs { pairs.new ≡ pairs_after result
+        (pair_list (sets_of left_ends.now left_items.now)
+        (sets_of right_ends.now right_items.now)) pairs.old }
 {
     let lefts = left_ends.len();
     let r = lay_rows(t as usize, lefts, right_ends.len());

@@ -1,6 +1,6 @@
 // The rows of the right sets: for each block of 64 right sets a word of 64 bits an item, and before them for each item a word of
 // blocks. They stand at the beginning of the work list, two of its words each.
-ghost use Rattle.sets.specs.Collections.{setsOf};
+ghost use Rattle.sets.specs.Collections.{sets_of};
 ghost use Rattle.merge_rows.specs.Words.{DigitRoom, DigitSet};
 ghost use Rattle.merge_rows.specs.Filled.{FillRoom, RowsHold, BlockRoom, BlockOpened, AddRoom, Added};
 
@@ -42,7 +42,7 @@ fn add_right(work: &mut [u32], t: usize, s: usize, set: &[u16])
 // Fills the rows from the right sets. Of what the words held before nothing is left.
 pub fn fill_rows(work: &mut [u32], t: usize, ends: &[u32], items: &[u16])
     requires { FillRoom t ends.now items.now work.old }
-    ensures { RowsHold t (setsOf ends.now items.now) work.new }
+    ensures { RowsHold t (sets_of ends.now items.now) work.new }
 {
     clear(work, 0, 2 * t);
     let mut start: usize = 0;

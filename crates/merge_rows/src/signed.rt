@@ -1,11 +1,11 @@
 // The signatures of right sets, each made when it is first asked for.
 ghost use Rattle.std.specs.Prelude.{◌≡◌, ◌*◌, ◌<◌, ◌≤◌, [], ◌∷◌, length, get_or};
 ghost use Rattle.lists.specs.Lists.{count};
-ghost use Rattle.sets.specs.Collections.{setsOf};
+ghost use Rattle.sets.specs.Collections.{sets_of};
 ghost use Rattle.sets.specs.Signatures.{signature};
-ghost use Rattle.signatures.specs.item_bits.Bits.{positionTable};
-ghost use Rattle.bit_sets.specs.BitSets.{digitsFrom};
-ghost use Rattle.merge_rows.specs.SignedSets.{SignRoom, Signs, dropsAt, PlacesIn};
+ghost use Rattle.signatures.specs.item_bits.Bits.{position_table};
+ghost use Rattle.bit_sets.specs.BitSets.{digits_from};
+ghost use Rattle.merge_rows.specs.SignedSets.{SignRoom, Signs, drops_at, PlacesIn};
 
 use signatures::item_bits::position_table;
 use signatures::{double_at, sign_set, store_double};
@@ -32,10 +32,10 @@ fn signature_of(
     s: usize,
 ) -> u64
     requires room { SignRoom at ends.now items.now work.old }
-    requires positions { table.now ≡ positionTable }
+    requires positions { table.now ≡ position_table }
     requires place { s < length ends.now }
-    ensures is { result ≡ signature (get_or (setsOf ends.now items.now) s []) }
-    ensures signs { Signs at (setsOf ends.now items.now) work.old work.new }
+    ensures is { result ≡ signature (get_or (sets_of ends.now items.now) s []) }
+    ensures signs { Signs at (sets_of ends.now items.now) work.old work.new }
 {
     let known = double_at(work, at + 2 * s);
     if known != 0 {
@@ -60,11 +60,11 @@ pub fn count_drops(
     word: u64,
 ) -> usize
     requires room { SignRoom at ends.now items.now work.old }
-    requires positions { table.now ≡ positionTable }
-    requires places { PlacesIn (length ends.now) (digitsFrom 64 base word) }
+    requires positions { table.now ≡ position_table }
+    requires places { PlacesIn (length ends.now) (digits_from 64 base word) }
     ensures counted { result
-        ≡ count (dropsAt mark (setsOf ends.now items.now)) (digitsFrom 64 base word) }
-    ensures signs { Signs at (setsOf ends.now items.now) work.old work.new }
+        ≡ count (drops_at mark (sets_of ends.now items.now)) (digits_from 64 base word) }
+    ensures signs { Signs at (sets_of ends.now items.now) work.old work.new }
 {
     let mut rest = word;
     let mut dropped: usize = 0;

@@ -5,12 +5,12 @@ use Prim.Native.Nat.{ℕ}
 use native.Mathlib.Omega.{arith}
 use lib.ListN.{length}
 use Rattle.bit_sets.specs.BitSets.{members}
-use Rattle.tag_file.specs.Reading.{tagsAt}
+use Rattle.tag_file.specs.Reading.{tags_at}
 use Rattle.tag_file.specs.Records.{items_of}
 use Rattle.tag_index.specs.Index.{table_of}
-use Rattle.tag_index.proofs.Ids.{sorted-size}
-use Rattle.tag_loader.specs.record_items.Marks.{markWords, Unmarked, MarkedMore, TagsKnown}
-use Rattle.tag_loader.proofs.record_items.Marks.{more-fresh, marked-items}
+use Rattle.tag_index.proofs.Ids.{sorted_size}
+use Rattle.tag_loader.specs.record_items.Marks.{mark_words, Unmarked, MarkedMore, TagsKnown}
+use Rattle.tag_loader.proofs.record_items.Marks.{more_fresh, marked_items}
 
 module _ {file heads tails : List ℕ} {n : ℕ} {ids ranks : List ℕ} {start count : ℕ}
     (known : TagsKnown file heads tails n ids ranks start count) where
@@ -18,11 +18,11 @@ module _ {file heads tails : List ℕ} {n : ℕ} {ids ranks : List ℕ} {start c
   table = table_of heads tails n ids
 
   abbrev new : List ℕ
-  new = tagsAt count file start
+  new = tags_at count file start
 
-  pub fresh-wide : {was is : List ℕ} → Unmarked was → MarkedMore table new was is → length is ≡ markWords
-  fresh-wide none more = (more-fresh none more).wide
+  pub fresh_wide : {was is : List ℕ} → Unmarked was → MarkedMore table new was is → length is ≡ mark_words
+  fresh_wide none more = (more_fresh none more).wide
 
   -- the members are the items of a record's tags
-  pub fresh-items : {was is : List ℕ} → Unmarked was → MarkedMore table new was is → members is ≡ items_of table new
-  fresh-items none more = marked-items (more-fresh none more) (omega (arith, sorted-size known.sorted, known.small))
+  pub fresh_items : {was is : List ℕ} → Unmarked was → MarkedMore table new was is → members is ≡ items_of table new
+  fresh_items none more = marked_items (more_fresh none more) (omega (arith, sorted_size known.sorted, known.small))

@@ -7,7 +7,7 @@ use native.Mathlib.Omega.{arith}
 use lib.ListN.{length, take, drop, set, length-append}
 use lib.Seq.{sets, sets-eq, take-set-le, drop-set-lt, take_at, drop_at, length-take-le, take-add, drop-drop}
 use Rattle.lists.specs.Lists.{slice}
-use Rattle.lists.proofs.Slices.{frame-slice, rest-slice, slice-from, slice-none}
+use Rattle.lists.proofs.Slices.{frame-slice, rest-slice, slice_from, slice_none}
 
 -- ---- numbers stored from a place on
 
@@ -32,10 +32,10 @@ slice-sets w at new room =
 
 -- ---- sets one after the other
 
-pub flatten-append : (a b : List (List ℕ)) → flatten (a ++ b) ≡ flatten a ++ flatten b
+pub flatten_append : (a b : List (List ℕ)) → flatten (a ++ b) ≡ flatten a ++ flatten b
 unfolding flatten
-flatten-append [] b = refl
-flatten-append (x ∷ a) b = ap (λ (l : List ℕ). x ++ l) (flatten-append a b) ∙ sym (assoc x (flatten a) (flatten b))
+flatten_append [] b = refl
+flatten_append (x ∷ a) b = ap (λ (l : List ℕ). x ++ l) (flatten_append a b) ∙ sym (assoc x (flatten a) (flatten b))
   where
     assoc : (x y z : List ℕ) → (x ++ y) ++ z ≡ x ++ (y ++ z)
     assoc [] y z = refl
@@ -56,9 +56,9 @@ parts bs = map (λ b. b.part) bs
 abbrev pub size : List Block → ℕ
 size bs = length (flatten (wholes bs))
 
-pub size-cons : (b : Block) (bs : List Block) → size (b ∷ bs) ≡ length b.whole + size bs
+pub size_cons : (b : Block) (bs : List Block) → size (b ∷ bs) ≡ length b.whole + size bs
 unfolding flatten
-size-cons b bs = length-append b.whole (flatten (wholes bs))
+size_cons b bs = length-append b.whole (flatten (wholes bs))
 
 pub record Stands (items : List ℕ) (at : ℕ) (b : Block) : Type 0 where
   pub here : slice at (at + length b.part) items ≡ b.part
@@ -73,43 +73,43 @@ pub laid_none : (items : List ℕ) (at : ℕ) → Laid items at []
 unfolding Laid
 laid_none items at = refl
 
-laid-high : (w v : List ℕ) (m : ℕ) → drop m v ≡ drop m w → (at : ℕ) (bs : List Block) → m ≤ at → Laid w at bs → Laid v at bs
+laid_high : (w v : List ℕ) (m : ℕ) → drop m v ≡ drop m w → (at : ℕ) (bs : List Block) → m ≤ at → Laid w at bs → Laid v at bs
 unfolding Laid
-laid-high w v m e at [] h l = refl
-laid-high w v m e at (b ∷ bs) h l = (
+laid_high w v m e at [] h l = refl
+laid_high w v m e at (b ∷ bs) h l = (
   record { here = rest-slice m at (at + length b.part) w v h e ∙ l.0.here; fits = l.0.fits },
-  laid-high w v m e (at + length b.whole) bs (omega arith) l.1,
+  laid_high w v m e (at + length b.whole) bs (omega arith) l.1,
 )
 
 -- what stands at the place of a block
-pub laid-at : (w : List ℕ) (at : ℕ) (bs : List Block) (b : Block) (cs : List Block) → Laid w at (bs ++ (b ∷ cs))
+pub laid_at : (w : List ℕ) (at : ℕ) (bs : List Block) (b : Block) (cs : List Block) → Laid w at (bs ++ (b ∷ cs))
     → Stands w (at + size bs) b
 unfolding Laid flatten
-laid-at w at [] b cs l = let e : at ≡ at + 0 = omega arith in subst (λ (k : ℕ). Stands w k b) e l.0
-laid-at w at (x ∷ bs) b cs l =
-    let e : at + length x.whole + size bs ≡ at + size (x ∷ bs) = omega (arith, size-cons x bs) in
-    subst (λ (k : ℕ). Stands w k b) e (laid-at w (at + length x.whole) bs b cs l.1)
+laid_at w at [] b cs l = let e : at ≡ at + 0 = omega arith in subst (λ (k : ℕ). Stands w k b) e l.0
+laid_at w at (x ∷ bs) b cs l =
+    let e : at + length x.whole + size bs ≡ at + size (x ∷ bs) = omega (arith, size_cons x bs) in
+    subst (λ (k : ℕ). Stands w k b) e (laid_at w (at + length x.whole) bs b cs l.1)
 
 -- another part written at its place
-abbrev pub withPart : Block → List ℕ → Block
-withPart b p = record { whole = b.whole; part = p }
+abbrev pub with_part : Block → List ℕ → Block
+with_part b p = record { whole = b.whole; part = p }
 
-pub laid-put : (w : List ℕ) (at : ℕ) (bs : List Block) (b : Block) (cs : List Block) (p : List ℕ) → Laid w at (bs ++ (b ∷ cs))
+pub laid_put : (w : List ℕ) (at : ℕ) (bs : List Block) (b : Block) (cs : List Block) (p : List ℕ) → Laid w at (bs ++ (b ∷ cs))
     → length p ≤ length b.whole → at + size bs + length p ≤ length w
-    → Laid (sets w (at + size bs) p) at (bs ++ (withPart b p ∷ cs))
+    → Laid (sets w (at + size bs) p) at (bs ++ (with_part b p ∷ cs))
 unfolding Laid flatten
-laid-put w at [] b cs p l fits room =
+laid_put w at [] b cs p l fits room =
     let e : at ≡ at + 0 = omega arith in
     let r : at + length p ≤ length w = omega arith in
-    subst (λ (k : ℕ). Laid (sets w k p) at (withPart b p ∷ cs)) e (
+    subst (λ (k : ℕ). Laid (sets w k p) at (with_part b p ∷ cs)) e (
       record { here = slice-sets w at p r; fits = fits },
-      laid-high w (sets w at p) (at + length b.whole) (drop-sets (at + length b.whole) w at p (omega arith))
+      laid_high w (sets w at p) (at + length b.whole) (drop-sets (at + length b.whole) w at p (omega arith))
           (at + length b.whole) cs (omega arith) l.1,
     )
-laid-put w at (x ∷ bs) b cs p l fits room =
-    let e : at + length x.whole + size bs ≡ at + size (x ∷ bs) = omega (arith, size-cons x bs) in
-    let later = laid-put w (at + length x.whole) bs b cs p l.1 fits (omega arith) in
-    subst (λ (k : ℕ). Laid (sets w k p) at (x ∷ (bs ++ (withPart b p ∷ cs)))) e (
+laid_put w at (x ∷ bs) b cs p l fits room =
+    let e : at + length x.whole + size bs ≡ at + size (x ∷ bs) = omega (arith, size_cons x bs) in
+    let later = laid_put w (at + length x.whole) bs b cs p l.1 fits (omega arith) in
+    subst (λ (k : ℕ). Laid (sets w k p) at (x ∷ (bs ++ (with_part b p ∷ cs)))) e (
       record {
         here =
             frame-slice at (at + length x.part) (at + length x.part) w
@@ -122,43 +122,43 @@ laid-put w at (x ∷ bs) b cs p l fits room =
     )
 
 -- one more block behind the others
-pub laid-add : (w : List ℕ) (at : ℕ) (bs : List Block) (b : Block) → Laid w at bs → Stands w (at + size bs) b
+pub laid_add : (w : List ℕ) (at : ℕ) (bs : List Block) (b : Block) → Laid w at bs → Stands w (at + size bs) b
     → Laid w at (bs ++ (b ∷ []))
 unfolding Laid flatten
-laid-add w at [] b l s = let e : at + 0 ≡ at = omega arith in (subst (λ (k : ℕ). Stands w k b) e s, refl)
-laid-add w at (x ∷ bs) b l s =
-    let e : at + size (x ∷ bs) ≡ at + length x.whole + size bs = omega (arith, size-cons x bs) in
-    (l.0, laid-add w (at + length x.whole) bs b l.1 (subst (λ (k : ℕ). Stands w k b) e s))
+laid_add w at [] b l s = let e : at + 0 ≡ at = omega arith in (subst (λ (k : ℕ). Stands w k b) e s, refl)
+laid_add w at (x ∷ bs) b l s =
+    let e : at + size (x ∷ bs) ≡ at + length x.whole + size bs = omega (arith, size_cons x bs) in
+    (l.0, laid_add w (at + length x.whole) bs b l.1 (subst (λ (k : ℕ). Stands w k b) e s))
 
 -- the same with its part written
-pub laid-grow : (w : List ℕ) (at : ℕ) (bs : List Block) (b : Block) → Laid w at bs
+pub laid_grow : (w : List ℕ) (at : ℕ) (bs : List Block) (b : Block) → Laid w at bs
     → length b.part ≤ length b.whole → at + size bs + length b.part ≤ length w
     → Laid (sets w (at + size bs) b.part) at (bs ++ (b ∷ []))
-laid-grow w at bs b l fits room =
+laid_grow w at bs b l fits room =
     let empty : Block = record { whole = b.whole; part = [] } in
     let none : at + size bs + 0 ≡ at + size bs = omega arith in
-    laid-put w at bs empty [] b.part
-    (laid-add w at bs empty l
-    (record { here = ap (λ (k : ℕ). slice (at + size bs) k w) none ∙ slice-none (at + size bs) w; fits = omega arith }))
+    laid_put w at bs empty [] b.part
+    (laid_add w at bs empty l
+    (record { here = ap (λ (k : ℕ). slice (at + size bs) k w) none ∙ slice_none (at + size bs) w; fits = omega arith }))
     fits room
 
 -- where every part is the whole, the list has them one after the other
-heads-same : {a b : List ℕ} {xs ys : List (List ℕ)} → ◌≡◌ {A = List (List ℕ)} (a ∷ xs) (b ∷ ys) → a ≡ b
-heads-same e = cc
+heads_same : {a b : List ℕ} {xs ys : List (List ℕ)} → ◌≡◌ {A = List (List ℕ)} (a ∷ xs) (b ∷ ys) → a ≡ b
+heads_same e = cc
 
-tails-same : {a b : List ℕ} {xs ys : List (List ℕ)} → ◌≡◌ {A = List (List ℕ)} (a ∷ xs) (b ∷ ys) → xs ≡ ys
-tails-same e = cc
+tails_same : {a b : List ℕ} {xs ys : List (List ℕ)} → ◌≡◌ {A = List (List ℕ)} (a ∷ xs) (b ∷ ys) → xs ≡ ys
+tails_same e = cc
 
-pub laid-whole : (w : List ℕ) (at : ℕ) (bs : List Block) → Laid w at bs → parts bs ≡ wholes bs
+pub laid_whole : (w : List ℕ) (at : ℕ) (bs : List Block) → Laid w at bs → parts bs ≡ wholes bs
     → take (size bs) (drop at w) ≡ flatten (wholes bs)
 unfolding Laid flatten
-laid-whole w at [] l full = refl
-laid-whole w at (b ∷ bs) l full =
-    let same : b.part ≡ b.whole = heads-same full in
+laid_whole w at [] l full = refl
+laid_whole w at (b ∷ bs) l full =
+    let same : b.part ≡ b.whole = heads_same full in
     let long : at + length b.part - at ≡ length b.whole = omega (arith, ap length same) in
     let first : take (length b.whole) (drop at w) ≡ b.whole =
-    ap (λ (k : ℕ). take k (drop at w)) (sym long) ∙ sym (slice-from at (at + length b.part) w) ∙ l.0.here ∙ same in
-    ap (λ (k : ℕ). take k (drop at w)) (size-cons b bs) ∙ take-add (length b.whole) (size bs) (drop at w)
+    ap (λ (k : ℕ). take k (drop at w)) (sym long) ∙ sym (slice_from at (at + length b.part) w) ∙ l.0.here ∙ same in
+    ap (λ (k : ℕ). take k (drop at w)) (size_cons b bs) ∙ take-add (length b.whole) (size bs) (drop at w)
     ∙ ap₂ (λ (x y : List ℕ). x ++ y) first
     (ap (λ (l : List ℕ). take (size bs) l) (drop-drop (length b.whole) at w)
-    ∙ laid-whole w (at + length b.whole) bs l.1 (tails-same full))
+    ∙ laid_whole w (at + length b.whole) bs l.1 (tails_same full))

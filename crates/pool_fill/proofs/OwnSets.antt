@@ -10,39 +10,39 @@ use lib.ListN.{length, get_or, length-append, length-set}
 use lib.Seq as seq
 use Rattle.lists.specs.Lists.{keep, memb}
 use Rattle.bit_sets.specs.BitSets.{member}
-use Rattle.sets.specs.Limits.{halfWords}
+use Rattle.sets.specs.Limits.{half_words}
 use Rattle.sets.specs.declared.Side.{Side}
 use Rattle.sets.specs.declared.Side.TheVariants.{Right}
-use Rattle.tag_file.specs.Format.{tagAt}
-use Rattle.tag_file.specs.Reading.{readAt, pastTags, tagsAt}
-use Rattle.tag_file.specs.Records.{TagRecord, recordsAt, records, sameSide, ofSide, items_of, setsOfSide}
-use Rattle.tag_file.specs.Loading.{numbersOf}
+use Rattle.tag_file.specs.Format.{tag_at}
+use Rattle.tag_file.specs.Reading.{read_at, past_tags, tags_at}
+use Rattle.tag_file.specs.Records.{TagRecord, records_at, records, same_side, of_side, items_of, sets_of_side}
+use Rattle.tag_file.specs.Loading.{numbers_of}
 use Rattle.tag_file.specs.declared.ReadAnswer.TheVariants.{Record}
-use Rattle.tag_file.proofs.RecordLaws.{memb-tagsAt, read_past, read-within, read_number, records-next}
+use Rattle.tag_file.proofs.RecordLaws.{memb-tags_at, read_past, read_within, read_number, records_next}
 use Rattle.tag_file.proofs.FoundRecords.{found_number}
-use Rattle.pool_loader_spec.specs.Pooling.{unitedWith, pooled}
+use Rattle.pool_loader_spec.specs.Pooling.{united_with, pooled}
 use Rattle.tag_index.specs.Index.{table_of}
 use Rattle.tag_loader.specs.declared.record_items.Filled.{Filled}
 use Rattle.tag_loader.specs.record_items.Marks.{Unmarked, TagsKnown}
-use Rattle.pool_scan.specs.right_slots.Slots.{numberSlot, AtSlots, HasSlot}
-use Rattle.pool_scan.proofs.right_slots.Counted.{slot-below}
-use Rattle.pool_scan.proofs.right_slots.Found.{noted-member}
-use Rattle.pool_scan.proofs.right_slots.Putting.{at-slots-put}
-use Rattle.pool_fill.specs.own_sets.Own.{lengthBy, placeWord, RoomForOwn, OwnFilled}
+use Rattle.pool_scan.specs.right_slots.Slots.{number_slot, AtSlots, HasSlot}
+use Rattle.pool_scan.proofs.right_slots.Counted.{slot_below}
+use Rattle.pool_scan.proofs.right_slots.Found.{noted_member}
+use Rattle.pool_scan.proofs.right_slots.Putting.{at_slots_put}
+use Rattle.pool_fill.specs.own_sets.Own.{length_by, place_word, RoomForOwn, OwnFilled}
 use Rattle.pool_fill.specs.Pool.{PoolFillReady}
 use Rattle.pool_fill.proofs.Laying.{Block}
-use Rattle.pool_fill.proofs.SetPlacing.{SetPlacing, placing-bound, placing-room, placing-number, placing-end}
-use Rattle.pool_fill.proofs.SetPlacing.{placing-next}
-use Rattle.pool_fill.proofs.Unions.{keep-around, part_of, part_none, part-fits}
-use Rattle.pool_fill.proofs.PooledSets.{isNew, united-held, own_held, length-told}
-use Rattle.pool_fill.proofs.FirstWalk.{block_of, start_of, walkWord, walk_same, FirstWalk}
+use Rattle.pool_fill.proofs.SetPlacing.{SetPlacing, placing_bound, placing_room, placing_number, placing_end}
+use Rattle.pool_fill.proofs.SetPlacing.{placing_next}
+use Rattle.pool_fill.proofs.Unions.{keep_around, part_of, part_none, part_fits}
+use Rattle.pool_fill.proofs.PooledSets.{is_new, united_held, own_held, length_told}
+use Rattle.pool_fill.proofs.FirstWalk.{block_of, start_of, walk_word, walk_same, FirstWalk}
 
 module _ {first second heads tails : List ℕ} {n : ℕ} {ids ranks used counts slots₀ numbers₀ ends₀ items₀ : List ℕ}
     (ready : PoolFillReady first second heads tails n ids ranks used counts slots₀ numbers₀ ends₀ items₀)
     {slots numbers ends items marks : List ℕ} {done : Filled} {at : ℕ}
     (w : FirstWalk first second (table_of heads tails n ids) used slots₀ numbers₀ ends₀ items₀
     slots numbers ends items marks done at)
-    {kind : Side} {x c p next : ℕ} (e : readAt first at ≡ Record kind x c p next) (right : sameSide Right kind ≡ true)
+    {kind : Side} {x c p next : ℕ} (e : read_at first at ≡ Record kind x c p next) (right : same_side Right kind ≡ true)
     (byte : (i : ℕ) → get_or first i 0 < 256) where
   abbrev table : List ℕ
   table = table_of heads tails n ids
@@ -51,22 +51,22 @@ module _ {first second heads tails : List ℕ} {n : ℕ} {ids ranks used counts 
   firsts = records first
 
   abbrev seconds : List TagRecord
-  seconds = ofSide Right (records second)
+  seconds = of_side Right (records second)
 
-  abbrev new-numbers : List ℕ
-  new-numbers = map (λ (r : TagRecord). r.number) (keep (isNew firsts) seconds)
+  abbrev new_numbers : List ℕ
+  new_numbers = map (λ (r : TagRecord). r.number) (keep (is_new firsts) seconds)
 
-  abbrev new-sets : List (List ℕ)
-  new-sets = map (λ (r : TagRecord). items_of table r.tags) (keep (isNew firsts) seconds)
+  abbrev new_sets : List (List ℕ)
+  new_sets = map (λ (r : TagRecord). items_of table r.tags) (keep (is_new firsts) seconds)
 
   abbrev this : TagRecord
-  this = record { side = kind; number = x; tags = tagsAt c first p }
+  this = record { side = kind; number = x; tags = tags_at c first p }
 
   abbrev rest : List TagRecord
-  rest = recordsAt first next
+  rest = records_at first next
 
-  opened : recordsAt first at ≡ this ∷ rest
-  opened = records-next first at kind x c p next e
+  opened : records_at first at ≡ this ∷ rest
+  opened = records_next first at kind x c p next e
 
   here : firsts ≡ w.passed ++ (this ∷ rest)
   here = w.split ∙ ap (λ (l : List TagRecord). w.passed ++ l) opened
@@ -75,127 +75,127 @@ module _ {first second heads tails : List ℕ} {n : ℕ} {ids ranks used counts 
   whole = part_of table seconds this
 
   abbrev own : List ℕ
-  own = items_of table (tagsAt c first p)
+  own = items_of table (tags_at c first p)
 
-  held : (y : ℕ) → memb y (unitedWith seconds this).tags ≡ true → memb y table ≡ true
-  held y m = ready.held y (united-held firsts (records second) w.passed this rest here y m)
+  held : (y : ℕ) → memb y (united_with seconds this).tags ≡ true → memb y table ≡ true
+  held y m = ready.held y (united_held firsts (records second) w.passed this rest here y m)
 
-  small : x < halfWords
+  small : x < half_words
   small = read_number first at e byte
 
-  left-numbers : map (λ r. r.number) (ofSide Right (recordsAt first at)) ++ new-numbers
-      ≡ x ∷ (map (λ r. r.number) (ofSide Right rest) ++ new-numbers)
+  left_numbers_lem : map (λ r. r.number) (of_side Right (records_at first at)) ++ new_numbers
+      ≡ x ∷ (map (λ r. r.number) (of_side Right rest) ++ new_numbers)
   unfolding keep
-  left-numbers =
-      ap (λ (l : List TagRecord). map (λ (r : TagRecord). r.number) l ++ new-numbers)
-      (ap (ofSide Right) opened ∙ keep-around (λ r. sameSide Right r.side) [] this rest right)
+  left_numbers_lem =
+      ap (λ (l : List TagRecord). map (λ (r : TagRecord). r.number) l ++ new_numbers)
+      (ap (of_side Right) opened ∙ keep_around (λ r. same_side Right r.side) [] this rest right)
 
-  left-sets : map (part_of table seconds) (ofSide Right (recordsAt first at)) ++ new-sets
-      ≡ whole ∷ (map (part_of table seconds) (ofSide Right rest) ++ new-sets)
+  left_sets : map (part_of table seconds) (of_side Right (records_at first at)) ++ new_sets
+      ≡ whole ∷ (map (part_of table seconds) (of_side Right rest) ++ new_sets)
   unfolding keep
-  left-sets =
-      ap (λ (l : List TagRecord). map (part_of table seconds) l ++ new-sets)
-      (ap (ofSide Right) opened ∙ keep-around (λ r. sameSide Right r.side) [] this rest right)
+  left_sets =
+      ap (λ (l : List TagRecord). map (part_of table seconds) l ++ new_sets)
+      (ap (of_side Right) opened ∙ keep_around (λ r. same_side Right r.side) [] this rest right)
 
-  abbrev later-numbers : List ℕ
-  later-numbers = map (λ (r : TagRecord). r.number) (ofSide Right rest) ++ new-numbers
+  abbrev later_numbers : List ℕ
+  later_numbers = map (λ (r : TagRecord). r.number) (of_side Right rest) ++ new_numbers
 
   abbrev later : List (List ℕ)
-  later = map (part_of table seconds) (ofSide Right rest) ++ new-sets
+  later = map (part_of table seconds) (of_side Right rest) ++ new_sets
 
-  pub own-known : TagsKnown first heads tails n ids ranks p c
-  own-known =
+  pub own_known : TagsKnown first heads tails n ids ranks p c
+  own_known =
       record {
         sorted = ready.sorted;
         ranked = ready.ranked;
         small = ready.small;
-        inside = omega (arith, read_past first at e, read-within first at e);
+        inside = omega (arith, read_past first at e, read_within first at e);
         known = λ k h.
-            let y = tagAt first (pastTags p k) in
-            held y (own_held seconds this y (memb-tagsAt c first p k h));
+            let y = tag_at first (past_tags p k) in
+            held y (own_held seconds this y (memb-tags_at c first p k h));
       }
 
   noted_here : member used x ≡ true
-  noted_here = noted-member ready.noted w.passed this rest here right small
+  noted_here = noted_member ready.noted w.passed this rest here right small
 
-  pub own-slot : HasSlot used counts slots x
-  own-slot =
+  pub own_slot : HasSlot used counts slots x
+  own_slot =
       record {
         counted = ready.counted;
-        within = omega (arith, slot-below used ready.noted x small noted_here, w.long);
+        within = omega (arith, slot_below used ready.noted x small noted_here, w.long);
       }
 
   -- the word of its slot tells its length
-  told : lengthBy (get_or slots (numberSlot used x) 0) (length own) ≡ length whole
+  told : length_by (get_or slots (number_slot used x) 0) (length own) ≡ length whole
   told =
-      ap (λ (word : ℕ). lengthBy word (length own))
+      ap (λ (word : ℕ). length_by word (length own))
       (w.words w.passed this rest here right
-      ∙ ap (λ (b : Bool). cond b (placeWord (start_of table seconds w.passed) (length own)) (get_or slots₀ (numberSlot used x) 0))
+      ∙ ap (λ (b : Bool). cond b (place_word (start_of table seconds w.passed) (length own)) (get_or slots₀ (number_slot used x) 0))
       (le-ltb (length w.passed) (length w.passed) (omega arith))
       ∙ ready.words w.passed this rest here right)
-      ∙ length-told table ready.sorted.rises firsts (records second) ready.short w.passed this rest here held
+      ∙ length_told table ready.sorted.rises firsts (records second) ready.short w.passed this rest here held
 
   fits : length own ≤ length whole
-  fits = omega (arith, ap length (part_none table this), part-fits table seconds this)
+  fits = omega (arith, ap length (part_none table this), part_fits table seconds this)
 
-  pub own_room : RoomForOwn done.sets done.entries (get_or slots (numberSlot used x) 0) own numbers ends items
+  pub own_room : RoomForOwn done.sets done.entries (get_or slots (number_slot used x) 0) own numbers ends items
   own_room =
-      let bound = placing-bound w.placing whole later left-sets in
+      let bound = placing_bound w.placing whole later left_sets in
       record {
-        for-number = omega (arith, placing-number w.placing x later-numbers left-numbers);
-        for-end = omega (arith, placing-end w.placing whole later left-sets);
-        for-items = omega (arith, placing-room w.placing whole later left-sets, fits);
+        for_number = omega (arith, placing_number w.placing x later_numbers left_numbers_lem);
+        for_end = omega (arith, placing_end w.placing whole later left_sets);
+        for_items = omega (arith, placing_room w.placing whole later left_sets, fits);
         small = omega (arith, bound, fits, ready.few);
         few = omega (arith, bound, told, ready.few);
       }
 
   -- the right sets so far, with this
-  grown : map (block_of table seconds []) (ofSide Right w.passed) ++ (block_of table seconds [] this ∷ [])
-      ≡ map (block_of table seconds []) (ofSide Right (w.passed ++ (this ∷ [])))
+  grown : map (block_of table seconds []) (of_side Right w.passed) ++ (block_of table seconds [] this ∷ [])
+      ≡ map (block_of table seconds []) (of_side Right (w.passed ++ (this ∷ [])))
   unfolding keep
   grown =
-      sym (map-append (block_of table seconds []) (ofSide Right w.passed) (this ∷ []))
+      sym (map-append (block_of table seconds []) (of_side Right w.passed) (this ∷ []))
       ∙ ap (map (block_of table seconds []))
-      (sym (keep-around (λ r. sameSide Right r.side) w.passed this [] right))
+      (sym (keep_around (λ r. same_side Right r.side) w.passed this [] right))
 
   -- where it begins
   begins : done.entries ≡ start_of table seconds w.passed
   begins =
       w.placing.past
       ∙ ap (λ (l : List (List ℕ)). length (flatten l))
-      (map-map (λ (b : Block). b.whole) (block_of table seconds []) (ofSide Right w.passed))
+      (map-map (λ (b : Block). b.whole) (block_of table seconds []) (of_side Right w.passed))
 
-  pub first-walk-own : {r : Filled} {slots' numbers' ends' items' marks' : List ℕ}
-      → OwnFilled done.sets done.entries x (numberSlot used x) own slots numbers ends items r slots' numbers' ends' items'
+  pub first_walk_own : {r : Filled} {slots' numbers' ends' items' marks' : List ℕ}
+      → OwnFilled done.sets done.entries x (number_slot used x) own slots numbers ends items r slots' numbers' ends' items'
       → Unmarked marks'
       → FirstWalk first second table used slots₀ numbers₀ ends₀ items₀ slots' numbers' ends' items' marks' r next
-  first-walk-own {r} {slots'} {numbers'} {ends'} {items'} {marks'} o none =
+  first_walk_own {r} {slots'} {numbers'} {ends'} {items'} {marks'} o none =
       record {
         passed = w.passed ++ (this ∷ []);
         split = here ∙ sym (append_assoc w.passed (this ∷ []) rest);
         placing =
-            subst (λ (l : List Block). SetPlacing (numbersOf Right (pooled firsts (records second)))
-            (setsOfSide Right table (pooled firsts (records second))) numbers₀ ends₀ items₀ numbers' ends' items' r
-            l later-numbers later) grown
-            (placing-next w.placing x later-numbers
-            (block_of table seconds [] this) later left-numbers left-sets (part-fits table seconds this)
-            o.put-number (rw told at o.put-end)
-            (o.put-items ∙ ap (seq.sets items done.entries) (sym (part_none table this)))
+            subst (λ (l : List Block). SetPlacing (numbers_of Right (pooled firsts (records second)))
+            (sets_of_side Right table (pooled firsts (records second))) numbers₀ ends₀ items₀ numbers' ends' items' r
+            l later_numbers later) grown
+            (placing_next w.placing x later_numbers
+            (block_of table seconds [] this) later left_numbers_lem left_sets (part_fits table seconds this)
+            o.put_number (rw told at o.put_end)
+            (o.put_items ∙ ap (seq.sets items done.entries) (sym (part_none table this)))
             (o.past ∙ ap (λ (k : ℕ). done.entries + k) told));
         words =
-            subst (λ (l : List ℕ). AtSlots (walkWord table seconds used slots₀ (length (w.passed ++ (this ∷ [])))) firsts used l)
-            (sym o.put-slot)
-            (at-slots-put firsts used slots (walkWord table seconds used slots₀ (length w.passed))
-            (walkWord table seconds used slots₀ (length (w.passed ++ (this ∷ [])))) ready.once ready.noted
+            subst (λ (l : List ℕ). AtSlots (walk_word table seconds used slots₀ (length (w.passed ++ (this ∷ [])))) firsts used l)
+            (sym o.put_slot)
+            (at_slots_put firsts used slots (walk_word table seconds used slots₀ (length w.passed))
+            (walk_word table seconds used slots₀ (length (w.passed ++ (this ∷ [])))) ready.once ready.noted
             (λ b s a f. found_number first byte b s a f) w.long w.words w.passed this rest
-            (placeWord done.entries (length own)) here right
-            (ap (λ (b : Bool). cond b (placeWord (start_of table seconds w.passed) (length own))
-            (get_or slots₀ (numberSlot used x) 0))
+            (place_word done.entries (length own)) here right
+            (ap (λ (b : Bool). cond b (place_word (start_of table seconds w.passed) (length own))
+            (get_or slots₀ (number_slot used x) 0))
             (lt-ltb (length w.passed) (length (w.passed ++ (this ∷ []))) (omega (arith, length-append w.passed (this ∷ []))))
-            ∙ ap (λ (k : ℕ). placeWord k (length own)) (sym begins))
+            ∙ ap (λ (k : ℕ). place_word k (length own)) (sym begins))
             (λ b s a f right-s differs.
             walk_same table seconds used slots₀ firsts w.passed this rest here b s a f
             (λ same. differs (ap (λ (q : TagRecord). q.number) same))));
-        long = ap length o.put-slot ∙ length-set slots (numberSlot used x) (placeWord done.entries (length own)) ∙ w.long;
+        long = ap length o.put_slot ∙ length-set slots (number_slot used x) (place_word done.entries (length own)) ∙ w.long;
         unmarked = none;
       }

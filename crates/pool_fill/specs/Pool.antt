@@ -2,13 +2,13 @@
 use Rattle.std.specs.Prelude.{ℕ, ◌<◌, ◌≤◌, ◌≡◌, true, length}
 use mathlib.Core.List.{List, flatten}
 use Rattle.lists.specs.Lists.{memb}
-use Rattle.sets.specs.Limits.{maxItems, maxSets, maxEntries}
+use Rattle.sets.specs.Limits.{max_items, max_sets, max_entries}
 use Rattle.sets.specs.declared.Side.TheVariants.{Right}
-use Rattle.tag_file.specs.Records.{totalLength, records, ofSide, allTags, setsOfSide}
-use Rattle.tag_file.specs.Loading.{numbersOf, endsFrom}
+use Rattle.tag_file.specs.Records.{total_length, records, of_side, all_tags, sets_of_side}
+use Rattle.tag_file.specs.Loading.{numbers_of, ends_from}
 use Rattle.pool_loader_spec.specs.Pooling.{pooled}
 use Rattle.tag_index.specs.Index.{table_of, Sorted, Ranked}
-use Rattle.pool_scan.specs.right_slots.Slots.{BlocksCounted, NumbersNoted, NumbersOnce, AtSlots, pooledMark, slotWord}
+use Rattle.pool_scan.specs.right_slots.Slots.{BlocksCounted, NumbersNoted, NumbersOnce, AtSlots, pooled_mark, slot_word}
 
 -- the index of two files' tags, the slots of the first file's right sets with the lengths of the unions, and room for the right
 -- sets of both
@@ -16,19 +16,19 @@ pub record PoolFillReady (first second heads tails : List ℕ) (n : ℕ) (ids ra
     : Type 0 where
   pub sorted : Sorted heads tails n ids
   pub ranked : Ranked n ids ranks
-  pub small : n ≤ maxItems
-  pub held : (y : ℕ) → memb y (allTags (pooled (records first) (records second))) ≡ true
+  pub small : n ≤ max_items
+  pub held : (y : ℕ) → memb y (all_tags (pooled (records first) (records second))) ≡ true
       → memb y (table_of heads tails n ids) ≡ true
   pub noted : NumbersNoted (records first) used
   pub counted : BlocksCounted used counts
-  pub size : length slots ≡ maxSets
-  pub words : AtSlots (slotWord (records second)) (records first) used slots
+  pub size : length slots ≡ max_sets
+  pub words : AtSlots (slot_word (records second)) (records first) used slots
   pub once : NumbersOnce (records first)
-  pub once-second : NumbersOnce (ofSide Right (records second))
-  pub short : totalLength (records first) < pooledMark
-  pub few : length (flatten (setsOfSide Right (table_of heads tails n ids) (pooled (records first) (records second)))) ≤ maxEntries
-  pub for-numbers : length (numbersOf Right (pooled (records first) (records second))) ≤ length numbers
-  pub for-ends :
-      length (endsFrom 0 (setsOfSide Right (table_of heads tails n ids) (pooled (records first) (records second)))) ≤ length ends
-  pub for-items :
-      length (flatten (setsOfSide Right (table_of heads tails n ids) (pooled (records first) (records second)))) ≤ length items
+  pub once_second : NumbersOnce (of_side Right (records second))
+  pub short : total_length (records first) < pooled_mark
+  pub few : length (flatten (sets_of_side Right (table_of heads tails n ids) (pooled (records first) (records second)))) ≤ max_entries
+  pub for_numbers : length (numbers_of Right (pooled (records first) (records second))) ≤ length numbers
+  pub for_ends :
+      length (ends_from 0 (sets_of_side Right (table_of heads tails n ids) (pooled (records first) (records second)))) ≤ length ends
+  pub for_items :
+      length (flatten (sets_of_side Right (table_of heads tails n ids) (pooled (records first) (records second)))) ≤ length items

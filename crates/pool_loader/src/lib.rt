@@ -1,6 +1,6 @@
 // The pooled load of two tag files into seven lent lists, over one tag table: the first passes over both files, the room, and the
 // second passes. `second_file` has all that follows the first file, `answer` the answer. It allocates nothing beyond its own arrays.
-ghost use Rattle.tag_file.specs.Loading.{lentLists, returnedLists};
+ghost use Rattle.tag_file.specs.Loading.{lent_lists, returned_lists};
 ghost use Rattle.pool_loader_spec.specs.Pooling.{PooledCall};
 ghost use Rattle.tag_scan.specs.Scan.{Lengths, Scanned};
 
@@ -46,8 +46,8 @@ pub fn load_pooled(
     right_items: &mut [u16],
 ) -> LoadAnswer
     ensures { PooledCall first.now second.now
-        (lentLists tags left_numbers left_ends left_items right_numbers right_ends right_items)
-        (returnedLists tags left_numbers left_ends left_items right_numbers right_ends right_items) result }
+        (lent_lists tags left_numbers left_ends left_items right_numbers right_ends right_items)
+        (returned_lists tags left_numbers left_ends left_items right_numbers right_ends right_items) result }
 {
     let mut heads = [0usize; INDEX_ROOM];
     let mut tails = [0u32; INDEX_ROOM];

@@ -1,6 +1,6 @@
 // The pooled load after its pass over the first file: the pass over the second, the answer, and the seven lists.
-ghost use Rattle.tag_file.specs.Loading.{lentLists, returnedLists, listsNow};
-ghost use Rattle.pool_loader_spec.specs.Pooling.{pooledRecords, PooledCall};
+ghost use Rattle.tag_file.specs.Loading.{lent_lists, returned_lists, lists_now};
+ghost use Rattle.pool_loader_spec.specs.Pooling.{pooled_records, PooledCall};
 ghost use Rattle.tag_scan.specs.Scan.{Scanned};
 ghost use Rattle.tag_loader.specs.Passes.{AllFilled};
 ghost use Rattle.pool_loader.specs.second_file.Judging.{JudgeReady, Judged, PoolFillable};
@@ -69,10 +69,10 @@ fn fill_pooled(
     right_items: &mut [u16],
 )
     requires { PoolFillable first.now second.now heads.now tails.now ids.now n used.now counts.now slots.old
-        (listsNow tags left_numbers left_ends left_items right_numbers right_ends right_items) }
-    ensures { AllFilled (pooledRecords first.now second.now)
-        (lentLists tags left_numbers left_ends left_items right_numbers right_ends right_items)
-        (returnedLists tags left_numbers left_ends left_items right_numbers right_ends right_items) }
+        (lists_now tags left_numbers left_ends left_items right_numbers right_ends right_items) }
+    ensures { AllFilled (pooled_records first.now second.now)
+        (lent_lists tags left_numbers left_ends left_items right_numbers right_ends right_items)
+        (returned_lists tags left_numbers left_ends left_items right_numbers right_ends right_items) }
 {
     let mut ranks = [0u16; INDEX_ROOM];
     rank_ids(ids, n, &mut ranks);
@@ -127,8 +127,8 @@ pub fn pool_second(
 ) -> LoadAnswer
     requires { Scanned first.now heads.old tails.old ids.old answer }
     ensures { PooledCall first.now second.now
-        (lentLists tags left_numbers left_ends left_items right_numbers right_ends right_items)
-        (returnedLists tags left_numbers left_ends left_items right_numbers right_ends right_items) result }
+        (lent_lists tags left_numbers left_ends left_items right_numbers right_ends right_items)
+        (returned_lists tags left_numbers left_ends left_items right_numbers right_ends right_items) result }
 {
     let mut used = [0u64; NUMBER_WORDS];
     let mut counts = [0u16; BLOCKS];

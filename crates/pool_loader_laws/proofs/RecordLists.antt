@@ -11,14 +11,14 @@ use lib.ListN.{length, get_or}
 use Rattle.lists.specs.Lists.{keep, onto, memb, distinct}
 use Rattle.lists.proofs.Bools.{and_both, or_left_false, or_right_false, true-false, refuted}
 use Rattle.lists.proofs.Distinct.{distinct_head, distinct_tail}
-use Rattle.lists.proofs.Membership.{memb-head, memb-tail, memb-append}
+use Rattle.lists.proofs.Membership.{memb_head, memb_tail, memb_append}
 
 module _ {A : Type 0} where
   -- a filter that all pass
-  pub keep-every : (xs : List A) → keep (λ x. true) xs ≡ xs
+  pub keep_every : (xs : List A) → keep (λ x. true) xs ≡ xs
   unfolding keep
-  keep-every [] = refl
-  keep-every (x ∷ xs) = rw (keep-every xs)
+  keep_every [] = refl
+  keep_every (x ∷ xs) = rw (keep_every xs)
 
   -- ---- by a number that no two have
 
@@ -31,13 +31,13 @@ module _ {A : Type 0} where
         (none_of n xs (or_right_false (eqb n (number x)) (memb n (map number xs)) e))
 
     -- the elements with the number of one that was kept are that one
-    pub keep-number-kept : (p : A → Bool) (d : A) (xs : List A) → distinct (map number xs) ≡ true → (k : ℕ)
+    pub keep_number_kept : (p : A → Bool) (d : A) (xs : List A) → distinct (map number xs) ≡ true → (k : ℕ)
         → k < length (keep p xs)
         → keep (λ x. eqb (number (get_or (keep p xs) k d)) (number x)) xs ≡ get_or (keep p xs) k d ∷ []
     unfolding keep
-    keep-number-kept p d [] once k within = absurd (omega arith)
-    keep-number-kept p d (x ∷ xs) once k within =
-        here (p x) (keep-number-kept p d xs (distinct_tail (number x) (map number xs) once)) k within
+    keep_number_kept p d [] once k within = absurd (omega arith)
+    keep_number_kept p d (x ∷ xs) once k within =
+        here (p x) (keep_number_kept p d xs (distinct_tail (number x) (map number xs) once)) k within
       where
         none : keep (λ y. eqb (number x) (number y)) xs ≡ []
         none = none_of (number x) xs (distinct_head (number x) (map number xs) once)
@@ -65,9 +65,9 @@ module _ {A : Type 0} where
         here true again (suc k) within = later (get_or (keep p xs) k d) (again k (omega arith))
 
     -- and so are those with the number of any element
-    pub keep-number : (d : A) (xs : List A) → distinct (map number xs) ≡ true → (k : ℕ) → k < length xs
+    pub keep_number : (d : A) (xs : List A) → distinct (map number xs) ≡ true → (k : ℕ) → k < length xs
         → keep (λ x. eqb (number (get_or xs k d)) (number x)) xs ≡ get_or xs k d ∷ []
-    keep-number d xs once k within = rw (keep-every xs) at (keep-number-kept (λ x. true) d xs once k (rw (keep-every xs) within))
+    keep_number d xs once k within = rw (keep_every xs) at (keep_number_kept (λ x. true) d xs once k (rw (keep_every xs) within))
 
 -- ---- distinct numbers, one list after the other and filtered
 
@@ -77,28 +77,28 @@ unfolding distinct
 distinct_append [] ys dx dy apart = dy
 distinct_append (x ∷ xs) ys dx dy apart =
     let new : memb x (xs ++ ys) ≡ false =
-    rw (memb-append x xs ys, distinct_head x xs dx) (refuted (memb x ys) (λ m. true-false (memb-head x xs) (apart x m))) in
+    rw (memb_append x xs ys, distinct_head x xs dx) (refuted (memb x ys) (λ m. true-false (memb_head x xs) (apart x m))) in
     and_both (ap not new)
     (distinct_append xs ys (distinct_tail x xs dx) dy (λ y m. outside y (apart y m)))
   where
     outside : (y : ℕ) → memb y (x ∷ xs) ≡ false → memb y xs ≡ false
-    outside y f = refuted (memb y xs) (λ m. true-false (memb-tail y x xs m) f)
+    outside y f = refuted (memb y xs) (λ m. true-false (memb_tail y x xs m) f)
 
 module _ {A : Type 0} (number : A → ℕ) (p : A → Bool) where
-  memb-kept : (n : ℕ) (xs : List A) → memb n (map number xs) ≡ false → memb n (map number (keep p xs)) ≡ false
+  memb_kept : (n : ℕ) (xs : List A) → memb n (map number xs) ≡ false → memb n (map number (keep p xs)) ≡ false
   unfolding memb keep
-  memb-kept n [] e = refl
-  memb-kept n (x ∷ xs) e = here (p x) (memb-kept n xs (or_right_false (eqb n (number x)) (memb n (map number xs)) e))
+  memb_kept n [] e = refl
+  memb_kept n (x ∷ xs) e = here (p x) (memb_kept n xs (or_right_false (eqb n (number x)) (memb n (map number xs)) e))
     where
       here : (b : Bool) → memb n (map number (keep p xs)) ≡ false → memb n (map number (onto b x (keep p xs))) ≡ false
       here true rest = rw (or_left_false (eqb n (number x)) (memb n (map number xs)) e) rest
       here false rest = rest
 
-  pub distinct-kept : (xs : List A) → distinct (map number xs) ≡ true → distinct (map number (keep p xs)) ≡ true
+  pub distinct_kept : (xs : List A) → distinct (map number xs) ≡ true → distinct (map number (keep p xs)) ≡ true
   unfolding distinct keep
-  distinct-kept [] d = refl
-  distinct-kept (x ∷ xs) d = here (p x) (distinct-kept xs (distinct_tail (number x) (map number xs) d))
+  distinct_kept [] d = refl
+  distinct_kept (x ∷ xs) d = here (p x) (distinct_kept xs (distinct_tail (number x) (map number xs) d))
     where
       here : (b : Bool) → distinct (map number (keep p xs)) ≡ true → distinct (map number (onto b x (keep p xs))) ≡ true
-      here true rest = and_both (ap not (memb-kept (number x) xs (distinct_head (number x) (map number xs) d))) rest
+      here true rest = and_both (ap not (memb_kept (number x) xs (distinct_head (number x) (map number xs) d))) rest
       here false rest = rest

@@ -6,7 +6,7 @@ use mathlib.Core.Bool.{Bool, true, false, not}
 use Prim.Native.Nat.{ℕ, ◌+◌}
 use native.Mathlib.Omega.{arith}
 use lib.ListN.{length}
-use Rattle.sets.specs.Refusals.{clears, refuseIf, unless}
+use Rattle.sets.specs.Refusals.{clears, refuse_if, unless}
 use Rattle.sets.specs.declared.Side.TheVariants.{Left, Right}
 use Rattle.sets.specs.declared.Refusal.{Refusal}
 use Rattle.sets.specs.declared.Refusal.TheVariants.{ShortOutput}
@@ -17,17 +17,17 @@ use Rattle.tag_file.specs.declared.Repeats.{Repeats}
 use Rattle.tag_file.specs.declared.LoadAnswer.{LoadAnswer}
 use Rattle.tag_file.specs.declared.LoadAnswer.TheVariants as load
 use Rattle.tag_file.specs.Records.{records}
-use Rattle.tag_file.specs.Repeats.{repeatsOf}
-use Rattle.tag_file.specs.Loading.{Lists, fileFault, filled, room_for, totalsOf}
-use Rattle.tag_file.proofs.FaultLaws.{fault-clears}
-use Rattle.pool_loader_spec.specs.Pooling.{pooledRecords, pooledRepeats, secondFault, firstOverlong, pooledAnswer}
-use Rattle.pool_loader_spec.proofs.SecondFaults.{second-clears, long-clears}
+use Rattle.tag_file.specs.Repeats.{repeats_of}
+use Rattle.tag_file.specs.Loading.{Lists, file_fault, filled, room_for, totals_of}
+use Rattle.tag_file.proofs.FaultLaws.{fault_clears}
+use Rattle.pool_loader_spec.specs.Pooling.{pooled_records, pooled_repeats, second_fault, first_overlong, pooled_answer}
+use Rattle.pool_loader_spec.proofs.SecondFaults.{second_clears, long_clears}
 
 -- the first that fails decides; whichever it is, it makes zeros
 abbrev answerBy : Tested → Tested → Bool → Tested → LoadAnswer → LoadAnswer
 answerBy fault second room long loaded =
     unless load.Refused fault
-    (unless load.Refused second (unless load.Refused (refuseIf (not room) ShortOutput) (unless load.Refused long loaded)))
+    (unless load.Refused second (unless load.Refused (refuse_if (not room) ShortOutput) (unless load.Refused long loaded)))
 
 clears-by : (fault second : Tested) (room : Bool) (long : Tested) (totals : Loaded) (found : Repeats) (why : Refusal)
     → ((w : Refusal) → fault ≡ Failed w → clears w ≡ true) → ((w : Refusal) → second ≡ Failed w → clears w ≡ true)
@@ -41,12 +41,12 @@ clears-by Passed Passed true Passed totals found why a b d e = let z : ◌≡◌
 
 -- what an accepted pair passed
 pub record Accepted (first second : List ℕ) (lent : Lists) (total : Loaded) (repeats : Repeats) : Type 0 where
-  pub clean : fileFault first ≡ Passed
-  pub clean-second : secondFault (records first) (length first) second ≡ Passed
-  pub room : room_for (filled (pooledRecords first second)) lent ≡ true
-  pub short : firstOverlong (records first) (length first) [] (records second) ≡ Passed
-  pub counts : totalsOf (pooledRecords first second) ≡ total
-  pub repeated : pooledRepeats (records first) (records second) ≡ repeats
+  pub clean : file_fault first ≡ Passed
+  pub clean-second : second_fault (records first) (length first) second ≡ Passed
+  pub room : room_for (filled (pooled_records first second)) lent ≡ true
+  pub short : first_overlong (records first) (length first) [] (records second) ≡ Passed
+  pub counts : totals_of (pooled_records first second) ≡ total
+  pub repeated : pooled_repeats (records first) (records second) ≡ repeats
 
 accepted-by : (fault second : Tested) (room : Bool) (long : Tested) (totals total : Loaded) (found repeats : Repeats)
     → answerBy fault second room long (load.Loaded totals found) ≡ load.Loaded total repeats
@@ -58,21 +58,21 @@ accepted-by Passed Passed true (Failed w) totals total found repeats e = let z :
 accepted-by Passed Passed true Passed totals total found repeats e = (refl, refl, refl, refl, cc, cc)
 
 module _ (first second : List ℕ) (lent : Lists) where
-  pub answer-clears : (why : Refusal) → pooledAnswer first second lent ≡ load.Refused why → clears why ≡ true
-  unfolding pooledAnswer
+  pub answer-clears : (why : Refusal) → pooled_answer first second lent ≡ load.Refused why → clears why ≡ true
+  unfolding pooled_answer
   answer-clears why e =
-      clears-by (fileFault first) (secondFault (records first) (length first) second)
-      (room_for (filled (pooledRecords first second)) lent) (firstOverlong (records first) (length first) [] (records second))
-      (totalsOf (pooledRecords first second)) (pooledRepeats (records first) (records second)) why (fault-clears first)
-      (second-clears (records first) (length first) second) (long-clears (records first) (length first) [] (records second)) e
+      clears-by (file_fault first) (second_fault (records first) (length first) second)
+      (room_for (filled (pooled_records first second)) lent) (first_overlong (records first) (length first) [] (records second))
+      (totals_of (pooled_records first second)) (pooled_repeats (records first) (records second)) why (fault_clears first)
+      (second_clears (records first) (length first) second) (long_clears (records first) (length first) [] (records second)) e
 
-  module _ (total : Loaded) (repeats : Repeats) (e : pooledAnswer first second lent ≡ load.Loaded total repeats) where
+  module _ (total : Loaded) (repeats : Repeats) (e : pooled_answer first second lent ≡ load.Loaded total repeats) where
     pub answer-accepted : Accepted first second lent total repeats
-    unfolding pooledAnswer
+    unfolding pooled_answer
     answer-accepted =
-        let parts = accepted-by (fileFault first) (secondFault (records first) (length first) second)
-        (room_for (filled (pooledRecords first second)) lent) (firstOverlong (records first) (length first) [] (records second))
-        (totalsOf (pooledRecords first second)) total (pooledRepeats (records first) (records second)) repeats e in
+        let parts = accepted-by (file_fault first) (second_fault (records first) (length first) second)
+        (room_for (filled (pooled_records first second)) lent) (first_overlong (records first) (length first) [] (records second))
+        (totals_of (pooled_records first second)) total (pooled_repeats (records first) (records second)) repeats e in
         record {
           clean = parts.0;
           clean-second = parts.1;
@@ -83,9 +83,9 @@ module _ (first second : List ℕ) (lent : Lists) where
         }
 
     -- the left repeats are those of the first file's left records
-    pub left-repeats : repeats.left ≡ repeatsOf Left (records first)
+    pub left-repeats : repeats.left ≡ repeats_of Left (records first)
     left-repeats = ap (λ (q : Repeats). q.left) (sym answer-accepted.repeated)
 
     -- the right repeats are those of both files' right records
-    pub right-repeats : repeats.right ≡ repeatsOf Right (records first) + repeatsOf Right (records second)
+    pub right-repeats : repeats.right ≡ repeats_of Right (records first) + repeats_of Right (records second)
     right-repeats = ap (λ (q : Repeats). q.right) (sym answer-accepted.repeated)

@@ -4,18 +4,18 @@ use mathlib.Core.List.{List}
 use Prim.Native.Nat.{ℕ}
 use Rattle.tag_file.specs.declared.LoadAnswer.{LoadAnswer}
 use Rattle.tag_file.specs.Loading.{Lists}
-use Rattle.pool_loader_spec.specs.Pooling.{pooledAnswer, PooledCall}
+use Rattle.pool_loader_spec.specs.Pooling.{pooled_answer, PooledCall}
 
-pub call-defined : {first second : List ℕ} {before after : Lists} {answer : LoadAnswer} → PooledCall first second before after answer
-    → PooledCall first second before after (pooledAnswer first second before)
-call-defined c =
+pub call_defined : {first second : List ℕ} {before after : Lists} {answer : LoadAnswer} → PooledCall first second before after answer
+    → PooledCall first second before after (pooled_answer first second before)
+call_defined c =
     record {
       answered = refl;
       tags = c.tags;
-      leftNumbers = c.leftNumbers;
-      leftEnds = c.leftEnds;
-      leftItems = c.leftItems;
-      rightNumbers = c.rightNumbers;
-      rightEnds = c.rightEnds;
-      rightItems = c.rightItems;
+      left_numbers = c.left_numbers;
+      left_ends = c.left_ends;
+      left_items = c.left_items;
+      right_numbers = c.right_numbers;
+      right_ends = c.right_ends;
+      right_items = c.right_items;
     }

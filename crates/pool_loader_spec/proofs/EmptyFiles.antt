@@ -10,83 +10,83 @@ use Rattle.lists.specs.Lists.{keep, sum, any}
 use Rattle.sets.specs.declared.Side.TheVariants.{Left, Right}
 use Rattle.sets.specs.declared.Tested.TheVariants.{Passed}
 use Rattle.tag_file.specs.declared.LoadAnswer.{LoadAnswer}
-use Rattle.tag_file.specs.Records.{TagRecord, recordsFrom, records, ofSide}
-use Rattle.tag_file.specs.Repeats.{repeatsOf, repeatTotals}
-use Rattle.tag_file.specs.Loading.{Lists, loadAnswer, listsAfter, LoadCall}
-use Rattle.pool_loader_spec.specs.Pooling.{pooled, secondFault, firstSecondFault, firstOverlong}
-use Rattle.pool_loader_spec.specs.Pooling.{pooledRecords, pooledRepeats, pooledAnswer, pooledLists, PooledCall}
-use Rattle.pool_loader_spec.proofs.OneMore.{pooled-none}
+use Rattle.tag_file.specs.Records.{TagRecord, records_from, records, of_side}
+use Rattle.tag_file.specs.Repeats.{repeats_of, repeat_totals}
+use Rattle.tag_file.specs.Loading.{Lists, load_answer, lists_after, LoadCall}
+use Rattle.pool_loader_spec.specs.Pooling.{pooled, second_fault, first_second_fault, first_overlong}
+use Rattle.pool_loader_spec.specs.Pooling.{pooled_records, pooled_repeats, pooled_answer, pooled_lists, PooledCall}
+use Rattle.pool_loader_spec.proofs.OneMore.{pooled_none}
 
 -- ---- an empty second file
 
 -- a second file without bytes has no fault, and no set that is too long
 module _ (rs : List TagRecord) (base : ℕ) where
-  pub secondFault-nil : secondFault rs base [] ≡ Passed
-  unfolding secondFault firstSecondFault recordsFrom sum
-  secondFault-nil = refl
+  pub second_fault_nil : second_fault rs base [] ≡ Passed
+  unfolding second_fault first_second_fault records_from sum
+  second_fault_nil = refl
 
-  pub firstOverlong-nil : firstOverlong rs base [] (records []) ≡ Passed
-  unfolding firstOverlong recordsFrom
-  firstOverlong-nil = refl
+  pub first_overlong_nil : first_overlong rs base [] (records []) ≡ Passed
+  unfolding first_overlong records_from
+  first_overlong_nil = refl
 
 -- nor does it add repeats
-pub pooledRepeats-nil : (rs : List TagRecord) → pooledRepeats rs (records []) ≡ repeatTotals rs
-unfolding recordsFrom keep sum
-pooledRepeats-nil rs = ap (λ (n : ℕ). record { left = repeatsOf Left rs; right = n }) (add-zero (repeatsOf Right rs))
+pub pooled_repeats_nil : (rs : List TagRecord) → pooled_repeats rs (records []) ≡ repeat_totals rs
+unfolding records_from keep sum
+pooled_repeats_nil rs = ap (λ (n : ℕ). record { left = repeats_of Left rs; right = n }) (add-zero (repeats_of Right rs))
 
 module _ (first : List ℕ) where
-  pub pooledRecords-nil : pooledRecords first [] ≡ records first
-  unfolding recordsFrom
-  pooledRecords-nil = pooled-none (records first)
+  pub pooled_records_nil : pooled_records first [] ≡ records first
+  unfolding records_from
+  pooled_records_nil = pooled_none (records first)
 
-  pub pooledAnswer-nil : (lent : Lists) → pooledAnswer first [] lent ≡ loadAnswer first lent
-  unfolding pooledAnswer loadAnswer
-  pooledAnswer-nil lent =
+  pub pooled_answer_nil : (lent : Lists) → pooled_answer first [] lent ≡ load_answer first lent
+  unfolding pooled_answer load_answer
+  pooled_answer_nil lent =
       rw (
-        secondFault-nil (records first) (length first),
-        firstOverlong-nil (records first) (length first),
-        pooledRecords-nil,
-        pooledRepeats-nil (records first),
+        second_fault_nil (records first) (length first),
+        first_overlong_nil (records first) (length first),
+        pooled_records_nil,
+        pooled_repeats_nil (records first),
       )
 
-  pooledLists-nil : (lent : Lists) → pooledLists first [] lent ≡ listsAfter first lent
-  pooledLists-nil lent = rw (pooledAnswer-nil lent, pooledRecords-nil)
+  pooled_lists_nil : (lent : Lists) → pooled_lists first [] lent ≡ lists_after first lent
+  pooled_lists_nil lent = rw (pooled_answer_nil lent, pooled_records_nil)
 
   module _ {before after : Lists} {answer : LoadAnswer} where
     -- such a call is a load of the first file, and the other way round
-    pub call-nil : PooledCall first [] before after answer → LoadCall first before after answer
-    call-nil c =
-        let same = pooledLists-nil before in
+    pub call_nil : PooledCall first [] before after answer → LoadCall first before after answer
+    call_nil c =
+        let same = pooled_lists_nil before in
         record {
-          answered = c.answered ∙ pooledAnswer-nil before;
+          answered = c.answered ∙ pooled_answer_nil before;
           tags = c.tags ∙ ap (λ (l : Lists). l.tags) same;
-          leftNumbers = c.leftNumbers ∙ ap (λ (l : Lists). l.leftNumbers) same;
-          leftEnds = c.leftEnds ∙ ap (λ (l : Lists). l.leftEnds) same;
-          leftItems = c.leftItems ∙ ap (λ (l : Lists). l.leftItems) same;
-          rightNumbers = c.rightNumbers ∙ ap (λ (l : Lists). l.rightNumbers) same;
-          rightEnds = c.rightEnds ∙ ap (λ (l : Lists). l.rightEnds) same;
-          rightItems = c.rightItems ∙ ap (λ (l : Lists). l.rightItems) same;
+          left_numbers = c.left_numbers ∙ ap (λ (l : Lists). l.left_numbers) same;
+          left_ends = c.left_ends ∙ ap (λ (l : Lists). l.left_ends) same;
+          left_items = c.left_items ∙ ap (λ (l : Lists). l.left_items) same;
+          right_numbers = c.right_numbers ∙ ap (λ (l : Lists). l.right_numbers) same;
+          right_ends = c.right_ends ∙ ap (λ (l : Lists). l.right_ends) same;
+          right_items = c.right_items ∙ ap (λ (l : Lists). l.right_items) same;
         }
 
-    pub nil-call : LoadCall first before after answer → PooledCall first [] before after answer
-    nil-call c =
-        let same = sym (pooledLists-nil before) in
+    pub nil_call : LoadCall first before after answer → PooledCall first [] before after answer
+    nil_call c =
+        let same = sym (pooled_lists_nil before) in
         record {
-          answered = c.answered ∙ sym (pooledAnswer-nil before);
+          answered = c.answered ∙ sym (pooled_answer_nil before);
           tags = c.tags ∙ ap (λ (l : Lists). l.tags) same;
-          leftNumbers = c.leftNumbers ∙ ap (λ (l : Lists). l.leftNumbers) same;
-          leftEnds = c.leftEnds ∙ ap (λ (l : Lists). l.leftEnds) same;
-          leftItems = c.leftItems ∙ ap (λ (l : Lists). l.leftItems) same;
-          rightNumbers = c.rightNumbers ∙ ap (λ (l : Lists). l.rightNumbers) same;
-          rightEnds = c.rightEnds ∙ ap (λ (l : Lists). l.rightEnds) same;
-          rightItems = c.rightItems ∙ ap (λ (l : Lists). l.rightItems) same;
+          left_numbers = c.left_numbers ∙ ap (λ (l : Lists). l.left_numbers) same;
+          left_ends = c.left_ends ∙ ap (λ (l : Lists). l.left_ends) same;
+          left_items = c.left_items ∙ ap (λ (l : Lists). l.left_items) same;
+          right_numbers = c.right_numbers ∙ ap (λ (l : Lists). l.right_numbers) same;
+          right_ends = c.right_ends ∙ ap (λ (l : Lists). l.right_ends) same;
+          right_items = c.right_items ∙ ap (λ (l : Lists). l.right_items) same;
         }
 
 -- ---- an empty first file
 
-pub nil-pooled : (ss : List TagRecord) → pooled [] ss ≡ ofSide Right ss
+pub nil_pooled : (ss : List TagRecord) → pooled [] ss ≡ of_side Right ss
 unfolding pooled any keep
-nil-pooled ss = every (ofSide Right ss)
+nil_pooled ss = every (of_side Right ss)
   where
     every : (l : List TagRecord) → keep (λ s. true) l ≡ l
     every [] = refl

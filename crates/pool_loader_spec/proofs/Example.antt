@@ -4,19 +4,19 @@ use Prim.Native.Nat.{ℕ, ◌+◌}
 use mathlib.Core.List.{List, [], ◌∷◌, ◌++◌, flatten}
 use lib.ListN.{replicate}
 use Rattle.lists.specs.Lists.{keep, memb, sum, range, upto, any, prefix}
-use Rattle.sets.specs.Limits.{maxSetLength}
+use Rattle.sets.specs.Limits.{max_set_length}
 use Rattle.sets.specs.declared.Side.{Side}
 use Rattle.sets.specs.declared.Side.TheVariants.{Left, Right}
 use Rattle.sets.specs.declared.Refusal.TheVariants.{Malformed, NumberUsed, ShortOutput, Overlong}
 use Rattle.sets.specs.declared.Tested.TheVariants.{Passed, Failed}
 use Rattle.tag_file.specs.declared.LoadAnswer.TheVariants as load
-use Rattle.tag_file.specs.Format.{valueFrom, bytes_of, tagBytes, mark}
-use Rattle.tag_file.specs.Reading.{readAt, tagsAt}
-use Rattle.tag_file.specs.Records.{TagRecord, recordsFrom, insert, insertAll, allTags, items_of}
-use Rattle.tag_file.specs.Repeats.{repeatsIn}
-use Rattle.tag_file.specs.Loading.{Lists, lists_of, fileFault, firstFault, faultOf, tooMany, endsFrom, room_for}
-use Rattle.pool_loader_spec.specs.Pooling.{pooled, secondFaultOf, firstSecondFault, secondFault, firstOverlong}
-use Rattle.pool_loader_spec.specs.Pooling.{pooledAnswer, pooledLists}
+use Rattle.tag_file.specs.Format.{value_from, bytes_of, tag_bytes, mark}
+use Rattle.tag_file.specs.Reading.{read_at, tags_at}
+use Rattle.tag_file.specs.Records.{TagRecord, records_from, insert, insert_all, all_tags, items_of}
+use Rattle.tag_file.specs.Repeats.{repeats_in}
+use Rattle.tag_file.specs.Loading.{Lists, lists_of, file_fault, first_fault, fault_of, too_many, ends_from, room_for}
+use Rattle.pool_loader_spec.specs.Pooling.{pooled, second_fault_of, first_second_fault, second_fault, first_overlong}
+use Rattle.pool_loader_spec.specs.Pooling.{pooled_answer, pooled_lists}
 
 -- a tag: eleven zero bytes and the one shown
 tag : ℕ → List ℕ
@@ -44,64 +44,64 @@ lent =
     (99 ∷ 99 ∷ 99 ∷ 99 ∷ 99 ∷ [])
 
 -- one repeat, of right set 9 in the second file; its tag 1, read on both pads, is none
-example-answer : pooledAnswer first second lent
+example_answer : pooled_answer first second lent
     ≡ load.Loaded (record { left_sets = 1; right_sets = 3; left_entries = 2; right_entries = 4; tag_count = 4 })
     (record { left = 0; right = 1 })
-unfolding first second lent head tag pooledAnswer fileFault firstFault faultOf tooMany secondFault firstSecondFault secondFaultOf
-    firstOverlong pooled room_for readAt tagsAt recordsFrom valueFrom insert insertAll allTags items_of keep memb sum any prefix
-    range endsFrom flatten tagBytes bytes_of repeatsIn
-example-answer = refl
+unfolding first second lent head tag pooled_answer file_fault first_fault fault_of too_many second_fault first_second_fault second_fault_of
+    first_overlong pooled room_for read_at tags_at records_from value_from insert insert_all all_tags items_of keep memb sum any prefix
+    range ends_from flatten tag_bytes bytes_of repeats_in
+example_answer = refl
 
 -- right sets 9 and 5 of the first file, then 6 of the second; set 9 has tags 1 and 2, read one on each pad
-example-lists : pooledLists first second lent
+example_lists : pooled_lists first second lent
     ≡ lists_of (tag 1 ++ (tag 2 ++ (tag 3 ++ tag 4))) (7 ∷ []) (2 ∷ []) (0 ∷ 1 ∷ 99 ∷ []) (9 ∷ 5 ∷ 6 ∷ []) (2 ∷ 3 ∷ 4 ∷ [])
     (0 ∷ 1 ∷ 2 ∷ 3 ∷ 99 ∷ [])
-unfolding first second lent head tag pooledAnswer fileFault firstFault faultOf tooMany secondFault firstSecondFault secondFaultOf
-    firstOverlong pooled room_for readAt tagsAt recordsFrom valueFrom insert insertAll allTags items_of keep memb sum any prefix
-    range endsFrom flatten tagBytes bytes_of
-example-lists = refl
+unfolding first second lent head tag pooled_answer file_fault first_fault fault_of too_many second_fault first_second_fault second_fault_of
+    first_overlong pooled room_for read_at tags_at records_from value_from insert insert_all all_tags items_of keep memb sum any prefix
+    range ends_from flatten tag_bytes bytes_of
+example_lists = refl
 
 -- ---- the ways to refuse
 
 -- the second file is cut short in its second record, at byte place 17; the first file has 63 bytes
-example-cut : pooledAnswer first ((head Left 7 1 ++ tag 8) ++ head Right 6 1) lent ≡ load.Refused (Malformed (63 + 17))
-unfolding first lent head tag pooledAnswer fileFault firstFault faultOf tooMany secondFault firstSecondFault secondFaultOf
-    pooled readAt tagsAt recordsFrom valueFrom insert insertAll allTags keep memb sum any prefix
-example-cut = refl
+example_cut : pooled_answer first ((head Left 7 1 ++ tag 8) ++ head Right 6 1) lent ≡ load.Refused (Malformed (63 + 17))
+unfolding first lent head tag pooled_answer file_fault first_fault fault_of too_many second_fault first_second_fault second_fault_of
+    pooled read_at tags_at records_from value_from insert insert_all all_tags keep memb sum any prefix
+example_cut = refl
 
 -- right set 9 twice in the second file, whether or not the first has it; a left set's number twice there is no fault
-example-used : pooledAnswer first (head Left 7 0 ++ (head Left 7 0 ++ (head Right 9 0 ++ head Right 9 0))) lent
+example_used : pooled_answer first (head Left 7 0 ++ (head Left 7 0 ++ (head Right 9 0 ++ head Right 9 0))) lent
     ≡ load.Refused (NumberUsed (63 + 15))
-unfolding first lent head tag pooledAnswer fileFault firstFault faultOf tooMany secondFault firstSecondFault secondFaultOf
-    pooled readAt tagsAt recordsFrom valueFrom insert insertAll allTags keep memb sum any prefix
-example-used = refl
+unfolding first lent head tag pooled_answer file_fault first_fault fault_of too_many second_fault first_second_fault second_fault_of
+    pooled read_at tags_at records_from value_from insert insert_all all_tags keep memb sum any prefix
+example_used = refl
 
 -- the first file's fault comes first, with its own place
-example-first : pooledAnswer (head Right 9 0 ++ head Right 9 0) (head Right 6 1) lent ≡ load.Refused (NumberUsed 5)
-unfolding lent head tag pooledAnswer fileFault firstFault faultOf tooMany readAt tagsAt recordsFrom valueFrom insert insertAll
-    allTags keep memb sum any prefix
-example-first = refl
+example_first : pooled_answer (head Right 9 0 ++ head Right 9 0) (head Right 6 1) lent ≡ load.Refused (NumberUsed 5)
+unfolding lent head tag pooled_answer file_fault first_fault fault_of too_many read_at tags_at records_from value_from insert insert_all
+    all_tags keep memb sum any prefix
+example_first = refl
 
 -- no room for the third right set
-example-short : pooledAnswer first second (lists_of (replicate 48 0) (0 ∷ []) (0 ∷ []) (0 ∷ 0 ∷ []) (0 ∷ 0 ∷ []) (0 ∷ 0 ∷ 0 ∷ [])
+example_short : pooled_answer first second (lists_of (replicate 48 0) (0 ∷ []) (0 ∷ []) (0 ∷ 0 ∷ []) (0 ∷ 0 ∷ []) (0 ∷ 0 ∷ 0 ∷ [])
     (0 ∷ 0 ∷ 0 ∷ 0 ∷ [])) ≡ load.Refused ShortOutput
-unfolding first second lent head tag pooledAnswer fileFault firstFault faultOf tooMany secondFault firstSecondFault secondFaultOf
-    pooled room_for readAt tagsAt recordsFrom valueFrom insert insertAll allTags items_of keep memb sum any prefix range
-    endsFrom flatten tagBytes bytes_of
-example-short = refl
+unfolding first second lent head tag pooled_answer file_fault first_fault fault_of too_many second_fault first_second_fault second_fault_of
+    pooled room_for read_at tags_at records_from value_from insert insert_all all_tags items_of keep memb sum any prefix range
+    ends_from flatten tag_bytes bytes_of
+example_short = refl
 
 -- a right set of the greatest length in the first file: the same tags again pass, and one more is refused at that record of the
 -- second file
 full : List TagRecord
-full = record { side = Right; number = 9; tags = upto maxSetLength } ∷ []
+full = record { side = Right; number = 9; tags = upto max_set_length } ∷ []
 
-example-full : firstOverlong full 63 [] (record { side = Right; number = 9; tags = 254 ∷ 0 ∷ [] } ∷ []) ≡ Passed
-unfolding full firstOverlong range insert insertAll allTags keep sum
-example-full = refl
+example_full : first_overlong full 63 [] (record { side = Right; number = 9; tags = 254 ∷ 0 ∷ [] } ∷ []) ≡ Passed
+unfolding full first_overlong range insert insert_all all_tags keep sum
+example_full = refl
 
-example-overlong :
-    firstOverlong full 63 []
-    (record { side = Left; number = 9; tags = 5000 ∷ [] } ∷ record { side = Right; number = 9; tags = 0 ∷ maxSetLength ∷ [] } ∷ [])
+example_overlong :
+    first_overlong full 63 []
+    (record { side = Left; number = 9; tags = 5000 ∷ [] } ∷ record { side = Right; number = 9; tags = 0 ∷ max_set_length ∷ [] } ∷ [])
     ≡ Failed (Overlong (63 + 17))
-unfolding full firstOverlong range insert insertAll allTags keep sum
-example-overlong = refl
+unfolding full first_overlong range insert insert_all all_tags keep sum
+example_overlong = refl

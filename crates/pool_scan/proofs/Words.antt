@@ -7,123 +7,123 @@ use Rattle.lists.proofs.Bools.{eqb_comm}
 use Rattle.lists.proofs.Throughout.{any_append}
 use Rattle.bit_sets.specs.BitSets.{member, Inserted}
 use Rattle.bit_sets.proofs.Members.{no_member}
-use Rattle.sets.specs.Limits.{maxSetLength, halfWords}
+use Rattle.sets.specs.Limits.{max_set_length, half_words}
 use Rattle.sets.specs.declared.Side.{Side}
 use Rattle.sets.specs.declared.Side.TheVariants.{Left, Right}
-use Rattle.tag_file.specs.Records.{TagRecord, totalLength, sameSide, ofSide, allTags, collapse}
-use Rattle.tag_file.specs.Loading.{numberUsed}
-use Rattle.tag_file.proofs.FaultFree.{sameSide-sym, side-own, side-other}
-use Rattle.tag_file.proofs.RecordLaws.{same-side}
-use Rattle.pool_loader_spec.specs.Pooling.{sameSet, unitedWith, isOverlong}
-use Rattle.pool_loader_spec.proofs.OneMore.{withTags, none_of, used-keep, united-apart, united-one, sameSet-comm}
-use Rattle.pool_scan.specs.right_slots.Slots.{numberWords, slotWord, pooledMark}
+use Rattle.tag_file.specs.Records.{TagRecord, total_length, same_side, of_side, all_tags, collapse}
+use Rattle.tag_file.specs.Loading.{number_used}
+use Rattle.tag_file.proofs.FaultFree.{same_side-sym, side_own, side_other}
+use Rattle.tag_file.proofs.RecordLaws.{same_side_lem}
+use Rattle.pool_loader_spec.specs.Pooling.{same_set, united_with, is_overlong}
+use Rattle.pool_loader_spec.proofs.OneMore.{with_tags, none_of, used_keep, united_apart, united_one, same_set_comm}
+use Rattle.pool_scan.specs.right_slots.Slots.{number_words, slot_word, pooled_mark}
 
 -- ---- whether a number is used, with one more record
 
-pub used-last : (seen : List TagRecord) (s r : TagRecord) → numberUsed (seen ++ (s ∷ [])) r ≡ (numberUsed seen r || sameSet s r)
+pub used_last : (seen : List TagRecord) (s r : TagRecord) → number_used (seen ++ (s ∷ [])) r ≡ (number_used seen r || same_set s r)
 unfolding any
-used-last seen s r =
-    any_append (λ q. sameSet q r) seen (s ∷ []) ∙ ap (λ (b : Bool). numberUsed seen r || b) (or-false (sameSet s r))
+used_last seen s r =
+    any_append (λ q. same_set q r) seen (s ∷ []) ∙ ap (λ (b : Bool). number_used seen r || b) (or-false (same_set s r))
 
 module _ (seen : List TagRecord) (s : TagRecord) where
   -- ---- the words of the slots
 
   -- of another set
-  pub word-apart : (before : List TagRecord) (r : TagRecord) → sameSet r s ≡ false
-      → slotWord (seen ++ (s ∷ [])) before r ≡ slotWord seen before r
-  word-apart before r e = by_side (sameSide Right s.side) refl
+  pub word_apart : (before : List TagRecord) (r : TagRecord) → same_set r s ≡ false
+      → slot_word (seen ++ (s ∷ [])) before r ≡ slot_word seen before r
+  word_apart before r e = by_side (same_side Right s.side) refl
     where
       word : Bool → List TagRecord → ℕ
-      word b others = cond b (pooledMark + length (collapse (unitedWith others r).tags)) (totalLength before)
+      word b others = cond b (pooled_mark + length (collapse (united_with others r).tags)) (total_length before)
 
-      used : numberUsed (seen ++ (s ∷ [])) r ≡ numberUsed seen r
-      used = used-last seen s r ∙ rw (sameSet-comm s r ∙ e) (or-false (numberUsed seen r))
+      used : number_used (seen ++ (s ∷ [])) r ≡ number_used seen r
+      used = used_last seen s r ∙ rw (same_set_comm s r ∙ e) (or-false (number_used seen r))
 
-      by_side : (b : Bool) → sameSide Right s.side ≡ b → slotWord (seen ++ (s ∷ [])) before r ≡ slotWord seen before r
+      by_side : (b : Bool) → same_side Right s.side ≡ b → slot_word (seen ++ (s ∷ [])) before r ≡ slot_word seen before r
       by_side true right =
-          ap₂ (λ (b : Bool) (q : TagRecord). cond b (pooledMark + length (collapse q.tags)) (totalLength before)) used
-          (ap (λ (l : List TagRecord). unitedWith l r) (side-own Right seen s right) ∙ united-apart (ofSide Right seen) s r e)
+          ap₂ (λ (b : Bool) (q : TagRecord). cond b (pooled_mark + length (collapse q.tags)) (total_length before)) used
+          (ap (λ (l : List TagRecord). united_with l r) (side_own Right seen s right) ∙ united_apart (of_side Right seen) s r e)
       by_side false left =
-          ap₂ (λ (b : Bool) (l : List TagRecord). cond b (pooledMark + length (collapse (unitedWith l r).tags)) (totalLength before))
-          used (side-other Right seen s left)
+          ap₂ (λ (b : Bool) (l : List TagRecord). cond b (pooled_mark + length (collapse (united_with l r).tags)) (total_length before))
+          used (side_other Right seen s left)
 
   -- of the same set, the first that is pooled with it
-  pub word-met : (before : List TagRecord) (r : TagRecord) → sameSide Right s.side ≡ true → sameSet r s ≡ true
-      → numberUsed seen r ≡ false
-      → slotWord (seen ++ (s ∷ [])) before r ≡ pooledMark + length (collapse (r.tags ++ s.tags))
-  word-met before r right same new =
-      let used : numberUsed (seen ++ (s ∷ [])) r ≡ true = used-last seen s r ∙ rw (new, sameSet-comm s r ∙ same) in
-      ap₂ (λ (b : Bool) (q : TagRecord). cond b (pooledMark + length (collapse q.tags)) (totalLength before)) used
-      (ap (λ (l : List TagRecord). unitedWith l r) (side-own Right seen s right)
-      ∙ united-one (ofSide Right seen) s r (used-keep (λ q. sameSide Right q.side) seen r new) same)
+  pub word_met : (before : List TagRecord) (r : TagRecord) → same_side Right s.side ≡ true → same_set r s ≡ true
+      → number_used seen r ≡ false
+      → slot_word (seen ++ (s ∷ [])) before r ≡ pooled_mark + length (collapse (r.tags ++ s.tags))
+  word_met before r right same new =
+      let used : number_used (seen ++ (s ∷ [])) r ≡ true = used_last seen s r ∙ rw (new, same_set_comm s r ∙ same) in
+      ap₂ (λ (b : Bool) (q : TagRecord). cond b (pooled_mark + length (collapse q.tags)) (total_length before)) used
+      (ap (λ (l : List TagRecord). united_with l r) (side_own Right seen s right)
+      ∙ united_one (of_side Right seen) s r (used_keep (λ q. same_side Right q.side) seen r new) same)
 
 -- with none seen each word is a place
-pub word-start : (before : List TagRecord) (r : TagRecord) → slotWord [] before r ≡ totalLength before
+pub word_start : (before : List TagRecord) (r : TagRecord) → slot_word [] before r ≡ total_length before
 unfolding any
-word-start before r = refl
+word_start before r = refl
 
 -- ---- whether the pooled set of a record is too long
 
 module _ (first : List TagRecord) (s : TagRecord) where
-  pub long-left : sameSide Right s.side ≡ false → isOverlong first s ≡ false
-  long-left e = rw e
+  pub long_left : same_side Right s.side ≡ false → is_overlong first s ≡ false
+  long_left e = rw e
 
-  pub long_of : (own : List ℕ) → sameSide Right s.side ≡ true → allTags (keep (sameSet s) first) ≡ own
-      → isOverlong first s ≡ ltb maxSetLength (length (collapse (own ++ s.tags)))
+  pub long_of : (own : List ℕ) → same_side Right s.side ≡ true → all_tags (keep (same_set s) first) ≡ own
+      → is_overlong first s ≡ ltb max_set_length (length (collapse (own ++ s.tags)))
   long_of own right is = rw (right, is)
 
-pub own-none : (first : List TagRecord) (s : TagRecord) → numberUsed first s ≡ false → allTags (keep (sameSet s) first) ≡ []
-unfolding allTags
-own-none first s e = ap allTags (none_of s first e)
+pub own_none : (first : List TagRecord) (s : TagRecord) → number_used first s ≡ false → all_tags (keep (same_set s) first) ≡ []
+unfolding all_tags
+own_none first s e = ap all_tags (none_of s first e)
 
-pub own-one : (first : List TagRecord) (s r : TagRecord) → keep (sameSet s) first ≡ r ∷ [] → allTags (keep (sameSet s) first) ≡ r.tags
-unfolding allTags
-own-one first s r e = ap allTags e ∙ append-nil r.tags
+pub own_one : (first : List TagRecord) (s r : TagRecord) → keep (same_set s) first ≡ r ∷ [] → all_tags (keep (same_set s) first) ≡ r.tags
+unfolding all_tags
+own_one first s r e = ap all_tags e ∙ append-nil r.tags
 
 -- ---- the numbers of the right sets seen
 
 pub record RightNoted (used : List ℕ) (seen : List TagRecord) : Type 0 where
-  pub wide : length used ≡ numberWords
-  pub at : (x : ℕ) → x < halfWords → member used x ≡ any (λ s. sameSide s.side Right && eqb s.number x) seen
+  pub wide : length used ≡ number_words
+  pub at : (x : ℕ) → x < half_words → member used x ≡ any (λ s. same_side s.side Right && eqb s.number x) seen
 
-pub noted-start : RightNoted (replicate numberWords 0) []
+pub noted_start : RightNoted (replicate number_words 0) []
 unfolding any
-noted-start = record { wide = length-replicate {A = ℕ} numberWords 0; at = λ x h. no_member numberWords x }
+noted_start = record { wide = length-replicate {A = ℕ} number_words 0; at = λ x h. no_member number_words x }
 
 module _ {used : List ℕ} {seen : List TagRecord} (n : RightNoted used seen) (s : TagRecord) where
-  by_right : sameSide Right s.side ≡ true → s.side ≡ Right
-  by_right e = sym (same-side Right s.side e)
+  by_right : same_side Right s.side ≡ true → s.side ≡ Right
+  by_right e = sym (same_side_lem Right s.side e)
 
-  pub noted-tells : sameSide Right s.side ≡ true → s.number < halfWords → member used s.number ≡ numberUsed seen s
-  noted-tells right small =
+  pub noted_tells : same_side Right s.side ≡ true → s.number < half_words → member used s.number ≡ number_used seen s
+  noted_tells right small =
       n.at s.number small
-      ∙ ap (λ (t : Side). any (λ q. sameSide q.side t && eqb q.number s.number) seen) (sym (by_right right))
+      ∙ ap (λ (t : Side). any (λ q. same_side q.side t && eqb q.number s.number) seen) (sym (by_right right))
 
-  pub noted-left : sameSide Right s.side ≡ false → RightNoted used (seen ++ (s ∷ []))
+  pub noted_left : same_side Right s.side ≡ false → RightNoted used (seen ++ (s ∷ []))
   unfolding any
-  noted-left left =
+  noted_left left =
       record {
         wide = n.wide;
-        at = λ x h. n.at x h ∙ sym (or-false (any (λ q. sameSide q.side Right && eqb q.number x) seen))
-            ∙ ap (λ (b : Bool). any (λ q. sameSide q.side Right && eqb q.number x) seen || b) (sym (other x))
-            ∙ sym (any_append (λ q. sameSide q.side Right && eqb q.number x) seen (s ∷ []));
+        at = λ x h. n.at x h ∙ sym (or-false (any (λ q. same_side q.side Right && eqb q.number x) seen))
+            ∙ ap (λ (b : Bool). any (λ q. same_side q.side Right && eqb q.number x) seen || b) (sym (other x))
+            ∙ sym (any_append (λ q. same_side q.side Right && eqb q.number x) seen (s ∷ []));
       }
     where
-      other : (x : ℕ) → any (λ q. sameSide q.side Right && eqb q.number x) (s ∷ []) ≡ false
-      other x = rw (sameSide-sym s.side Right ∙ left)
+      other : (x : ℕ) → any (λ q. same_side q.side Right && eqb q.number x) (s ∷ []) ≡ false
+      other x = rw (same_side-sym s.side Right ∙ left)
 
-  pub noted-right : {is : List ℕ} → sameSide Right s.side ≡ true → Inserted used s.number is → RightNoted is (seen ++ (s ∷ []))
+  pub noted_right : {is : List ℕ} → same_side Right s.side ≡ true → Inserted used s.number is → RightNoted is (seen ++ (s ∷ []))
   unfolding any
-  noted-right right i =
+  noted_right right i =
       record {
         wide = i.size ∙ n.wide;
         at = λ x h. i.holds x ∙ ap₂ (λ (a b : Bool). a || b) (this x) (n.at x h)
-            ∙ or_comm (any (λ q. sameSide q.side Right && eqb q.number x) (s ∷ []))
-            (any (λ q. sameSide q.side Right && eqb q.number x) seen)
-            ∙ sym (any_append (λ q. sameSide q.side Right && eqb q.number x) seen (s ∷ []));
+            ∙ or_comm (any (λ q. same_side q.side Right && eqb q.number x) (s ∷ []))
+            (any (λ q. same_side q.side Right && eqb q.number x) seen)
+            ∙ sym (any_append (λ q. same_side q.side Right && eqb q.number x) seen (s ∷ []));
       }
     where
-      this : (x : ℕ) → eqb x s.number ≡ any (λ q. sameSide q.side Right && eqb q.number x) (s ∷ [])
+      this : (x : ℕ) → eqb x s.number ≡ any (λ q. same_side q.side Right && eqb q.number x) (s ∷ [])
       this x =
-          let whole : (sameSide s.side Right && eqb s.number x) ≡ eqb s.number x = rw (by_right right) in
-          eqb_comm x s.number ∙ sym whole ∙ sym (or-false (sameSide s.side Right && eqb s.number x))
+          let whole : (same_side s.side Right && eqb s.number x) ≡ eqb s.number x = rw (by_right right) in
+          eqb_comm x s.number ∙ sym whole ∙ sym (or-false (same_side s.side Right && eqb s.number x))

@@ -1,13 +1,13 @@
 // What the pass over the second of two pooled files counts: the sets, entries and tags of both files, their repeats, and the first set
 // that is too long as a union. A set of both files is counted once; its repeats by the second file's record alone.
 ghost use Rattle.std.specs.Prelude.{◌≡◌, ◌+◌, ◌≤◌, nat_lt};
-ghost use Rattle.sets.specs.Limits.{maxSetLength};
-ghost use Rattle.sets.specs.Refusals.{refuseIf, unless};
+ghost use Rattle.sets.specs.Limits.{max_set_length};
+ghost use Rattle.sets.specs.Refusals.{refuse_if, unless};
 ghost use Rattle.sets.specs.declared.Refusal.TheVariants.{Overlong};
 ghost use Rattle.sets.specs.declared.Tested.TheVariants.{Failed};
 ghost use Rattle.tag_file.specs.declared.LoadAnswer.TheVariants.{Refused};
 ghost use Rattle.tag_scan.specs.totals.Totals.{Limited};
-ghost use Rattle.pool_scan.specs.counting.Counting.{countedFrom, unitedBy, countedBy, acceptedBy, CountReady};
+ghost use Rattle.pool_scan.specs.counting.Counting.{counted_from, united_by, counted_by, accepted_by, CountReady};
 
 use crate::union::United;
 use sets::{MAX_SET_LENGTH, Refusal, Tested};
@@ -30,7 +30,7 @@ pub struct Second {
 
 // What is counted before the second file: what the first file has.
 pub fn count_from(before: Loaded, found: Repeats) -> Counted
-    ensures { result ≡ countedFrom before found }
+    ensures { result ≡ counted_from before found }
 {
     Counted {
         total: before,
@@ -42,8 +42,8 @@ pub fn count_from(before: Loaded, found: Repeats) -> Counted
 // The counts with one more right set of the second file.
 fn grown_by(total: Loaded, united: United) -> Loaded
     requires limited { Limited total }
-    requires first_le_all { (united.first ≤ united.all) × (united.all ≤ maxSetLength + maxSetLength) }
-    ensures { result ≡ unitedBy total united united.met }
+    requires first_le_all { (united.first ≤ united.all) × (united.all ≤ max_set_length + max_set_length) }
+    ensures { result ≡ united_by total united united.met }
 {
     if united.met {
         Loaded {
@@ -66,7 +66,7 @@ fn grown_by(total: Loaded, united: United) -> Loaded
 
 // The first pooled set that is too long: the one before, or this one.
 fn first_long(before: Tested, all: usize, place: usize) -> Tested
-    ensures { result ≡ unless Failed before (refuseIf (nat_lt maxSetLength all) (Overlong place)) }
+    ensures { result ≡ unless Failed before (refuse_if (nat_lt max_set_length all) (Overlong place)) }
 {
     match before {
         Tested::Failed(why) => Tested::Failed(why),
@@ -83,7 +83,7 @@ fn first_long(before: Tested, all: usize, place: usize) -> Tested
 // One more right set of the second file, of so many tags, whose record is at a place.
 pub fn count_set(before: Counted, united: United, count: usize, place: usize) -> Counted
     requires { CountReady before united count }
-    ensures { result ≡ countedBy before united count place }
+    ensures { result ≡ counted_by before united count place }
 {
     let total = grown_by(before.total, united);
     let found = before.repeats;
@@ -112,7 +112,7 @@ pub fn refused(why: Refusal) -> Second
 
 // The answer at the end of a file without fault.
 pub fn accepted(counted: Counted) -> Second
-    ensures { result ≡ acceptedBy counted }
+    ensures { result ≡ accepted_by counted }
 {
     let total = counted.total;
     let repeats = counted.repeats;

@@ -4,7 +4,7 @@
 // set counts as a union; its repeats are the second file's record's alone.
 ghost use Rattle.std.specs.Prelude.{◌≡◌, length};
 ghost use Rattle.bit_sets.specs.BitSets.{Claimed};
-ghost use Rattle.pool_scan.specs.right_slots.Slots.{numberWords};
+ghost use Rattle.pool_scan.specs.right_slots.Slots.{number_words};
 ghost use Rattle.pool_scan.specs.Second.{SecondReady, SecondScanned};
 
 use crate::counting::{Second, accepted, count_from, count_set, refused};
@@ -22,7 +22,7 @@ pub mod union;
 
 // Notes a number, and tells whether it was noted before.
 fn claim(used: &mut [u64], number: u16) -> bool
-    requires { length used.old ≡ numberWords }
+    requires { length used.old ≡ number_words }
     ensures { Claimed used.old number result used.new }
 {
     bit_sets::claim(used, number as usize)

@@ -3,10 +3,10 @@
 ghost use Rattle.std.specs.Prelude.{◌≡◌, ◌+◌, ◌*◌, ◌/◌, ◌%◌, ◌<◌, ◌≤◌, length, replicate};
 ghost use Rattle.lists.specs.Lists.{count, range};
 ghost use Rattle.bit_sets.specs.BitSets.{member};
-ghost use Rattle.sets.specs.Limits.{maxSets, halfWords};
+ghost use Rattle.sets.specs.Limits.{max_sets, half_words};
 ghost use Rattle.sets.specs.declared.Side.TheVariants.{Right};
-ghost use Rattle.tag_file.specs.Records.{records, ofSide};
-ghost use Rattle.pool_scan.specs.right_slots.Slots.{numberWords, blockLength, blocks, numberSlot, BlocksCounted, NumbersNoted};
+ghost use Rattle.tag_file.specs.Records.{records, of_side};
+ghost use Rattle.pool_scan.specs.right_slots.Slots.{number_words, block_length, blocks, number_slot, BlocksCounted, NumbersNoted};
 ghost use Rattle.pool_scan.specs.right_slots.Slots.{Slotted, Slottable};
 
 use bit_sets::{insert, ones_below, ones_of};
@@ -27,7 +27,7 @@ pub const POOLED_MARK: u32 = 2147483648;
 // How many members the block of a word has before the word: those of its first word, or none.
 fn ones_before(used: &[u64], w: usize) -> usize
     requires { w < length used.now }
-    ensures { result ≡ count (member used.now) (range (blockLength * (w / 2)) (64 * (w % 2))) }
+    ensures { result ≡ count (member used.now) (range (block_length * (w / 2)) (64 * (w % 2))) }
 {
     let first = ones_of(used[w - w % BLOCK_WORDS]);
     first * (w % BLOCK_WORDS)
@@ -36,7 +36,7 @@ fn ones_before(used: &[u64], w: usize) -> usize
 // The slot of a number: how many used numbers are below it.
 pub fn number_slot(used: &[u64], counts: &[u16], number: u16) -> usize
     requires { BlocksCounted used.now counts.now }
-    ensures { result ≡ numberSlot used.now number }
+    ensures { result ≡ number_slot used.now number }
 {
     let n = number as usize;
     let w = n / 64;
@@ -48,8 +48,8 @@ pub fn number_slot(used: &[u64], counts: &[u16], number: u16) -> usize
 
 // Notes the numbers of a file's right sets in an empty bit set.
 fn note_numbers(file: &[u8], used: &mut [u64])
-    requires used_value { used.old ≡ replicate numberWords 0 }
-    requires file_len_bound { length (ofSide Right (records file.now)) ≤ maxSets }
+    requires used_value { used.old ≡ replicate number_words 0 }
+    requires file_len_bound { length (of_side Right (records file.now)) ≤ max_sets }
     ensures { NumbersNoted (records file.now) used.new }
 {
     let mut at = 0;
@@ -76,7 +76,7 @@ fn note_numbers(file: &[u8], used: &mut [u64])
 // How many members a block has.
 fn block_ones(used: &[u64], b: usize) -> usize
     requires { 2 * b + 1 < length used.now }
-    ensures { result ≡ count (member used.now) (range (blockLength * b) blockLength) }
+    ensures { result ≡ count (member used.now) (range (block_length * b) block_length) }
 {
     let first = ones_of(used[BLOCK_WORDS * b]);
     let second = ones_of(used[BLOCK_WORDS * b + 1]);
@@ -85,9 +85,9 @@ fn block_ones(used: &[u64], b: usize) -> usize
 
 // Writes the slots at which the blocks begin.
 fn count_blocks(used: &[u64], counts: &mut [u16])
-    requires used_len { length used.now ≡ numberWords }
+    requires used_len { length used.now ≡ number_words }
     requires counts_len { length counts.old ≡ blocks }
-    requires half_words_bound { numberSlot used.now halfWords ≤ maxSets }
+    requires half_words_bound { number_slot used.now half_words ≤ max_sets }
     ensures { BlocksCounted used.now counts.new }
 {
     let mut total: usize = 0;
@@ -102,7 +102,7 @@ fn put_places(file: &[u8], used: &[u64], counts: &[u16], slots: &mut [u32])
     requires slottable { Slottable file.now }
     requires numbers_noted { NumbersNoted (records file.now) used.now }
     requires blocks_counted { BlocksCounted used.now counts.now }
-    requires slots_len { length slots.old ≡ maxSets }
+    requires slots_len { length slots.old ≡ max_sets }
     ensures { Slotted file.now used.now counts.now slots.new }
 {
     let mut at = 0;
@@ -130,9 +130,9 @@ fn put_places(file: &[u8], used: &[u64], counts: &[u16], slots: &mut [u32])
 
 // Gives each right set of a file its slot, with its record's byte place: notes the numbers, counts the blocks, and puts the places.
 pub fn index_right(file: &[u8], used: &mut [u64], counts: &mut [u16], slots: &mut [u32])
-    requires used_value { used.old ≡ replicate numberWords 0 }
+    requires used_value { used.old ≡ replicate number_words 0 }
     requires counts_len { length counts.old ≡ blocks }
-    requires slots_len { length slots.old ≡ maxSets }
+    requires slots_len { length slots.old ≡ max_sets }
     requires slottable { Slottable file.now }
     ensures { Slotted file.now used.new counts.new slots.new }
 {

@@ -1,9 +1,9 @@
 // The tags of one right set of the second of two pooled files, taken into the index as a union: if the first file has a set of its
 // number, the tags of that record are marked again, and then the second's that are new.
 ghost use Rattle.std.specs.Prelude.{◌≡◌, ℕ, [], replicate};
-ghost use Rattle.tag_file.specs.Reading.{tagsAt};
+ghost use Rattle.tag_file.specs.Reading.{tags_at};
 ghost use Rattle.tag_index.specs.Index.{table_of};
-ghost use Rattle.tag_index.specs.tag_adding.Adding.{seenWords, AllAdded};
+ghost use Rattle.tag_index.specs.tag_adding.Adding.{seen_words, AllAdded};
 ghost use Rattle.pool_scan.specs.union.Union.{WholeRecordAt, KnownRecordAt, IndexReady, TagsInside, AddedAlone, AddedBoth};
 ghost use Rattle.pool_scan.specs.union.Union.{UniteReady, Taking};
 
@@ -37,7 +37,7 @@ fn add_first(
     n: usize,
 ) -> Added
     requires index_ready { IndexReady heads.old tails.old n ids.old }
-    requires seen_value { seen.old ≡ replicate seenWords 0 }
+    requires seen_value { seen.old ≡ replicate seen_words 0 }
     ensures { (count start : ℕ) → WholeRecordAt first.now at count start
         → AllAdded [] first.now start count n heads.old tails.old ids.old
         result.tag_count result.distinct heads.new tails.new ids.new seen.new }
@@ -73,7 +73,7 @@ fn add_alone(
 ) -> United
     requires index_ready { IndexReady heads.old tails.old n ids.old }
     requires tags_inside { TagsInside second.now start count }
-    ensures { AddedAlone (tagsAt count second.now start)
+    ensures { AddedAlone (tags_at count second.now start)
         heads.old tails.old n ids.old result
         heads.new tails.new ids.new }
 {
@@ -110,7 +110,7 @@ fn add_both(
     requires index_ready { IndexReady heads.old tails.old n ids.old }
     requires tags_inside { TagsInside second.now start count }
     requires known_record_at { KnownRecordAt first.now at (table_of heads.old tails.old n ids.old) }
-    ensures { AddedBoth first.now at (tagsAt count second.now start)
+    ensures { AddedBoth first.now at (tags_at count second.now start)
         heads.old tails.old n ids.old result
         heads.new tails.new ids.new }
 {

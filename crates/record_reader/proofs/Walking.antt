@@ -8,19 +8,19 @@ use native.Mathlib.Omega.{arith}
 use borrow.Author.Tests.{ne_eqb}
 use lib.ListN.{get_or}
 use Rattle.lists.specs.Lists.{memb}
-use Rattle.tag_file.specs.Reading.{tagsAt}
-use Rattle.tag_file.proofs.RecordLaws.{tagsAt-last, memb-tagsAt}
-use Rattle.tag_file.proofs.Tables.{three_ways, memb-last}
-use Rattle.record_reader.specs.Chains.{bucketOf, tag_of, LastIn, Linked}
+use Rattle.tag_file.specs.Reading.{tags_at}
+use Rattle.tag_file.proofs.RecordLaws.{tags_at_last, memb-tags_at}
+use Rattle.tag_file.proofs.Tables.{three_ways, memb_last}
+use Rattle.record_reader.specs.Chains.{bucket_of, tag_of, LastIn, Linked}
 
 -- ---- whether x is among the first k tags of a record
 
 module _ (file : List ℕ) (start x : ℕ) where
-  absent : (k : ℕ) → ((m : ℕ) → m < k → tag_of file start m ≡ x → ⊥) → memb x (tagsAt k file start) ≡ false
-  unfolding memb tagsAt
+  absent : (k : ℕ) → ((m : ℕ) → m < k → tag_of file start m ≡ x → ⊥) → memb x (tags_at k file start) ≡ false
+  unfolding memb tags_at
   absent zero never = refl
   absent (suc k) never =
-      ap (memb x) (tagsAt-last k file start) ∙ memb-last x (tagsAt k file start) (tag_of file start k)
+      ap (memb x) (tags_at_last k file start) ∙ memb_last x (tags_at k file start) (tag_of file start k)
       ∙ rw (
         absent k (λ m below. never m (omega arith)),
         ne_eqb x (tag_of file start k) (λ e. never k (omega arith) (sym e)),
@@ -31,21 +31,21 @@ module _ (file : List ℕ) (start x : ℕ) where
 -- j links to a tag of the same bucket as tag k, and from there up to k no tag is the same as tag k
 pub record Walked (file : List ℕ) (start k j : ℕ) : Type 0 where
   pub within : j ≤ k
-  pub here : 0 < j → bucketOf (tag_of file start (j - 1)) ≡ bucketOf (tag_of file start k)
+  pub here : 0 < j → bucket_of (tag_of file start (j - 1)) ≡ bucket_of (tag_of file start k)
   pub none : (m : ℕ) → j ≤ m → m < k → tag_of file start m ≡ tag_of file start k → ⊥
 
 module _ {file : List ℕ} {start k : ℕ} {links : List ℕ} (l : Linked file start (k + 1) links) where
   pub walked_start : {j : ℕ} → j ≡ get_or links k 0 → Walked file start k j
   walked_start {j} e =
-      let last : LastIn file start (bucketOf (tag_of file start k)) k j = rw e (l.link k (omega arith)) in
-      record { within = last.within; here = last.here; none = λ m from below same. last.none m from below (ap bucketOf same) }
+      let last : LastIn file start (bucket_of (tag_of file start k)) k j = rw e (l.link k (omega arith)) in
+      record { within = last.within; here = last.here; none = λ m from below same. last.none m from below (ap bucket_of same) }
 
   module _ {j : ℕ} (w : Walked file start k j) (some : 0 < j) {next : ℕ} (e : next ≡ get_or links (j - 1) 0) where
-    linked : LastIn file start (bucketOf (tag_of file start (j - 1))) (j - 1) next
+    linked : LastIn file start (bucket_of (tag_of file start (j - 1))) (j - 1) next
     linked = rw e (l.link (j - 1) (omega (arith, w.within)))
 
-    pub walked-less : next < j
-    walked-less = omega (arith, linked.within)
+    pub walked_less : next < j
+    walked_less = omega (arith, linked.within)
 
     pub walked_step : (tag_of file start (j - 1) ≡ tag_of file start k → ⊥) → Walked file start k next
     walked_step other =
@@ -54,16 +54,16 @@ module _ {file : List ℕ} {start k : ℕ} {links : List ℕ} (l : Linked file s
           here = λ more. linked.here more ∙ w.here some;
           none = λ m from below same.
               three_ways m (j - 1)
-              (λ less. linked.none m from less (ap bucketOf same ∙ sym (w.here some)))
+              (λ less. linked.none m from less (ap bucket_of same ∙ sym (w.here some)))
               (λ it. other (sym (ap (tag_of file start) it) ∙ same))
               (λ more. w.none m (omega arith) below same);
         }
 
 module _ {file : List ℕ} {start k j : ℕ} (w : Walked file start k j) where
-  pub walked-found : 0 < j → tag_of file start (j - 1) ≡ tag_of file start k
-      → true ≡ memb (tag_of file start k) (tagsAt k file start)
-  walked-found some same =
-      sym (ap (λ (x : ℕ). memb x (tagsAt k file start)) (sym same) ∙ memb-tagsAt k file start (j - 1) (omega (arith, w.within)))
+  pub walked_found : 0 < j → tag_of file start (j - 1) ≡ tag_of file start k
+      → true ≡ memb (tag_of file start k) (tags_at k file start)
+  walked_found some same =
+      sym (ap (λ (x : ℕ). memb x (tags_at k file start)) (sym same) ∙ memb-tags_at k file start (j - 1) (omega (arith, w.within)))
 
-  pub walked_end : j ≤ 0 → false ≡ memb (tag_of file start k) (tagsAt k file start)
+  pub walked_end : j ≤ 0 → false ≡ memb (tag_of file start k) (tags_at k file start)
   walked_end done = sym (absent file start (tag_of file start k) k (λ m below same. w.none m (omega arith) below same))

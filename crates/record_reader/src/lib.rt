@@ -3,10 +3,10 @@
 // as many steps as a bucket has tags, few unless they were chosen for it, and is right wherever the tags fall.
 ghost use Rattle.std.specs.Prelude.{◌≡◌, ◌+◌, ◌≤◌, ◌<◌, length};
 ghost use Rattle.lists.specs.Lists.{memb};
-ghost use Rattle.sets.specs.Limits.{maxSetLength, fullWords};
-ghost use Rattle.tag_file.specs.Reading.{pastTags, tagsAt};
-ghost use Rattle.tag_file.specs.Repeats.{repeatsIn, recordRead};
-ghost use Rattle.tag_index.specs.tag_words.Words.{tagValue};
+ghost use Rattle.sets.specs.Limits.{max_set_length, full_words};
+ghost use Rattle.tag_file.specs.Reading.{past_tags, tags_at};
+ghost use Rattle.tag_file.specs.Repeats.{repeats_in, record_read};
+ghost use Rattle.tag_index.specs.tag_words.Words.{tag_value};
 ghost use Rattle.record_reader.specs.Chains.{tag_of, BucketIs, TagThere, Linked, Chained};
 
 use sets::MAX_SET_LENGTH;
@@ -18,8 +18,8 @@ const BUCKETS: usize = 251;
 
 // The bucket of a tag.
 fn bucket_of(tag: Tag) -> usize
-    requires { tag.lo < fullWords }
-    ensures { BucketIs (tagValue tag) result }
+    requires { tag.lo < full_words }
+    ensures { BucketIs (tag_value tag) result }
 {
     (tag.hi % BUCKETS + tag.lo) % BUCKETS
 }
@@ -52,7 +52,7 @@ fn link(
 fn is_repeat(file: &[u8], start: usize, k: usize, links: &[u16; MAX_SET_LENGTH]) -> bool
     requires tag_there { TagThere file.now start k }
     requires linked { Linked file.now start (k + 1) links.now }
-    ensures { result ≡ memb (tag_of file.now start k) (tagsAt k file.now start) }
+    ensures { result ≡ memb (tag_of file.now start k) (tags_at k file.now start) }
 {
     let tag = tag_at(file, start + TAG_LENGTH * k);
     let mut j = widen_link(links[k]);
@@ -69,9 +69,9 @@ fn is_repeat(file: &[u8], start: usize, k: usize, links: &[u16; MAX_SET_LENGTH])
 
 // How many tags of a record whose first tag is at start are repeats.
 fn count_repeats(file: &[u8], start: usize, count: usize) -> usize
-    requires count_in_bounds { pastTags start count ≤ length file.now }
-    requires count_le_max_set_length { count ≤ maxSetLength }
-    ensures { result ≡ repeatsIn (tagsAt count file.now start) }
+    requires count_in_bounds { past_tags start count ≤ length file.now }
+    requires count_le_max_set_length { count ≤ max_set_length }
+    ensures { result ≡ repeats_in (tags_at count file.now start) }
 {
     let mut last = [0u16; BUCKETS];
     let mut links = [0u16; MAX_SET_LENGTH];
@@ -89,7 +89,7 @@ fn count_repeats(file: &[u8], start: usize, count: usize) -> usize
 
 // Reads the record at a place of a file, and counts its repeats.
 pub fn read(file: &[u8], at: usize) -> RecordRead
-    ensures { result ≡ recordRead file.now at }
+    ensures { result ≡ record_read file.now at }
 {
     let answer = read_record(file, at);
     let ReadAnswer::Record {

@@ -6,7 +6,7 @@ use native.Mathlib.Numerals.{add-one}
 use native.Mathlib.Omega.{arith}
 use lib.ListN.{length, get_or, drop, length-take, length-drop}
 use lib.Seq.{drop-cons}
-use Rattle.sets.specs.Collections.{between, setsFrom}
+use Rattle.sets.specs.Collections.{between, sets_from}
 
 pub between_cons : (start end : ℕ) (l : List ℕ) → start < end → end ≤ length l
     → between start end l ≡ get_or l start 0 ∷ between (start + 1) end l
@@ -15,8 +15,8 @@ between_cons start end l below within =
     let first : drop start l ≡ get_or l start 0 ∷ drop (suc start) l = drop-cons l start 0 (omega arith) in
     rw (more, first, add-one start)
 
-pub between-nil : (start end : ℕ) (l : List ℕ) → end ≤ start → between start end l ≡ []
-between-nil start end l past =
+pub between_nil : (start end : ℕ) (l : List ℕ) → end ≤ start → between start end l ≡ []
+between_nil start end l past =
     let none : end - start ≡ 0 = omega arith in
     rw none
 
@@ -24,7 +24,7 @@ pub length-between : (start end : ℕ) (l : List ℕ) → end ≤ length l → l
 length-between start end l within = simp (length-take, length-drop) (omega arith)
 
 -- a collection has as many sets as ends
-pub length-sets : (start : ℕ) (ends items : List ℕ) → length (setsFrom start ends items) ≡ length ends
-unfolding setsFrom
+pub length-sets : (start : ℕ) (ends items : List ℕ) → length (sets_from start ends items) ≡ length ends
+unfolding sets_from
 length-sets start [] items = refl
 length-sets start (end ∷ ends) items = ap suc (length-sets end ends items)

@@ -5,9 +5,9 @@ use Rattle.sets.specs.declared.Refusal.{Refusal}
 use Rattle.sets.specs.Refusals.{clears}
 
 -- a list filled from its beginning, and as before beyond
-abbrev pub filledOver : List ℕ → List ℕ → List ℕ
-filledOver part before = part ++ drop (length part) before
+abbrev pub filled_over : List ℕ → List ℕ → List ℕ
+filled_over part before = part ++ drop (length part) before
 
 -- a list after a refusal: zeros, or as before
-abbrev pub afterRefusal : Refusal → List ℕ → List ℕ
-afterRefusal why before = cond (clears why) (replicate (length before) 0) before
+abbrev pub after_refusal : Refusal → List ℕ → List ℕ
+after_refusal why before = cond (clears why) (replicate (length before) 0) before

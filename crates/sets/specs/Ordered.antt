@@ -4,8 +4,8 @@ use Rattle.std.specs.Prelude.{ℕ, List, Bool, ◌&&◌, eqb, ltb, length, get_o
 use Rattle.lists.specs.Lists.{all, any, keep, distinct, upto}
 
 -- whether a rank table is a permutation of 0 .. T-1: T numbers below T, no two alike
-unfoldable pub isPermutation : ℕ → List ℕ → Bool
-isPermutation T ranks = eqb (length ranks) T && (all (λ r. ltb r T) ranks && distinct ranks)
+unfoldable pub is_permutation : ℕ → List ℕ → Bool
+is_permutation T ranks = eqb (length ranks) T && (all (λ r. ltb r T) ranks && distinct ranks)
 
 -- a set in order of rising rank, as the list of its ranks: those r below T that some item of it has
 unfoldable pub ordered : ℕ → List ℕ → List ℕ → List ℕ

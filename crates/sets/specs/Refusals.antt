@@ -25,9 +25,9 @@ abbrev pub keeping : ℕ → ℕ → ℕ → Row
 keeping number first second = record { number = number; first = first; second = second; clears = false }
 
 -- the number of a side
-abbrev pub sideNumber : Side → ℕ
-sideNumber Left = 0
-sideNumber Right = 1
+abbrev pub side_number : Side → ℕ
+side_number Left = 0
+side_number Right = 1
 
 -- the table; a place is the byte place of a record, or the place of a set
 abbrev pub row_of : Refusal → Row
@@ -35,7 +35,7 @@ row_of (Malformed place) = clearing 1 place
 row_of (NumberUsed place) = clearing 2 place
 row_of (TooMany place) = clearing 3 place
 row_of ShortOutput = clearing 4 0
-row_of (BadSet side place) = keeping 5 (sideNumber side) place
+row_of (BadSet side place) = keeping 5 (side_number side) place
 row_of BadSettings = keeping 6 0 0
 row_of ShortWork = keeping 7 0 0
 row_of Spent = clearing 8 0
@@ -47,21 +47,21 @@ abbrev pub clears : Refusal → Bool
 clears why = (row_of why).clears
 
 -- the words of an answer that refuses: number, what returns with it, and a zero for each value that an accepted one would have
-abbrev pub refusedWords : Refusal → ℕ → List ℕ
-refusedWords why values = (row_of why).number ∷ (row_of why).first ∷ (row_of why).second ∷ replicate values 0
+abbrev pub refused_words : Refusal → ℕ → List ℕ
+refused_words why values = (row_of why).number ∷ (row_of why).first ∷ (row_of why).second ∷ replicate values 0
 
 -- the words of an answer that accepts: three zeros, then the values
-abbrev pub acceptedWords : List ℕ → List ℕ
-acceptedWords values = 0 ∷ 0 ∷ 0 ∷ values
+abbrev pub accepted_words : List ℕ → List ℕ
+accepted_words values = 0 ∷ 0 ∷ 0 ∷ values
 
 -- a test that fails with this refusal if something is wrong
-abbrev pub refuseIf : Bool → Refusal → Tested
-refuseIf wrong why = cond wrong (Failed why) Passed
+abbrev pub refuse_if : Bool → Refusal → Tested
+refuse_if wrong why = cond wrong (Failed why) Passed
 
 -- the test of a side's sets, by its first bad one
-abbrev pub noBadSet : Side → Verdict → Tested
-noBadSet side Good = Passed
-noBadSet side (Bad place) = Failed (BadSet side place)
+abbrev pub no_bad_set : Side → Verdict → Tested
+no_bad_set side Good = Passed
+no_bad_set side (Bad place) = Failed (BadSet side place)
 
 -- the refusal of a failed test, or else what follows
 abbrev pub unless : {A : Type 0} → (Refusal → A) → Tested → A → A

@@ -8,13 +8,13 @@ unfoldable pub position : ℕ → ℕ
 position k = 3 ^ k % 257 % 64
 
 -- the word m with the bits of the items set too
-unfoldable pub signatureFrom : ℕ → List ℕ → ℕ
-signatureFrom m [] = m
-signatureFrom m (k ∷ ks) = signatureFrom (bit_or m (2 ^ position k)) ks
+unfoldable pub signature_from : ℕ → List ℕ → ℕ
+signature_from m [] = m
+signature_from m (k ∷ ks) = signature_from (bit_or m (2 ^ position k)) ks
 
 -- the signature of a set
 abbrev pub signature : List ℕ → ℕ
-signature set = signatureFrom 0 set
+signature set = signature_from 0 set
 
 -- whether a bit of the left signature is missing in the right one: the pair is dropped
 abbrev pub drops : ℕ → ℕ → Bool

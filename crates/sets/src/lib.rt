@@ -59,11 +59,11 @@ pub struct Head {
 
 ghost use Rattle.std.specs.Prelude.{◌≡◌};
 ghost use Rattle.sets.specs.Collections.{entries};
-ghost use Rattle.sets.specs.Refusals.{sideNumber, row_of};
+ghost use Rattle.sets.specs.Refusals.{side_number, row_of};
 
 // The number of a side.
 pub fn side_word(side: Side) -> u64
-    ensures { result ≡ sideNumber side }
+    ensures { result ≡ side_number side }
 {
     match side {
         Side::Left => 0,

@@ -10,28 +10,28 @@ use borrow.Author.Tests.{eqb-true, eqb-false}
 use lib.Dec.{eqb}
 use lib.ListN.{length, get_or, take, drop}
 use lib.Seq.{drop-cons, drop-drop, get_or-drop}
-use Rattle.lists.proofs.Bools.{by-test}
-use Rattle.lists.proofs.Slices.{frame-less, frame_at}
-use Rattle.sets.specs.Limits.{fullWords}
-use Rattle.sets.specs.Collections.{between, setsFrom, setsOf}
+use Rattle.lists.proofs.Bools.{by_test}
+use Rattle.lists.proofs.Slices.{frame_less, frame_at}
+use Rattle.sets.specs.Limits.{full_words}
+use Rattle.sets.specs.Collections.{between, sets_from, sets_of}
 use Rattle.sets.specs.Signatures.{signature}
 use Rattle.sets.proofs.Between.{length-sets}
 use Rattle.signatures.specs.Signing.{double, DoubleStored, Signed, BothRoom, BothSigned}
 
 -- two words below a place up to which nothing changed
-pub double-stays : (n i : ℕ) (was is : List ℕ) → take n is ≡ take n was → i + 2 ≤ n → double is i ≡ double was i
-double-stays n i was is frame below =
-    ap₂ (λ (a b : ℕ). a + fullWords * b) (frame_at 0 i n was is (omega arith) frame)
+pub double_stays : (n i : ℕ) (was is : List ℕ) → take n is ≡ take n was → i + 2 ≤ n → double is i ≡ double was i
+double_stays n i was is frame below =
+    ap₂ (λ (a b : ℕ). a + full_words * b) (frame_at 0 i n was is (omega arith) frame)
     (frame_at 0 (i + 1) n was is (omega arith) frame)
 
 -- the signatures of the first k sets are written; the others begin at start
 pub record SetsSigning (at : ℕ) (ends items was is : List ℕ) (start k : ℕ) : Type 0 where
-  pub signed : Signed at k (setsOf ends items) was is
-  pub sets : setsFrom start (drop k ends) items ≡ drop k (setsOf ends items)
+  pub signed : Signed at k (sets_of ends items) was is
+  pub sets : sets_from start (drop k ends) items ≡ drop k (sets_of ends items)
   pub place : k ≤ length ends
 
-pub signing-start : {at : ℕ} {ends items w : List ℕ} → SetsSigning at ends items w w 0 0
-signing-start =
+pub signing_start : {at : ℕ} {ends items w : List ℕ} → SetsSigning at ends items w w 0 0
+signing_start =
     record {
       signed = record { frame = refl; size = refl; signatures = λ k below. absurd (omega arith) };
       sets = refl;
@@ -40,22 +40,22 @@ signing-start =
 
 module _ {at : ℕ} {ends items was is : List ℕ} {start k : ℕ} (signing : SetsSigning at ends items was is start k)
     (below : k < length ends) where
-  sets-here : drop k (setsOf ends items)
-      ≡ between start (get_or ends k 0) items ∷ setsFrom (get_or ends k 0) (drop (suc k) ends) items
-  unfolding setsFrom
-  sets-here = sym signing.sets ∙ ap (λ (l : List ℕ). setsFrom start l items) (drop-cons ends k 0 below)
+  sets_here : drop k (sets_of ends items)
+      ≡ between start (get_or ends k 0) items ∷ sets_from (get_or ends k 0) (drop (suc k) ends) items
+  unfolding sets_from
+  sets_here = sym signing.sets ∙ ap (λ (l : List ℕ). sets_from start l items) (drop-cons ends k 0 below)
 
-  pub set_here : get_or (setsOf ends items) k [] ≡ between start (get_or ends k 0) items
+  pub set_here : get_or (sets_of ends items) k [] ≡ between start (get_or ends k 0) items
   set_here =
-      ap (λ (j : ℕ). get_or (setsOf ends items) j []) (sym (add-zero k))
-      ∙ sym (get_or-drop k (setsOf ends items) 0 [])
-      ∙ ap (λ (l : List (List ℕ)). get_or l 0 []) sets-here
+      ap (λ (j : ℕ). get_or (sets_of ends items) j []) (sym (add-zero k))
+      ∙ sym (get_or-drop k (sets_of ends items) 0 [])
+      ∙ ap (λ (l : List (List ℕ)). get_or l 0 []) sets_here
 
-  sets-next : setsFrom (get_or ends k 0) (drop (k + 1) ends) items ≡ drop (k + 1) (setsOf ends items)
-  sets-next =
-      ap (λ (j : ℕ). setsFrom (get_or ends k 0) (drop j ends) items) (add-one k)
-      ∙ sym (ap (λ (l : List (List ℕ)). drop 1 l) sets-here)
-      ∙ drop-drop 1 k (setsOf ends items)
+  sets_next : sets_from (get_or ends k 0) (drop (k + 1) ends) items ≡ drop (k + 1) (sets_of ends items)
+  sets_next =
+      ap (λ (j : ℕ). sets_from (get_or ends k 0) (drop j ends) items) (add-one k)
+      ∙ sym (ap (λ (l : List (List ℕ)). drop 1 l) sets_here)
+      ∙ drop-drop 1 k (sets_of ends items)
 
   pub signing_step : {next : List ℕ} {mark : ℕ} → mark ≡ signature (between start (get_or ends k 0) items)
       → DoubleStored (at + 2 * k) mark is next → SetsSigning at ends items was next (get_or ends k 0) (k + 1)
@@ -63,41 +63,41 @@ module _ {at : ℕ} {ends items was is : List ℕ} {start k : ℕ} (signing : Se
       record {
         signed =
             record {
-              frame = frame-less at (at + 2 * k) is next (omega arith) stored.frame ∙ signing.signed.frame;
+              frame = frame_less at (at + 2 * k) is next (omega arith) stored.frame ∙ signing.signed.frame;
               size = stored.size ∙ signing.signed.size;
               signatures = λ j h.
-                  by-test (eqb j k)
+                  by_test (eqb j k)
                   (λ same.
-                  subst (λ (i : ℕ). double next (at + 2 * i) ≡ signature (get_or (setsOf ends items) i []))
+                  subst (λ (i : ℕ). double next (at + 2 * i) ≡ signature (get_or (sets_of ends items) i []))
                   (sym (eqb-true j k same))
                   (stored.is ∙ e ∙ ap (λ (l : List ℕ). signature l) (sym set_here)))
                   (λ differ.
                   let other : j ≢ k = eqb-false j k differ in
-                  double-stays (at + 2 * k) (at + 2 * j) is next stored.frame (omega arith)
+                  double_stays (at + 2 * k) (at + 2 * j) is next stored.frame (omega arith)
                   ∙ signing.signed.signatures j (omega arith));
             };
-        sets = sets-next;
+        sets = sets_next;
         place = omega arith;
       }
 
 pub signing_end : {at : ℕ} {ends items was is : List ℕ} {start k : ℕ} → SetsSigning at ends items was is start k
-    → length ends ≤ k → Signed at (length ends) (setsOf ends items) was is
+    → length ends ≤ k → Signed at (length ends) (sets_of ends items) was is
 signing_end {at} {ends} {items} {was} {is} {start} {k} signing past =
     let here : k ≡ length ends = omega (arith, signing.place) in
-    subst (λ (n : ℕ). Signed at n (setsOf ends items) was is) here signing.signed
+    subst (λ (n : ℕ). Signed at n (sets_of ends items) was is) here signing.signed
 
 -- the right sets first, the left sets above them
-pub both-signed : {right left : ℕ} {rightEnds rightItems leftEnds leftItems w v u : List ℕ}
-    → BothRoom right left rightEnds rightItems leftEnds leftItems w
-    → Signed right (length rightEnds) (setsOf rightEnds rightItems) w v
-    → Signed left (length leftEnds) (setsOf leftEnds leftItems) v u
-    → BothSigned right left (setsOf rightEnds rightItems) (setsOf leftEnds leftItems) w u
-both-signed {right} {left} {rightEnds} {rightItems} {leftEnds} {leftItems} {w} {v} {u} room low high =
+pub both_signed : {right left : ℕ} {right_ends right_items left_ends left_items w v u : List ℕ}
+    → BothRoom right left right_ends right_items left_ends left_items w
+    → Signed right (length right_ends) (sets_of right_ends right_items) w v
+    → Signed left (length left_ends) (sets_of left_ends left_items) v u
+    → BothSigned right left (sets_of right_ends right_items) (sets_of left_ends left_items) w u
+both_signed {right} {left} {right_ends} {right_items} {left_ends} {left_items} {w} {v} {u} room low high =
     record {
-      frame = frame-less right left v u (omega (arith, room.above)) high.frame ∙ low.frame;
+      frame = frame_less right left v u (omega (arith, room.above)) high.frame ∙ low.frame;
       size = high.size ∙ low.size;
       right = λ s h.
-          let below : s < length rightEnds = omega (arith, length-sets 0 rightEnds rightItems) in
-          double-stays left (right + 2 * s) v u high.frame (omega (arith, room.above)) ∙ low.signatures s below;
-      left = λ k h. high.signatures k (omega (arith, length-sets 0 leftEnds leftItems));
+          let below : s < length right_ends = omega (arith, length-sets 0 right_ends right_items) in
+          double_stays left (right + 2 * s) v u high.frame (omega (arith, room.above)) ∙ low.signatures s below;
+      left = λ k h. high.signatures k (omega (arith, length-sets 0 left_ends left_items));
     }

@@ -1,6 +1,6 @@
 -- Inner: what the loops that make the signatures need and leave: for each set two words, low then high.
 use Rattle.std.specs.Prelude.{ℕ, ◌+◌, ◌*◌, ◌≤◌, ◌<◌, ◌≡◌, List, [], length, take, drop, get_or}
-use Rattle.sets.specs.Limits.{fullWords}
+use Rattle.sets.specs.Limits.{full_words}
 use Rattle.sets.specs.Signatures.{signature}
 
 -- no set of a collection ends past its items
@@ -9,7 +9,7 @@ EndsWithin ends items = (k : ℕ) → k < length ends → get_or ends k 0 ≤ le
 
 -- two words, low then high, as one number
 abbrev pub double : List ℕ → ℕ → ℕ
-double w i = get_or w i 0 + fullWords * get_or w (i + 1) 0
+double w i = get_or w i 0 + full_words * get_or w (i + 1) 0
 
 -- w became w': the number is in two words from at on, and no other word changed
 pub record DoubleStored (at number : ℕ) (w w' : List ℕ) : Type 0 where
@@ -30,15 +30,15 @@ pub record Signed (at n : ℕ) (sets : List (List ℕ)) (w w' : List ℕ) : Type
   pub signatures : (k : ℕ) → k < n → double w' (at + 2 * k) ≡ signature (get_or sets k [])
 
 -- two collections, with room for the signatures of the right sets and above them of the left
-pub record BothRoom (rightAt left_at : ℕ) (rightEnds rightItems leftEnds leftItems w : List ℕ) : Type 0 where
-  pub rightWithin : EndsWithin rightEnds rightItems
-  pub leftWithin : EndsWithin leftEnds leftItems
-  pub above : rightAt + 2 * length rightEnds ≤ left_at
-  pub room : left_at + 2 * length leftEnds ≤ length w
+pub record BothRoom (right_at left_at : ℕ) (right_ends right_items left_ends left_items w : List ℕ) : Type 0 where
+  pub right_within : EndsWithin right_ends right_items
+  pub left_within : EndsWithin left_ends left_items
+  pub above : right_at + 2 * length right_ends ≤ left_at
+  pub room : left_at + 2 * length left_ends ≤ length w
 
 -- w became w': both sides have their signatures
-pub record BothSigned (rightAt left_at : ℕ) (rights lefts : List (List ℕ)) (w w' : List ℕ) : Type 0 where
-  pub frame : take rightAt w' ≡ take rightAt w
+pub record BothSigned (right_at left_at : ℕ) (rights lefts : List (List ℕ)) (w w' : List ℕ) : Type 0 where
+  pub frame : take right_at w' ≡ take right_at w
   pub size : length w' ≡ length w
-  pub right : (s : ℕ) → s < length rights → double w' (rightAt + 2 * s) ≡ signature (get_or rights s [])
+  pub right : (s : ℕ) → s < length rights → double w' (right_at + 2 * s) ≡ signature (get_or rights s [])
   pub left : (k : ℕ) → k < length lefts → double w' (left_at + 2 * k) ≡ signature (get_or lefts k [])

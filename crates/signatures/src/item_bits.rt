@@ -2,7 +2,7 @@
 
 ghost use Rattle.std.specs.Prelude.{◌≡◌};
 ghost use Rattle.sets.specs.Signatures.{position};
-ghost use Rattle.signatures.specs.item_bits.Bits.{positionTable};
+ghost use Rattle.signatures.specs.item_bits.Bits.{position_table};
 
 // (3^k mod 257) mod 64 for k from 0 to 255, sixteen a row, in hexadecimal.
 const POSITIONS: [u8; 256] = *b"\
@@ -25,14 +25,14 @@ const POSITIONS: [u8; 256] = *b"\
 
 // The table in memory. A constant is copied wherever code names it, so this is called once and its result lent to all sets.
 pub fn position_table() -> [u8; 256]
-    ensures { result ≡ positionTable }
+    ensures { result ≡ position_table }
 {
     POSITIONS
 }
 
 // The bit of an item: powers of 3 modulo 257 repeat after 256.
 pub fn position_of(table: &[u8; 256], item: u16) -> u8
-    requires { table.now ≡ positionTable }
+    requires { table.now ≡ position_table }
     ensures { result ≡ position item }
 {
     table[item as usize % 256]

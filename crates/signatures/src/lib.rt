@@ -2,9 +2,9 @@
 // `item_bits` has the bit of each item.
 
 ghost use Rattle.std.specs.Prelude.{◌≡◌, ◌+◌, ◌≤◌, length};
-ghost use Rattle.sets.specs.Collections.{between, setsOf};
+ghost use Rattle.sets.specs.Collections.{between, sets_of};
 ghost use Rattle.sets.specs.Signatures.{signature};
-ghost use Rattle.signatures.specs.item_bits.Bits.{positionTable};
+ghost use Rattle.signatures.specs.item_bits.Bits.{position_table};
 ghost use Rattle.signatures.specs.Signing.{double, DoubleStored, SigningRoom, Signed};
 ghost use Rattle.signatures.specs.Signing.{BothRoom, BothSigned};
 
@@ -18,7 +18,7 @@ const WORDS: u64 = 4294967296;
 // The signature of items[start..end].
 pub fn sign_set(items: &[u16], table: &[u8; 256], start: usize, end: usize) -> u64
     requires within { end ≤ length items.now }
-    requires positions { table.now ≡ positionTable }
+    requires positions { table.now ≡ position_table }
     ensures { result ≡ signature (between start end items.now) }
 {
     let mut mark: u64 = 0;
@@ -53,8 +53,8 @@ pub fn double_at(work: &[u32], at: usize) -> u64
 // The signatures of a collection.
 fn sign_sets(work: &mut [u32], ends: &[u32], items: &[u16], table: &[u8; 256], at: usize)
     requires room { SigningRoom at ends.now items.now work.old }
-    requires positions { table.now ≡ positionTable }
-    ensures { Signed at (length ends.now) (setsOf ends.now items.now)
+    requires positions { table.now ≡ position_table }
+    ensures { Signed at (length ends.now) (sets_of ends.now items.now)
         work.old work.new }
 {
     let mut start: usize = 0;
@@ -78,8 +78,8 @@ pub fn sign_collections(
 )
     requires { BothRoom right_at left_at right_ends.now right_items.now left_ends.now left_items.now
         work.old }
-    ensures { BothSigned right_at left_at (setsOf right_ends.now right_items.now)
-        (setsOf left_ends.now left_items.now) work.old work.new }
+    ensures { BothSigned right_at left_at (sets_of right_ends.now right_items.now)
+        (sets_of left_ends.now left_items.now) work.old work.new }
 {
     let table = position_table();
     sign_sets(work, right_ends, right_items, &table, right_at);

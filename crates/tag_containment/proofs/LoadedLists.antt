@@ -10,153 +10,153 @@ use lib.ListN.{length, get_or, take, drop, length-append, take-append-drop}
 use lib.Seq.{get_or-take, take-take}
 use Rattle.lists.specs.Lists.{distinct}
 use Rattle.lists.proofs.Mapping.{map_at}
-use Rattle.sets.specs.Collections.{setsFrom, setsOf}
+use Rattle.sets.specs.Collections.{sets_from, sets_of}
 use Rattle.sets.specs.declared.Side.{Side}
 use Rattle.sets.specs.declared.Side.TheVariants.{Left, Right}
-use Rattle.inputs.specs.Input.{Input, input_of, leftSets, rightSets}
+use Rattle.inputs.specs.Input.{Input, input_of, left_sets, right_sets}
 use Rattle.tag_file.specs.declared.Loaded.{Loaded}
 use Rattle.tag_file.specs.declared.Repeats.{Repeats}
 use Rattle.tag_file.specs.declared.LoadAnswer.TheVariants as load
-use Rattle.tag_file.specs.Records.{TagRecord, records, ofSide, allTags, tagTable, setsOfSide}
-use Rattle.tag_file.specs.Repeats.{repeatTotals}
-use Rattle.tag_file.specs.Loading.{Lists, numbersOf, endsFrom, filled, totalsOf, loadAnswer, LoadCall}
-use Rattle.tag_file.proofs.AnswerLaws.{LoadAccepted, accepted, call-lists}
-use Rattle.tag_file.proofs.FaultFree.{file-free}
+use Rattle.tag_file.specs.Records.{TagRecord, records, of_side, all_tags, tag_table, sets_of_side}
+use Rattle.tag_file.specs.Repeats.{repeat_totals}
+use Rattle.tag_file.specs.Loading.{Lists, numbers_of, ends_from, filled, totals_of, load_answer, LoadCall}
+use Rattle.tag_file.proofs.AnswerLaws.{LoadAccepted, accepted, call_lists}
+use Rattle.tag_file.proofs.FaultFree.{file_free}
 use Rattle.tag_file.proofs.Tables.{rising-collapse}
 use Rattle.tag_round_trip.specs.Trips.{parts_of, Fills}
-use Rattle.tag_round_trip.proofs.Accepted.{lists-fill}
-use Rattle.tag_round_trip.proofs.Decoding.{between-joined}
-use Rattle.tag_round_trip.proofs.FileRecords.{table-fit, file-fit}
-use Rattle.tag_round_trip.proofs.Printing.{recordsFit}
-use Rattle.tag_containment.proofs.ByteOrder.{bytesBelow, tagIn, table-order}
-use Rattle.tag_containment.proofs.ItemTags.{noRecord, recordOf}
+use Rattle.tag_round_trip.proofs.Accepted.{lists_fill}
+use Rattle.tag_round_trip.proofs.Decoding.{between_joined}
+use Rattle.tag_round_trip.proofs.FileRecords.{table_fit, file_fit}
+use Rattle.tag_round_trip.proofs.Printing.{records_fit}
+use Rattle.tag_containment.proofs.ByteOrder.{bytes_below, tag_in, table_order}
+use Rattle.tag_containment.proofs.ItemTags.{no_record, record_of}
 
 -- an input made of loaded lists with these counts: the ends are those that were filled, and the items begin with those that were
 -- filled; items past them do not count
 pub record OverLoaded (loaded : Loaded) (got : Lists) (i : Input) : Type 0 where
-  pub leftEnds : i.left.ends ≡ take loaded.left_sets got.leftEnds
-  pub leftItems : take loaded.left_entries i.left.items ≡ take loaded.left_entries got.leftItems
-  pub rightEnds : i.right.ends ≡ take loaded.right_sets got.rightEnds
-  pub rightItems : take loaded.right_entries i.right.items ≡ take loaded.right_entries got.rightItems
+  pub left_ends : i.left.ends ≡ take loaded.left_sets got.left_ends
+  pub left_items : take loaded.left_entries i.left.items ≡ take loaded.left_entries got.left_items
+  pub right_ends : i.right.ends ≡ take loaded.right_sets got.right_ends
+  pub right_items : take loaded.right_entries i.right.items ≡ take loaded.right_entries got.right_items
 
 -- the filled parts of the lists are such an input
-pub over-parts : (loaded : Loaded) (got : Lists) (T : ℕ) → OverLoaded loaded got
-    (input_of T (parts_of loaded got).leftEnds (parts_of loaded got).leftItems (parts_of loaded got).rightEnds
-    (parts_of loaded got).rightItems)
-over-parts loaded got T =
+pub over_parts : (loaded : Loaded) (got : Lists) (T : ℕ) → OverLoaded loaded got
+    (input_of T (parts_of loaded got).left_ends (parts_of loaded got).left_items (parts_of loaded got).right_ends
+    (parts_of loaded got).right_items)
+over_parts loaded got T =
     record {
-      leftEnds = refl;
-      leftItems = take-take loaded.left_entries loaded.left_entries got.leftItems (omega arith);
-      rightEnds = refl;
-      rightItems = take-take loaded.right_entries loaded.right_entries got.rightItems (omega arith);
+      left_ends = refl;
+      left_items = take-take loaded.left_entries loaded.left_entries got.left_items (omega arith);
+      right_ends = refl;
+      right_items = take-take loaded.right_entries loaded.right_entries got.right_items (omega arith);
     }
 
 -- and so are the filled ends with the whole lists of items
-pub over-whole : (loaded : Loaded) (got : Lists) (T : ℕ)
+pub over_whole : (loaded : Loaded) (got : Lists) (T : ℕ)
     → OverLoaded loaded got
-    (input_of T (parts_of loaded got).leftEnds got.leftItems (parts_of loaded got).rightEnds got.rightItems)
-over-whole loaded got T = record { leftEnds = refl; leftItems = refl; rightEnds = refl; rightItems = refl }
+    (input_of T (parts_of loaded got).left_ends got.left_items (parts_of loaded got).right_ends got.right_items)
+over_whole loaded got T = record { left_ends = refl; left_items = refl; right_ends = refl; right_items = refl }
 
 -- sets that were joined, whatever stands after their items
-sets-from : (before : List ℕ) (start : ℕ) (sets : List (List ℕ)) (rest : List ℕ) → length before ≡ start
-    → setsFrom start (endsFrom start sets) (before ++ (flatten sets ++ rest)) ≡ sets
-unfolding setsFrom endsFrom flatten
-sets-from before start [] rest e = refl
-sets-from before start (set ∷ sets) rest e =
+sets_from_lem : (before : List ℕ) (start : ℕ) (sets : List (List ℕ)) (rest : List ℕ) → length before ≡ start
+    → sets_from start (ends_from start sets) (before ++ (flatten sets ++ rest)) ≡ sets
+unfolding sets_from ends_from flatten
+sets_from_lem before start [] rest e = refl
+sets_from_lem before start (set ∷ sets) rest e =
     let next : length (before ++ set) ≡ start + length set = rw (length-append, e) in
-    let again : setsFrom (start + length set) (endsFrom (start + length set) sets) (before ++ (set ++ (flatten sets ++ rest))) ≡ sets =
-    rw (append_assoc before set (flatten sets ++ rest)) at (sets-from (before ++ set) (start + length set) sets rest next) in
-    rw (append_assoc set (flatten sets) rest, between-joined before set (flatten sets ++ rest) start e, again)
+    let again : sets_from (start + length set) (ends_from (start + length set) sets) (before ++ (set ++ (flatten sets ++ rest))) ≡ sets =
+    rw (append_assoc before set (flatten sets ++ rest)) at (sets_from_lem (before ++ set) (start + length set) sets rest next) in
+    rw (append_assoc set (flatten sets) rest, between_joined before set (flatten sets ++ rest) start e, again)
 
-sets-begin : (sets : List (List ℕ)) (items : List ℕ) (n : ℕ) → take n items ≡ flatten sets → setsOf (endsFrom 0 sets) items ≡ sets
-sets-begin sets items n begins =
-    ap (λ (l : List ℕ). setsOf (endsFrom 0 sets) l)
+sets_begin : (sets : List (List ℕ)) (items : List ℕ) (n : ℕ) → take n items ≡ flatten sets → sets_of (ends_from 0 sets) items ≡ sets
+sets_begin sets items n begins =
+    ap (λ (l : List ℕ). sets_of (ends_from 0 sets) l)
     (sym (take-append-drop n items) ∙ ap (λ (l : List ℕ). l ++ drop n items) begins)
-    ∙ sets-from [] 0 sets (drop n items) refl
+    ∙ sets_from_lem [] 0 sets (drop n items) refl
 
 -- ---- lists that hold what records give
 
 module _ {rs : List TagRecord} {loaded : Loaded} {got : Lists} (fills : Fills rs loaded got) where
   -- the sets by place of an input made of them are the records' items
   module _ (i : Input) (over : OverLoaded loaded got i) where
-    pub fills-left-sets : leftSets i ≡ setsOfSide Left (tagTable rs) rs
-    fills-left-sets =
-        ap (λ (ends : List ℕ). setsOf ends i.left.items) (over.leftEnds ∙ ap (λ (p : Lists). p.leftEnds) fills.lists)
-        ∙ sets-begin (setsOfSide Left (tagTable rs) rs) i.left.items loaded.left_entries
-        (over.leftItems ∙ ap (λ (p : Lists). p.leftItems) fills.lists)
+    pub fills_left_sets : left_sets i ≡ sets_of_side Left (tag_table rs) rs
+    fills_left_sets =
+        ap (λ (ends : List ℕ). sets_of ends i.left.items) (over.left_ends ∙ ap (λ (p : Lists). p.left_ends) fills.lists)
+        ∙ sets_begin (sets_of_side Left (tag_table rs) rs) i.left.items loaded.left_entries
+        (over.left_items ∙ ap (λ (p : Lists). p.left_items) fills.lists)
 
-    pub fills-right-sets : rightSets i ≡ setsOfSide Right (tagTable rs) rs
-    fills-right-sets =
-        ap (λ (ends : List ℕ). setsOf ends i.right.items) (over.rightEnds ∙ ap (λ (p : Lists). p.rightEnds) fills.lists)
-        ∙ sets-begin (setsOfSide Right (tagTable rs) rs) i.right.items loaded.right_entries
-        (over.rightItems ∙ ap (λ (p : Lists). p.rightItems) fills.lists)
+    pub fills_right_sets : right_sets i ≡ sets_of_side Right (tag_table rs) rs
+    fills_right_sets =
+        ap (λ (ends : List ℕ). sets_of ends i.right.items) (over.right_ends ∙ ap (λ (p : Lists). p.right_ends) fills.lists)
+        ∙ sets_begin (sets_of_side Right (tag_table rs) rs) i.right.items loaded.right_entries
+        (over.right_items ∙ ap (λ (p : Lists). p.right_items) fills.lists)
 
   -- the number at a place is the record's
-  number_at : (side : Side) (numbers : List ℕ) (n k : ℕ) → take n numbers ≡ numbersOf side rs
-      → n ≡ length (ofSide side rs) → k < n → get_or numbers k 0 ≡ (recordOf side rs k).number
+  number_at : (side : Side) (numbers : List ℕ) (n k : ℕ) → take n numbers ≡ numbers_of side rs
+      → n ≡ length (of_side side rs) → k < n → get_or numbers k 0 ≡ (record_of side rs k).number
   number_at side numbers n k same many within =
       sym (get_or-take n numbers k 0 within) ∙ ap (λ (l : List ℕ). get_or l k 0) same
-      ∙ map_at (λ r. r.number) (ofSide side rs) k noRecord 0 (omega arith)
+      ∙ map_at (λ r. r.number) (of_side side rs) k no_record 0 (omega arith)
 
-  pub fills-left-number : (l : ℕ) → l < loaded.left_sets → get_or got.leftNumbers l 0 ≡ (recordOf Left rs l).number
-  fills-left-number l within =
-      number_at Left got.leftNumbers loaded.left_sets l (ap (λ (p : Lists). p.leftNumbers) fills.lists)
+  pub fills_left_number : (l : ℕ) → l < loaded.left_sets → get_or got.left_numbers l 0 ≡ (record_of Left rs l).number
+  fills_left_number l within =
+      number_at Left got.left_numbers loaded.left_sets l (ap (λ (p : Lists). p.left_numbers) fills.lists)
       (ap (λ (c : Loaded). c.left_sets) fills.counted) within
 
-  pub fills-right-number : (r : ℕ) → r < loaded.right_sets → get_or got.rightNumbers r 0 ≡ (recordOf Right rs r).number
-  fills-right-number r within =
-      number_at Right got.rightNumbers loaded.right_sets r (ap (λ (p : Lists). p.rightNumbers) fills.lists)
+  pub fills_right_number : (r : ℕ) → r < loaded.right_sets → get_or got.right_numbers r 0 ≡ (record_of Right rs r).number
+  fills_right_number r within =
+      number_at Right got.right_numbers loaded.right_sets r (ap (λ (p : Lists). p.right_numbers) fills.lists)
       (ap (λ (c : Loaded). c.right_sets) fills.counted) within
 
   -- the tag of a lesser item is below that of a greater one, as unsigned bytes
-  pub fills-tags-rise : recordsFit rs ≡ true → (i j : ℕ) → i < j → j < loaded.tag_count
-      → bytesBelow (tagIn (parts_of loaded got).tags i) (tagIn (parts_of loaded got).tags j) ≡ true
-  fills-tags-rise fit i j less within =
-      let many : loaded.tag_count ≡ length (tagTable rs) = ap (λ (c : Loaded). c.tag_count) fills.counted in
-      ap (λ (l : Lists). bytesBelow (tagIn l.tags i) (tagIn l.tags j)) fills.lists
-      ∙ table-order (tagTable rs) (rising-collapse (allTags rs)) (table-fit rs fit) i j less (omega arith)
+  pub fills_tags_rise : records_fit rs ≡ true → (i j : ℕ) → i < j → j < loaded.tag_count
+      → bytes_below (tag_in (parts_of loaded got).tags i) (tag_in (parts_of loaded got).tags j) ≡ true
+  fills_tags_rise fit i j less within =
+      let many : loaded.tag_count ≡ length (tag_table rs) = ap (λ (c : Loaded). c.tag_count) fills.counted in
+      ap (λ (l : Lists). bytes_below (tag_in l.tags i) (tag_in l.tags j)) fills.lists
+      ∙ table_order (tag_table rs) (rising-collapse (all_tags rs)) (table_fit rs fit) i j less (omega arith)
 
 -- ---- after a load that is accepted
 
 module _ (file : List ℕ) {lent got : Lists} {loaded : Loaded} {repeats : Repeats}
     (loads : LoadCall file lent got (load.Loaded loaded repeats)) where
-  load-accepted : LoadAccepted file lent loaded repeats
-  load-accepted = accepted file lent loaded repeats (sym loads.answered)
+  load_accepted : LoadAccepted file lent loaded repeats
+  load_accepted = accepted file lent loaded repeats (sym loads.answered)
 
   -- its counts are the records', and so are its repeats
-  pub load-counts : loaded ≡ totalsOf (records file)
-  load-counts = sym load-accepted.counted
+  pub load_counts : loaded ≡ totals_of (records file)
+  load_counts = sym load_accepted.counted
 
-  pub load-repeats : repeats ≡ repeatTotals (records file)
-  load-repeats = sym load-accepted.repeated
+  pub load_repeats : repeats ≡ repeat_totals (records file)
+  load_repeats = sym load_accepted.repeated
 
   -- its lists hold what the records give
-  pub load-fills : Fills (records file) loaded got
-  load-fills =
-      lists-fill (records file) lent got (loadAnswer file lent) loaded repeats (sym loads.answered) load-counts
-      (call-lists loads)
+  pub load_fills : Fills (records file) loaded got
+  load_fills =
+      lists_fill (records file) lent got (load_answer file lent) loaded repeats (sym loads.answered) load_counts
+      (call_lists loads)
 
   pub load-filled : parts_of loaded got ≡ filled (records file)
-  load-filled = load-fills.lists
+  load-filled = load_fills.lists
 
   module _ (i : Input) (over : OverLoaded loaded got i) where
-    pub load-left-sets : leftSets i ≡ setsOfSide Left (tagTable (records file)) (records file)
-    load-left-sets = fills-left-sets load-fills i over
+    pub load-left_sets : left_sets i ≡ sets_of_side Left (tag_table (records file)) (records file)
+    load-left_sets = fills_left_sets load_fills i over
 
-    pub load-right-sets : rightSets i ≡ setsOfSide Right (tagTable (records file)) (records file)
-    load-right-sets = fills-right-sets load-fills i over
+    pub load-right_sets : right_sets i ≡ sets_of_side Right (tag_table (records file)) (records file)
+    load-right_sets = fills_right_sets load_fills i over
 
-  pub load-left-number : (l : ℕ) → l < loaded.left_sets → get_or got.leftNumbers l 0 ≡ (recordOf Left (records file) l).number
-  load-left-number l within = fills-left-number load-fills l within
+  pub load_left_number : (l : ℕ) → l < loaded.left_sets → get_or got.left_numbers l 0 ≡ (record_of Left (records file) l).number
+  load_left_number l within = fills_left_number load_fills l within
 
-  pub load-right-number : (r : ℕ) → r < loaded.right_sets
-      → get_or got.rightNumbers r 0 ≡ (recordOf Right (records file) r).number
-  load-right-number r within = fills-right-number load-fills r within
+  pub load_right_number : (r : ℕ) → r < loaded.right_sets
+      → get_or got.right_numbers r 0 ≡ (record_of Right (records file) r).number
+  load_right_number r within = fills_right_number load_fills r within
 
   -- no number stands twice on a side, so a number tells its record
-  pub load-numbers-distinct : (side : Side) → distinct (numbersOf side (records file)) ≡ true
-  load-numbers-distinct side = (file-free file load-accepted.clear).numbers side
+  pub load_numbers_distinct : (side : Side) → distinct (numbers_of side (records file)) ≡ true
+  load_numbers_distinct side = (file_free file load_accepted.clear).numbers side
 
-  pub load-tags-rise : ((i : ℕ) → get_or file i 0 < 256) → (i j : ℕ) → i < j → j < loaded.tag_count
-      → bytesBelow (tagIn (parts_of loaded got).tags i) (tagIn (parts_of loaded got).tags j) ≡ true
-  load-tags-rise low i j less within = fills-tags-rise load-fills (file-fit file low) i j less within
+  pub load_tags_rise : ((i : ℕ) → get_or file i 0 < 256) → (i j : ℕ) → i < j → j < loaded.tag_count
+      → bytes_below (tag_in (parts_of loaded got).tags i) (tag_in (parts_of loaded got).tags j) ≡ true
+  load_tags_rise low i j less within = fills_tags_rise load_fills (file_fit file low) i j less within

@@ -4,36 +4,36 @@ use Prim.Native.Nat.{ℕ}
 use mathlib.Core.Path.{◌≡◌, refl, sym, ap, ◌∙◌}
 use mathlib.Core.List.{List, [], ◌∷◌, ◌++◌}
 use mathlib.Core.Bool.{Bool, true, false}
-use Rattle.sets.specs.Refusals.{clears, refuseIf, unless}
-use Rattle.sets.proofs.Testing.{both-passed, refuse-passed}
+use Rattle.sets.specs.Refusals.{clears, refuse_if, unless}
+use Rattle.sets.proofs.Testing.{both_passed, refuse_passed}
 use Rattle.sets.specs.declared.Refusal.{Refusal}
 use Rattle.sets.specs.declared.Refusal.TheVariants.{NumberUsed, TooMany}
 use Rattle.sets.specs.declared.Tested.{Tested}
 use Rattle.sets.specs.declared.Tested.TheVariants.{Passed, Failed}
-use Rattle.tag_file.specs.Reading.{readAt}
-use Rattle.tag_file.specs.Records.{TagRecord, totalLength, records}
-use Rattle.tag_file.specs.Loading.{numberUsed, tooMany, faultOf, firstFault, refusalOf, fileFault}
+use Rattle.tag_file.specs.Reading.{read_at}
+use Rattle.tag_file.specs.Records.{TagRecord, total_length, records}
+use Rattle.tag_file.specs.Loading.{number_used, too_many, fault_of, first_fault, refusal_of, file_fault}
 use Rattle.tag_file.specs.declared.ReadAnswer.{ReadAnswer}
 use Rattle.tag_file.specs.declared.ReadAnswer.TheVariants.{Record, NoMore, Refused}
-use Rattle.tag_file.proofs.ReadLaws.{read-refused}
+use Rattle.tag_file.proofs.ReadLaws.{read_refused}
 
 module _ (seen : List TagRecord) (r : TagRecord) where
-  pub fault-used : numberUsed seen r ≡ true → faultOf seen r ≡ Failed (NumberUsed (totalLength seen))
-  unfolding faultOf
-  fault-used used = rw used
+  pub fault_used : number_used seen r ≡ true → fault_of seen r ≡ Failed (NumberUsed (total_length seen))
+  unfolding fault_of
+  fault_used used = rw used
 
-  pub fault-none : numberUsed seen r ≡ false → tooMany r.side (seen ++ (r ∷ [])) ≡ false → faultOf seen r ≡ Passed
-  unfolding faultOf
-  fault-none free few = rw (free, few)
+  pub fault_none : number_used seen r ≡ false → too_many r.side (seen ++ (r ∷ [])) ≡ false → fault_of seen r ≡ Passed
+  unfolding fault_of
+  fault_none free few = rw (free, few)
 
-  pub fault-clear : faultOf seen r ≡ Passed → (numberUsed seen r ≡ false) × (tooMany r.side (seen ++ (r ∷ [])) ≡ false)
-  unfolding faultOf
-  fault-clear e =
-      let used = refuseIf (numberUsed seen r) (NumberUsed (totalLength seen)) in
-      let many = refuseIf (tooMany r.side (seen ++ (r ∷ []))) (TooMany (totalLength seen)) in
-      let both = both-passed used many e in (
-        refuse-passed (numberUsed seen r) (NumberUsed (totalLength seen)) both.0,
-        refuse-passed (tooMany r.side (seen ++ (r ∷ []))) (TooMany (totalLength seen)) both.1,
+  pub fault_clear : fault_of seen r ≡ Passed → (number_used seen r ≡ false) × (too_many r.side (seen ++ (r ∷ [])) ≡ false)
+  unfolding fault_of
+  fault_clear e =
+      let used = refuse_if (number_used seen r) (NumberUsed (total_length seen)) in
+      let many = refuse_if (too_many r.side (seen ++ (r ∷ []))) (TooMany (total_length seen)) in
+      let both = both_passed used many e in (
+        refuse_passed (number_used seen r) (NumberUsed (total_length seen)) both.0,
+        refuse_passed (too_many r.side (seen ++ (r ∷ []))) (TooMany (total_length seen)) both.1,
       )
 
 -- ---- a fault makes zeros
@@ -43,35 +43,35 @@ abbrev pub clearing : Tested → Bool
 clearing Passed = true
 clearing (Failed why) = clears why
 
-pub clearing-both : (first later : Tested) → clearing first ≡ true → clearing later ≡ true → clearing (unless Failed first later) ≡ true
-clearing-both Passed later a b = b
-clearing-both (Failed why) later a b = a
+pub clearing_both : (first later : Tested) → clearing first ≡ true → clearing later ≡ true → clearing (unless Failed first later) ≡ true
+clearing_both Passed later a b = b
+clearing_both (Failed why) later a b = a
 
-pub clearing-if : (wrong : Bool) (why : Refusal) → clears why ≡ true → clearing (refuseIf wrong why) ≡ true
-clearing-if true why c = c
-clearing-if false why c = refl
+pub clearing_if : (wrong : Bool) (why : Refusal) → clears why ≡ true → clearing (refuse_if wrong why) ≡ true
+clearing_if true why c = c
+clearing_if false why c = refl
 
-clearing-read : (file : List ℕ) (at : ℕ) → clearing (refusalOf (readAt file at)) ≡ true
-clearing-read file at = by_answer (readAt file at) refl
+clearing_read : (file : List ℕ) (at : ℕ) → clearing (refusal_of (read_at file at)) ≡ true
+clearing_read file at = by_answer (read_at file at) refl
   where
-    by_answer : (a : ReadAnswer) → readAt file at ≡ a → clearing (refusalOf a) ≡ true
+    by_answer : (a : ReadAnswer) → read_at file at ≡ a → clearing (refusal_of a) ≡ true
     by_answer (Record s n c p next) e = refl
     by_answer NoMore e = refl
-    by_answer (Refused why) e = ap clears (read-refused file at why e)
+    by_answer (Refused why) e = ap clears (read_refused file at why e)
 
-clearing-first : (seen rs : List TagRecord) (last : Tested) → clearing last ≡ true → clearing (firstFault seen rs last) ≡ true
-unfolding firstFault faultOf
-clearing-first seen [] last c = c
-clearing-first seen (r ∷ rs) last c =
-    let used = refuseIf (numberUsed seen r) (NumberUsed (totalLength seen)) in
-    let many = refuseIf (tooMany r.side (seen ++ (r ∷ []))) (TooMany (totalLength seen)) in
-    clearing-both (unless Failed used many) (firstFault (seen ++ (r ∷ [])) rs last)
-    (clearing-both used many (clearing-if (numberUsed seen r) _ refl) (clearing-if (tooMany r.side (seen ++ (r ∷ []))) _ refl))
-    (clearing-first (seen ++ (r ∷ [])) rs last c)
+clearing_first : (seen rs : List TagRecord) (last : Tested) → clearing last ≡ true → clearing (first_fault seen rs last) ≡ true
+unfolding first_fault fault_of
+clearing_first seen [] last c = c
+clearing_first seen (r ∷ rs) last c =
+    let used = refuse_if (number_used seen r) (NumberUsed (total_length seen)) in
+    let many = refuse_if (too_many r.side (seen ++ (r ∷ []))) (TooMany (total_length seen)) in
+    clearing_both (unless Failed used many) (first_fault (seen ++ (r ∷ [])) rs last)
+    (clearing_both used many (clearing_if (number_used seen r) _ refl) (clearing_if (too_many r.side (seen ++ (r ∷ []))) _ refl))
+    (clearing_first (seen ++ (r ∷ [])) rs last c)
 
-pub fault-clears : (file : List ℕ) (why : Refusal) → fileFault file ≡ Failed why → clears why ≡ true
-unfolding fileFault
-fault-clears file why e =
+pub fault_clears : (file : List ℕ) (why : Refusal) → file_fault file ≡ Failed why → clears why ≡ true
+unfolding file_fault
+fault_clears file why e =
     sym (ap clearing e)
-    ∙ clearing-first [] (records file) (refusalOf (readAt file (totalLength (records file))))
-    (clearing-read file (totalLength (records file)))
+    ∙ clearing_first [] (records file) (refusal_of (read_at file (total_length (records file))))
+    (clearing_read file (total_length (records file)))

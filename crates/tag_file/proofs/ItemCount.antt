@@ -8,14 +8,14 @@ use native.Mathlib.Omega.{arith}
 use lib.ListN.{length, drop, get_or, length-append, length-map, drop_of_length-le}
 use lib.Seq.{drop-cons}
 use Rattle.lists.specs.Lists.{one, onto, count, keep, sum, memb, range, upto, rising}
-use Rattle.lists.proofs.Bools.{by-test, or_left, or_right}
-use Rattle.lists.proofs.Membership.{memb-append}
+use Rattle.lists.proofs.Bools.{by_test, or_left, or_right}
+use Rattle.lists.proofs.Membership.{memb_append}
 use Rattle.lists.proofs.Filtering.{length-keep, memb-keep}
-use Rattle.lists.proofs.Rising.{rising-same, rising-keep}
+use Rattle.lists.proofs.Rising.{rising_same, rising-keep}
 use Rattle.sets.specs.declared.Side.{Side}
-use Rattle.tag_file.specs.Format.{tagLength, bytes_of, tagBytes}
-use Rattle.tag_file.specs.Records.{TagRecord, sameSide, ofSide, collapse, allTags, tagTable, items_of, entriesOf, setsOfSide}
-use Rattle.tag_file.specs.Loading.{numbersOf, endsFrom, endsOf, flatItems}
+use Rattle.tag_file.specs.Format.{tag_length, bytes_of, tag_bytes}
+use Rattle.tag_file.specs.Records.{TagRecord, same_side, of_side, collapse, all_tags, tag_table, items_of, entries_of, sets_of_side}
+use Rattle.tag_file.specs.Loading.{numbers_of, ends_from, ends_of, flat_items}
 use Rattle.tag_file.proofs.Tables.{rising-collapse, memb-collapse}
 
 -- ---- the numbers of a rising table that are among others are those others, collapsed
@@ -23,11 +23,11 @@ use Rattle.tag_file.proofs.Tables.{rising-collapse, memb-collapse}
 module _ (table tags : List ℕ) (r : rising table ≡ true) (held : (y : ℕ) → memb y tags ≡ true → memb y table ≡ true) where
   pub keep-collapse : keep (λ t. memb t tags) table ≡ collapse tags
   keep-collapse =
-      rising-same (keep (λ t. memb t tags) table) (collapse tags) (rising-keep (λ t. memb t tags) table r) (rising-collapse tags)
+      rising_same (keep (λ t. memb t tags) table) (collapse tags) (rising-keep (λ t. memb t tags) table r) (rising-collapse tags)
       (λ z. memb-keep (λ t. memb t tags) table z ∙ both z ∙ sym (memb-collapse z tags))
     where
       both : (z : ℕ) → (memb z table && memb z tags) ≡ memb z tags
-      both z = by-test (memb z tags) (λ t. rw (t, held z t)) (λ f. rw f (and-false (memb z table)))
+      both z = by_test (memb z tags) (λ t. rw (t, held z t)) (λ f. rw f (and-false (memb z table)))
 
   by_place : (from n : ℕ) → from + n ≡ length table
       → count (λ i. memb (get_or table i 0) tags) (range from n) ≡ count (λ t. memb t tags) (drop from table)
@@ -45,51 +45,51 @@ module _ (table tags : List ℕ) (r : rising table ≡ true) (held : (y : ℕ) �
 
 -- ---- the lengths of what is filled
 
-pub length-bytesOf : (n v : ℕ) → length (bytes_of n v) ≡ n
+pub length-bytes_of : (n v : ℕ) → length (bytes_of n v) ≡ n
 unfolding bytes_of
-length-bytesOf zero v = refl
-length-bytesOf (suc n) v = length-append (bytes_of n (v / 256)) (v % 256 ∷ []) ∙ omega (arith, length-bytesOf n (v / 256))
+length-bytes_of zero v = refl
+length-bytes_of (suc n) v = length-append (bytes_of n (v / 256)) (v % 256 ∷ []) ∙ omega (arith, length-bytes_of n (v / 256))
 
-pub length-tagBytes : (tags : List ℕ) → length (tagBytes tags) ≡ tagLength * length tags
-unfolding tagBytes
-length-tagBytes [] = refl
-length-tagBytes (t ∷ ts) =
-    length-append (bytes_of tagLength t) (tagBytes ts) ∙ omega (arith, length-bytesOf tagLength t, length-tagBytes ts)
+pub length-tag_bytes : (tags : List ℕ) → length (tag_bytes tags) ≡ tag_length * length tags
+unfolding tag_bytes
+length-tag_bytes [] = refl
+length-tag_bytes (t ∷ ts) =
+    length-append (bytes_of tag_length t) (tag_bytes ts) ∙ omega (arith, length-bytes_of tag_length t, length-tag_bytes ts)
 
-length-endsFrom : (start : ℕ) (sets : List (List ℕ)) → length (endsFrom start sets) ≡ length sets
-unfolding endsFrom
-length-endsFrom start [] = refl
-length-endsFrom start (s ∷ ss) = ap suc (length-endsFrom (start + length s) ss)
+length-ends_from : (start : ℕ) (sets : List (List ℕ)) → length (ends_from start sets) ≡ length sets
+unfolding ends_from
+length-ends_from start [] = refl
+length-ends_from start (s ∷ ss) = ap suc (length-ends_from (start + length s) ss)
 
 module _ (side : Side) (rs : List TagRecord) where
-  pub length-numbersOf : length (numbersOf side rs) ≡ length (ofSide side rs)
-  length-numbersOf = length-map (ofSide side rs) (λ r. r.number)
+  pub length-numbers_of : length (numbers_of side rs) ≡ length (of_side side rs)
+  length-numbers_of = length-map (of_side side rs) (λ r. r.number)
 
-  pub length-endsOf : length (endsOf side rs) ≡ length (ofSide side rs)
-  length-endsOf =
-      length-endsFrom 0 (setsOfSide side (tagTable rs) rs) ∙ length-map (ofSide side rs) (λ r. items_of (tagTable rs) r.tags)
+  pub length-ends_of : length (ends_of side rs) ≡ length (of_side side rs)
+  length-ends_of =
+      length-ends_from 0 (sets_of_side side (tag_table rs) rs) ∙ length-map (of_side side rs) (λ r. items_of (tag_table rs) r.tags)
 
 -- over a table that has all tags of the records
-joined-count : (side : Side) (table : List ℕ) (rs : List TagRecord) → rising table ≡ true
-    → ((y : ℕ) → memb y (allTags rs) ≡ true → memb y table ≡ true)
-    → length (flatten (setsOfSide side table rs)) ≡ entriesOf side rs
-unfolding keep sum flatten allTags
-joined-count side table [] r held = refl
-joined-count side table (q ∷ rs) r held = by-mine (sameSide side q.side) (joined-count side table rs r others)
+joined_count : (side : Side) (table : List ℕ) (rs : List TagRecord) → rising table ≡ true
+    → ((y : ℕ) → memb y (all_tags rs) ≡ true → memb y table ≡ true)
+    → length (flatten (sets_of_side side table rs)) ≡ entries_of side rs
+unfolding keep sum flatten all_tags
+joined_count side table [] r held = refl
+joined_count side table (q ∷ rs) r held = by_mine (same_side side q.side) (joined_count side table rs r others)
   where
     mine : (y : ℕ) → memb y q.tags ≡ true → memb y table ≡ true
-    mine y m = held y (memb-append y q.tags (allTags rs) ∙ or_left (memb y q.tags) (memb y (allTags rs)) m)
+    mine y m = held y (memb_append y q.tags (all_tags rs) ∙ or_left (memb y q.tags) (memb y (all_tags rs)) m)
 
-    others : (y : ℕ) → memb y (allTags rs) ≡ true → memb y table ≡ true
-    others y m = held y (memb-append y q.tags (allTags rs) ∙ or_right (memb y q.tags) (memb y (allTags rs)) m)
+    others : (y : ℕ) → memb y (all_tags rs) ≡ true → memb y table ≡ true
+    others y m = held y (memb_append y q.tags (all_tags rs) ∙ or_right (memb y q.tags) (memb y (all_tags rs)) m)
 
-    by-mine : (b : Bool) → length (flatten (setsOfSide side table rs)) ≡ entriesOf side rs
-        → length (flatten (map (λ (p : TagRecord). items_of table p.tags) (onto b q (ofSide side rs))))
-        ≡ sum (λ (p : TagRecord). length (collapse p.tags)) (onto b q (ofSide side rs))
-    by-mine true again =
-        length-append (items_of table q.tags) (flatten (setsOfSide side table rs)) ∙ rw (item_count table q.tags r mine, again)
-    by-mine false again = again
+    by_mine : (b : Bool) → length (flatten (sets_of_side side table rs)) ≡ entries_of side rs
+        → length (flatten (map (λ (p : TagRecord). items_of table p.tags) (onto b q (of_side side rs))))
+        ≡ sum (λ (p : TagRecord). length (collapse p.tags)) (onto b q (of_side side rs))
+    by_mine true again =
+        length-append (items_of table q.tags) (flatten (sets_of_side side table rs)) ∙ rw (item_count table q.tags r mine, again)
+    by_mine false again = again
 
-pub length-flatItems : (side : Side) (rs : List TagRecord) → length (flatItems side rs) ≡ entriesOf side rs
-length-flatItems side rs =
-    joined-count side (tagTable rs) rs (rising-collapse (allTags rs)) (λ y m. memb-collapse y (allTags rs) ∙ m)
+pub length-flat_items : (side : Side) (rs : List TagRecord) → length (flat_items side rs) ≡ entries_of side rs
+length-flat_items side rs =
+    joined_count side (tag_table rs) rs (rising-collapse (all_tags rs)) (λ y m. memb-collapse y (all_tags rs) ∙ m)

@@ -1,4 +1,4 @@
--- Reading at a place: the cases of `readAt` and `recordAt`, each from the tests that lead to it.
+-- Reading at a place: the cases of `read_at` and `record_at`, each from the tests that lead to it.
 use mathlib.Core.Path.{◌≡◌, refl, ap, ◌∙◌}
 use mathlib.Core.List.{List, ◌∷◌}
 use mathlib.Core.Bool.{Bool, true, false, cond, ◌&&◌}
@@ -14,8 +14,8 @@ use Rattle.sets.specs.declared.Side.{Side}
 use Rattle.sets.specs.declared.Side.TheVariants.{Left, Right}
 use Rattle.sets.specs.declared.Refusal.{Refusal}
 use Rattle.sets.specs.declared.Refusal.TheVariants.{Malformed}
-use Rattle.tag_file.specs.Format.{tagLength, headLength, mark}
-use Rattle.tag_file.specs.Reading.{marked, number_at, countAt, pastTags, whole_at, recordAt, readAt}
+use Rattle.tag_file.specs.Format.{tag_length, head_length, mark}
+use Rattle.tag_file.specs.Reading.{marked, number_at, count_at, past_tags, whole_at, record_at, read_at}
 use Rattle.tag_file.specs.declared.ReadAnswer.TheVariants.{Record, NoMore, Refused}
 
 cond_same : {A : Type 0} (b : Bool) (x : A) → cond b x x ≡ x
@@ -30,8 +30,8 @@ module _ (a b x y : ℕ) (x-byte : x < 256) (y-byte : y < 256) where
       let second : b ≡ y = omega arith in
       rw (eq-eqb a x first, eq-eqb b y second)
 
-  bytes-other : (x * 256 + y ≡ a * 256 + b → ⊥) → (eqb a x && (eqb b y && true)) ≡ false
-  bytes-other ne = first (eqb a x) refl
+  bytes_other : (x * 256 + y ≡ a * 256 + b → ⊥) → (eqb a x && (eqb b y && true)) ≡ false
+  bytes_other ne = first (eqb a x) refl
     where
       second : a ≡ x → (t : Bool) → eqb b y ≡ t → (t && true) ≡ false
       second ea false e = refl
@@ -43,107 +43,107 @@ module _ (a b x y : ℕ) (x-byte : x < 256) (y-byte : y < 256) where
 
 module _ (file : List ℕ) (at : ℕ) where
   abbrev past : ℕ
-  past = pastTags (at + headLength) (countAt file at)
+  past = past_tags (at + head_length) (count_at file at)
 
-  pub whole-record : (side : Side) → at + headLength ≤ length file → tagLength * countAt file at ≤ length file - (at + headLength)
-      → recordAt side file at ≡ Record side (number_at file at) (countAt file at) (at + headLength) past
-  whole-record side head tags =
-      rw (le-leb (at + headLength) (length file) head, le-leb past (length file) (omega arith))
+  pub whole_record : (side : Side) → at + head_length ≤ length file → tag_length * count_at file at ≤ length file - (at + head_length)
+      → record_at side file at ≡ Record side (number_at file at) (count_at file at) (at + head_length) past
+  whole_record side head tags =
+      rw (le-leb (at + head_length) (length file) head, le-leb past (length file) (omega arith))
 
-  pub cut_record : (side : Side) → at + headLength ≤ length file → length file - (at + headLength) < tagLength * countAt file at
-      → recordAt side file at ≡ Refused (Malformed at)
+  pub cut_record : (side : Side) → at + head_length ≤ length file → length file - (at + head_length) < tag_length * count_at file at
+      → record_at side file at ≡ Refused (Malformed at)
   cut_record side head tags =
-      rw (le-leb (at + headLength) (length file) head, lt-leb past (length file) (omega arith))
+      rw (le-leb (at + head_length) (length file) head, lt-leb past (length file) (omega arith))
 
-  short-record : (side : Side) → length file < at + headLength → recordAt side file at ≡ Refused (Malformed at)
-  short-record side short = rw (lt-leb (at + headLength) (length file) short)
+  short_record : (side : Side) → length file < at + head_length → record_at side file at ≡ Refused (Malformed at)
+  short_record side short = rw (lt-leb (at + head_length) (length file) short)
 
-  pub read-end : at ≡ length file → readAt file at ≡ NoMore
-  unfolding readAt
-  read-end e = rw (eq-eqb at (length file) e)
+  pub read_end : at ≡ length file → read_at file at ≡ NoMore
+  unfolding read_at
+  read_end e = rw (eq-eqb at (length file) e)
 
-  pub read_short : (at ≡ length file → ⊥) → length file < at + headLength → readAt file at ≡ Refused (Malformed at)
-  unfolding readAt
+  pub read_short : (at ≡ length file → ⊥) → length file < at + head_length → read_at file at ≡ Refused (Malformed at)
+  unfolding read_at
   read_short ne short =
       rw (
         ne_eqb at (length file) ne,
-        short-record Left short,
-        short-record Right short,
+        short_record Left short,
+        short_record Right short,
         cond_same (marked Right file at) (Refused (Malformed at)),
       ) (cond_same (marked Left file at) (Refused (Malformed at)))
 
-  marked-bytes : (side : Side) → at + headLength ≤ length file
+  marked_bytes : (side : Side) → at + head_length ≤ length file
       → marked side file at ≡ prefix (mark side) (get_or file at 0 ∷ get_or file (at + 1) 0 ∷ drop (suc (at + 1)) file)
-  marked-bytes side head =
+  marked_bytes side head =
       ap (prefix (mark side))
       (drop-cons file at 0 (omega arith)
       ∙ rw (← add-one at) (ap (λ (l : List ℕ). get_or file at 0 ∷ l) (drop-cons file (at + 1) 0 (omega arith))))
 
-  module _ (head : at + headLength ≤ length file) (first : get_or file at 0 < 256) (second : get_or file (at + 1) 0 < 256) where
-    pub read_left : get_or file at 0 * 256 + get_or file (at + 1) 0 ≡ 0x4B54 → readAt file at ≡ recordAt Left file at
-    unfolding readAt prefix
+  module _ (head : at + head_length ≤ length file) (first : get_or file at 0 < 256) (second : get_or file (at + 1) 0 < 256) where
+    pub read_left : get_or file at 0 * 256 + get_or file (at + 1) 0 ≡ 0x4B54 → read_at file at ≡ record_at Left file at
+    unfolding read_at prefix
     read_left e =
         rw (
           ne_eqb at (length file) (λ q. omega arith),
-          marked-bytes Left head,
+          marked_bytes Left head,
           bytes_same 0x4B 0x54 (get_or file at 0) (get_or file (at + 1) 0) first second e (omega arith) (omega arith),
         )
 
-    pub read_right : get_or file at 0 * 256 + get_or file (at + 1) 0 ≡ 0x534B → readAt file at ≡ recordAt Right file at
-    unfolding readAt prefix
+    pub read_right : get_or file at 0 * 256 + get_or file (at + 1) 0 ≡ 0x534B → read_at file at ≡ record_at Right file at
+    unfolding read_at prefix
     read_right e =
         rw (
           ne_eqb at (length file) (λ q. omega arith),
-          marked-bytes Left head,
-          bytes-other 0x4B 0x54 (get_or file at 0) (get_or file (at + 1) 0) first second (λ q. omega arith),
-          marked-bytes Right head,
+          marked_bytes Left head,
+          bytes_other 0x4B 0x54 (get_or file at 0) (get_or file (at + 1) 0) first second (λ q. omega arith),
+          marked_bytes Right head,
           bytes_same 0x53 0x4B (get_or file at 0) (get_or file (at + 1) 0) first second e (omega arith) (omega arith),
         )
 
-    pub read-other : (get_or file at 0 * 256 + get_or file (at + 1) 0 ≡ 0x4B54 → ⊥)
+    pub read_other : (get_or file at 0 * 256 + get_or file (at + 1) 0 ≡ 0x4B54 → ⊥)
         → (get_or file at 0 * 256 + get_or file (at + 1) 0 ≡ 0x534B → ⊥)
-        → readAt file at ≡ Refused (Malformed at)
-    unfolding readAt prefix
-    read-other l r =
+        → read_at file at ≡ Refused (Malformed at)
+    unfolding read_at prefix
+    read_other l r =
         rw (
           ne_eqb at (length file) (λ q. omega arith),
-          marked-bytes Left head,
-          bytes-other 0x4B 0x54 (get_or file at 0) (get_or file (at + 1) 0) first second l,
-          marked-bytes Right head,
-          bytes-other 0x53 0x4B (get_or file at 0) (get_or file (at + 1) 0) first second r,
+          marked_bytes Left head,
+          bytes_other 0x4B 0x54 (get_or file at 0) (get_or file (at + 1) 0) first second l,
+          marked_bytes Right head,
+          bytes_other 0x53 0x4B (get_or file at 0) (get_or file (at + 1) 0) first second r,
         )
 
 -- ---- the reader refuses with the place that it was asked for
 
 module _ (file : List ℕ) (at : ℕ) (why : Refusal) where
-  record-refused : (side : Side) → recordAt side file at ≡ Refused why → why ≡ Malformed at
-  record-refused side e = pick (whole_at file at) e
+  record_refused : (side : Side) → record_at side file at ≡ Refused why → why ≡ Malformed at
+  record_refused side e = pick (whole_at file at) e
     where
-      pick : (b : Bool) → cond b (Record side (number_at file at) (countAt file at) (at + headLength) (past file at))
+      pick : (b : Bool) → cond b (Record side (number_at file at) (count_at file at) (at + head_length) (past file at))
           (Refused (Malformed at)) ≡ Refused why → why ≡ Malformed at
       pick true e = let z : ◌≡◌ {A = ℕ} 0 1 = cc in absurd (omega arith)
       pick false e = cc
 
-  pub read-refused : readAt file at ≡ Refused why → why ≡ Malformed at
-  unfolding readAt
-  read-refused e = at-end (eqb at (length file)) e
+  pub read_refused : read_at file at ≡ Refused why → why ≡ Malformed at
+  unfolding read_at
+  read_refused e = at_end (eqb at (length file)) e
     where
-      right : (b : Bool) → cond b (recordAt Right file at) (Refused (Malformed at)) ≡ Refused why → why ≡ Malformed at
-      right true e = record-refused Right e
+      right : (b : Bool) → cond b (record_at Right file at) (Refused (Malformed at)) ≡ Refused why → why ≡ Malformed at
+      right true e = record_refused Right e
       right false e = cc
 
       left : (b : Bool)
-          → cond b (recordAt Left file at) (cond (marked Right file at) (recordAt Right file at) (Refused (Malformed at)))
+          → cond b (record_at Left file at) (cond (marked Right file at) (record_at Right file at) (Refused (Malformed at)))
           ≡ Refused why
           → why ≡ Malformed at
-      left true e = record-refused Left e
+      left true e = record_refused Left e
       left false e = right (marked Right file at) e
 
-      at-end : (b : Bool)
+      at_end : (b : Bool)
           → cond b NoMore
-          (cond (marked Left file at) (recordAt Left file at)
-          (cond (marked Right file at) (recordAt Right file at) (Refused (Malformed at))))
+          (cond (marked Left file at) (record_at Left file at)
+          (cond (marked Right file at) (record_at Right file at) (Refused (Malformed at))))
           ≡ Refused why
           → why ≡ Malformed at
-      at-end true e = let z : ◌≡◌ {A = ℕ} 0 1 = cc in absurd (omega arith)
-      at-end false e = left (marked Left file at) e
+      at_end true e = let z : ◌≡◌ {A = ℕ} 0 1 = cc in absurd (omega arith)
+      at_end false e = left (marked Left file at) e

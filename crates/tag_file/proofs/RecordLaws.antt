@@ -11,215 +11,215 @@ use lib.Dec.{leb, eqb}
 use lib.ListN.{length, get_or}
 use Rattle.lists.specs.Lists.{memb, sum}
 use Rattle.lists.proofs.Bools.{and_right, or_left, or_right}
-use Rattle.lists.proofs.Summing.{sum-append}
-use Rattle.sets.specs.Limits.{maxSetLength, halfWords}
+use Rattle.lists.proofs.Summing.{sum_append}
+use Rattle.sets.specs.Limits.{max_set_length, half_words}
 use Rattle.sets.specs.declared.Side.{Side}
 use Rattle.sets.specs.declared.Side.TheVariants.{Left, Right}
 use Rattle.sets.specs.declared.Refusal.{Refusal}
 use Rattle.sets.specs.declared.Refusal.TheVariants.{Malformed}
-use Rattle.tag_file.specs.Format.{tagLength, headLength, recordLength, tagAt}
-use Rattle.tag_file.specs.Reading.{marked, number_at, countAt, pastTags, whole_at, recordAt, readAt, tagsAt}
-use Rattle.tag_file.specs.Records.{TagRecord, totalLength, onward, recordsFrom, recordsAt, records, sameSide}
+use Rattle.tag_file.specs.Format.{tag_length, head_length, record_length, tag_at}
+use Rattle.tag_file.specs.Reading.{marked, number_at, count_at, past_tags, whole_at, record_at, read_at, tags_at}
+use Rattle.tag_file.specs.Records.{TagRecord, total_length, onward, records_from, records_at, records, same_side}
 use Rattle.tag_file.specs.declared.ReadAnswer.{ReadAnswer}
 use Rattle.tag_file.specs.declared.ReadAnswer.TheVariants.{Record, NoMore, Refused}
 
-pub same-side : (a b : Side) → sameSide a b ≡ true → a ≡ b
-same-side Left Left e = refl
-same-side Left Right e = let z : ◌≡◌ {A = ℕ} 0 1 = cc in absurd (omega arith)
-same-side Right Left e = let z : ◌≡◌ {A = ℕ} 0 1 = cc in absurd (omega arith)
-same-side Right Right e = refl
+pub same_side_lem : (a b : Side) → same_side a b ≡ true → a ≡ b
+same_side_lem Left Left e = refl
+same_side_lem Left Right e = let z : ◌≡◌ {A = ℕ} 0 1 = cc in absurd (omega arith)
+same_side_lem Right Left e = let z : ◌≡◌ {A = ℕ} 0 1 = cc in absurd (omega arith)
+same_side_lem Right Right e = refl
 
 -- ---- tags one after the other
 
-pub length-tagsAt : (n : ℕ) (file : List ℕ) (at : ℕ) → length (tagsAt n file at) ≡ n
-unfolding tagsAt
-length-tagsAt zero file at = refl
-length-tagsAt (suc n) file at = ap suc (length-tagsAt n file (at + tagLength))
+pub length-tags_at : (n : ℕ) (file : List ℕ) (at : ℕ) → length (tags_at n file at) ≡ n
+unfolding tags_at
+length-tags_at zero file at = refl
+length-tags_at (suc n) file at = ap suc (length-tags_at n file (at + tag_length))
 
-pub tagsAt-last : (n : ℕ) (file : List ℕ) (at : ℕ)
-    → tagsAt (suc n) file at ≡ tagsAt n file at ++ (tagAt file (pastTags at n) ∷ [])
-unfolding tagsAt
-tagsAt-last zero file at = let e : at ≡ pastTags at 0 = omega arith in ap (λ (k : ℕ). tagAt file k ∷ []) e
-tagsAt-last (suc n) file at =
-    let e : pastTags (at + tagLength) n ≡ pastTags at (suc n) = omega arith in
-    ap (λ (l : List ℕ). tagAt file at ∷ l)
-    (tagsAt-last n file (at + tagLength) ∙ ap (λ (k : ℕ). tagsAt n file (at + tagLength) ++ (tagAt file k ∷ [])) e)
+pub tags_at_last : (n : ℕ) (file : List ℕ) (at : ℕ)
+    → tags_at (suc n) file at ≡ tags_at n file at ++ (tag_at file (past_tags at n) ∷ [])
+unfolding tags_at
+tags_at_last zero file at = let e : at ≡ past_tags at 0 = omega arith in ap (λ (k : ℕ). tag_at file k ∷ []) e
+tags_at_last (suc n) file at =
+    let e : past_tags (at + tag_length) n ≡ past_tags at (suc n) = omega arith in
+    ap (λ (l : List ℕ). tag_at file at ∷ l)
+    (tags_at_last n file (at + tag_length) ∙ ap (λ (k : ℕ). tags_at n file (at + tag_length) ++ (tag_at file k ∷ [])) e)
 
 -- a tag of a record is among its tags
-pub memb-tagsAt : (n : ℕ) (file : List ℕ) (at k : ℕ) → k < n → memb (tagAt file (pastTags at k)) (tagsAt n file at) ≡ true
-unfolding tagsAt memb
-memb-tagsAt zero file at k h = absurd (not-suc-le-zero h)
-memb-tagsAt (suc n) file at zero h =
-    let e : pastTags at 0 ≡ at = omega arith in
-    or_left (eqb (tagAt file (pastTags at 0)) (tagAt file at)) (memb (tagAt file (pastTags at 0)) (tagsAt n file (at + tagLength)))
-    (eq-eqb (tagAt file (pastTags at 0)) (tagAt file at) (ap (tagAt file) e))
-memb-tagsAt (suc n) file at (suc k) h =
-    let rest = tagsAt n file (at + tagLength) in
-    let e : pastTags (at + tagLength) k ≡ pastTags at (suc k) = omega arith in
-    or_right (eqb (tagAt file (pastTags at (suc k))) (tagAt file at)) (memb (tagAt file (pastTags at (suc k))) rest)
-    (subst (λ (m : ℕ). memb (tagAt file m) rest ≡ true) e (memb-tagsAt n file (at + tagLength) k (le_of_suc-le-suc h)))
+pub memb-tags_at : (n : ℕ) (file : List ℕ) (at k : ℕ) → k < n → memb (tag_at file (past_tags at k)) (tags_at n file at) ≡ true
+unfolding tags_at memb
+memb-tags_at zero file at k h = absurd (not-suc-le-zero h)
+memb-tags_at (suc n) file at zero h =
+    let e : past_tags at 0 ≡ at = omega arith in
+    or_left (eqb (tag_at file (past_tags at 0)) (tag_at file at)) (memb (tag_at file (past_tags at 0)) (tags_at n file (at + tag_length)))
+    (eq-eqb (tag_at file (past_tags at 0)) (tag_at file at) (ap (tag_at file) e))
+memb-tags_at (suc n) file at (suc k) h =
+    let rest = tags_at n file (at + tag_length) in
+    let e : past_tags (at + tag_length) k ≡ past_tags at (suc k) = omega arith in
+    or_right (eqb (tag_at file (past_tags at (suc k))) (tag_at file at)) (memb (tag_at file (past_tags at (suc k))) rest)
+    (subst (λ (m : ℕ). memb (tag_at file m) rest ≡ true) e (memb-tags_at n file (at + tag_length) k (le_of_suc-le-suc h)))
 
 -- ---- a whole record that was read
 
 pub record Whole (file : List ℕ) (at n c p next : ℕ) : Type 0 where
   pub number : n ≡ number_at file at
-  pub count : c ≡ countAt file at
-  pub place : p ≡ at + headLength
-  pub past : next ≡ pastTags p c
+  pub count : c ≡ count_at file at
+  pub place : p ≡ at + head_length
+  pub past : next ≡ past_tags p c
   pub within : next ≤ length file
 
 module _ (file : List ℕ) (at : ℕ) (s : Side) (n c p next : ℕ) where
   abbrev first : ℕ
-  first = at + headLength
+  first = at + head_length
 
   abbrev end : ℕ
-  end = pastTags first (countAt file at)
+  end = past_tags first (count_at file at)
 
-  whole-found : (side : Side) → whole_at file at ≡ true
-      → Record side (number_at file at) (countAt file at) first end ≡ Record s n c p next → Whole file at n c p next
-  whole-found side t e =
+  whole_found : (side : Side) → whole_at file at ≡ true
+      → Record side (number_at file at) (count_at file at) first end ≡ Record s n c p next → Whole file at n c p next
+  whole_found side t e =
       let room = leb-true end (length file) (and_right (leb first (length file)) (leb end (length file)) t) in
       let number : n ≡ number_at file at = cc in
-      let count : c ≡ countAt file at = cc in
+      let count : c ≡ count_at file at = cc in
       let place : p ≡ first = cc in
       let past : next ≡ end = cc in
       record { number = number; count = count; place = place; past = omega arith; within = omega arith }
 
-  refused-not : (why : Refusal) → Refused why ≡ Record s n c p next → Whole file at n c p next
-  refused-not why e = let z : ◌≡◌ {A = ℕ} 0 1 = cc in absurd (omega arith)
+  refused_not : (why : Refusal) → Refused why ≡ Record s n c p next → Whole file at n c p next
+  refused_not why e = let z : ◌≡◌ {A = ℕ} 0 1 = cc in absurd (omega arith)
 
-  no-more-not : NoMore ≡ Record s n c p next → Whole file at n c p next
-  no-more-not e = let z : ◌≡◌ {A = ℕ} 0 1 = cc in absurd (omega arith)
+  no_more_not : NoMore ≡ Record s n c p next → Whole file at n c p next
+  no_more_not e = let z : ◌≡◌ {A = ℕ} 0 1 = cc in absurd (omega arith)
 
-  whole_of : (side : Side) → recordAt side file at ≡ Record s n c p next → Whole file at n c p next
+  whole_of : (side : Side) → record_at side file at ≡ Record s n c p next → Whole file at n c p next
   whole_of side e = pick (whole_at file at) refl e
     where
       pick : (b : Bool) → whole_at file at ≡ b
-          → cond b (Record side (number_at file at) (countAt file at) first end) (Refused (Malformed at))
+          → cond b (Record side (number_at file at) (count_at file at) first end) (Refused (Malformed at))
           ≡ Record s n c p next
           → Whole file at n c p next
-      pick true t e = whole-found side t e
-      pick false t e = refused-not (Malformed at) e
+      pick true t e = whole_found side t e
+      pick false t e = refused_not (Malformed at) e
 
-  pub read_whole : readAt file at ≡ Record s n c p next → Whole file at n c p next
-  unfolding readAt
-  read_whole e = at-end (eqb at (length file)) e
+  pub read_whole : read_at file at ≡ Record s n c p next → Whole file at n c p next
+  unfolding read_at
+  read_whole e = at_end (eqb at (length file)) e
     where
-      right : (b : Bool) → cond b (recordAt Right file at) (Refused (Malformed at)) ≡ Record s n c p next
+      right : (b : Bool) → cond b (record_at Right file at) (Refused (Malformed at)) ≡ Record s n c p next
           → Whole file at n c p next
       right true e = whole_of Right e
-      right false e = refused-not (Malformed at) e
+      right false e = refused_not (Malformed at) e
 
       left : (b : Bool)
-          → cond b (recordAt Left file at) (cond (marked Right file at) (recordAt Right file at) (Refused (Malformed at)))
+          → cond b (record_at Left file at) (cond (marked Right file at) (record_at Right file at) (Refused (Malformed at)))
           ≡ Record s n c p next
           → Whole file at n c p next
       left true e = whole_of Left e
       left false e = right (marked Right file at) e
 
-      at-end : (b : Bool)
+      at_end : (b : Bool)
           → cond b NoMore
-          (cond (marked Left file at) (recordAt Left file at)
-          (cond (marked Right file at) (recordAt Right file at) (Refused (Malformed at))))
+          (cond (marked Left file at) (record_at Left file at)
+          (cond (marked Right file at) (record_at Right file at) (Refused (Malformed at))))
           ≡ Record s n c p next
           → Whole file at n c p next
-      at-end true e = no-more-not e
-      at-end false e = left (marked Left file at) e
+      at_end true e = no_more_not e
+      at_end false e = left (marked Left file at) e
 
 -- what is read of a whole record by place: it goes on, within the file, and a file of bytes has small numbers
-module _ (file : List ℕ) (at : ℕ) {s : Side} {n c p next : ℕ} (e : readAt file at ≡ Record s n c p next) where
-  pub read_past : next ≡ pastTags p c
+module _ (file : List ℕ) (at : ℕ) {s : Side} {n c p next : ℕ} (e : read_at file at ≡ Record s n c p next) where
+  pub read_past : next ≡ past_tags p c
   read_past = (read_whole file at s n c p next e).past
 
-  pub read-within : next ≤ length file
-  read-within = (read_whole file at s n c p next e).within
+  pub read_within : next ≤ length file
+  read_within = (read_whole file at s n c p next e).within
 
-  pub read_length : next ≡ at + recordLength c
+  pub read_length : next ≡ at + record_length c
   read_length =
       let w = read_whole file at s n c p next e in
       omega (arith, w.place, w.past)
 
-  pub read-less : length file - next < length file - at
-  read-less = omega (arith, read_length, read-within)
+  pub read_less : length file - next < length file - at
+  read_less = omega (arith, read_length, read_within)
 
   module _ (byte : (i : ℕ) → get_or file i 0 < 256) where
-    pub read_number : n < halfWords
+    pub read_number : n < half_words
     read_number = omega (arith, (read_whole file at s n c p next e).number, byte (at + 2), byte (at + 3))
 
-    pub read_count : c ≤ maxSetLength
+    pub read_count : c ≤ max_set_length
     read_count = omega (arith, (read_whole file at s n c p next e).count, byte (at + 4))
 
 -- ---- the walk
 
 -- with fuel for every byte that is left, the records are the same
-records-fuel : (f g : ℕ) (file : List ℕ) (at : ℕ) → length file ≤ at + f → length file ≤ at + g
-    → recordsFrom f file at ≡ recordsFrom g file at
-unfolding recordsFrom
-records-fuel zero zero file at hf hg = refl
-records-fuel zero (suc g) file at hf hg = none (readAt file at) refl
+records_fuel : (f g : ℕ) (file : List ℕ) (at : ℕ) → length file ≤ at + f → length file ≤ at + g
+    → records_from f file at ≡ records_from g file at
+unfolding records_from
+records_fuel zero zero file at hf hg = refl
+records_fuel zero (suc g) file at hf hg = none (read_at file at) refl
   where
-    none : (a : ReadAnswer) → readAt file at ≡ a → [] ≡ onward a file (λ next. recordsFrom g file next)
+    none : (a : ReadAnswer) → read_at file at ≡ a → [] ≡ onward a file (λ next. records_from g file next)
     none (Record s n c p next) e =
         let w = read_whole file at s n c p next e in
         absurd (omega (arith, w.place, w.past, w.within))
     none NoMore e = refl
     none (Refused why) e = refl
-records-fuel (suc f) zero file at hf hg = none (readAt file at) refl
+records_fuel (suc f) zero file at hf hg = none (read_at file at) refl
   where
-    none : (a : ReadAnswer) → readAt file at ≡ a → onward a file (λ next. recordsFrom f file next) ≡ []
+    none : (a : ReadAnswer) → read_at file at ≡ a → onward a file (λ next. records_from f file next) ≡ []
     none (Record s n c p next) e =
         let w = read_whole file at s n c p next e in
         absurd (omega (arith, w.place, w.past, w.within))
     none NoMore e = refl
     none (Refused why) e = refl
-records-fuel (suc f) (suc g) file at hf hg = both (λ next. records-fuel f g file next) (readAt file at) refl
+records_fuel (suc f) (suc g) file at hf hg = both (λ next. records_fuel f g file next) (read_at file at) refl
   where
-    both : ((next : ℕ) → length file ≤ next + f → length file ≤ next + g → recordsFrom f file next ≡ recordsFrom g file next)
-        → (a : ReadAnswer) → readAt file at ≡ a
-        → onward a file (λ next. recordsFrom f file next) ≡ onward a file (λ next. recordsFrom g file next)
+    both : ((next : ℕ) → length file ≤ next + f → length file ≤ next + g → records_from f file next ≡ records_from g file next)
+        → (a : ReadAnswer) → read_at file at ≡ a
+        → onward a file (λ next. records_from f file next) ≡ onward a file (λ next. records_from g file next)
     both again (Record s n c p next) e =
         let w = read_whole file at s n c p next e in
-        ap (λ (l : List TagRecord). record { side = s; number = n; tags = tagsAt c file p } ∷ l)
+        ap (λ (l : List TagRecord). record { side = s; number = n; tags = tags_at c file p } ∷ l)
         (again next (omega (arith, w.place, w.past, w.within)) (omega (arith, w.place, w.past, w.within)))
     both again NoMore e = refl
     both again (Refused why) e = refl
 
 module _ (file : List ℕ) (at : ℕ) where
-  open-walk : recordsAt file at ≡ onward (readAt file at) file (λ next. recordsAt file next)
-  unfolding recordsFrom
-  open-walk = records-fuel (length file) (suc (length file)) file at (omega arith) (omega arith)
+  open_walk : records_at file at ≡ onward (read_at file at) file (λ next. records_at file next)
+  unfolding records_from
+  open_walk = records_fuel (length file) (suc (length file)) file at (omega arith) (omega arith)
 
-  pub records-next : (s : Side) (n c p next : ℕ) → readAt file at ≡ Record s n c p next
-      → recordsAt file at ≡ record { side = s; number = n; tags = tagsAt c file p } ∷ recordsAt file next
-  records-next s n c p next e = open-walk ∙ rw e
+  pub records_next : (s : Side) (n c p next : ℕ) → read_at file at ≡ Record s n c p next
+      → records_at file at ≡ record { side = s; number = n; tags = tags_at c file p } ∷ records_at file next
+  records_next s n c p next e = open_walk ∙ rw e
 
-  pub records-end : readAt file at ≡ NoMore → recordsAt file at ≡ []
-  records-end e = open-walk ∙ rw e
+  pub records_end : read_at file at ≡ NoMore → records_at file at ≡ []
+  records_end e = open_walk ∙ rw e
 
-  pub records-refused : (why : Refusal) → readAt file at ≡ Refused why → recordsAt file at ≡ []
-  records-refused why e = open-walk ∙ rw e
+  pub records_refused : (why : Refusal) → read_at file at ≡ Refused why → records_at file at ≡ []
+  records_refused why e = open_walk ∙ rw e
 
 -- the place after one more record
-pub totalLength-last : (rs : List TagRecord) (r : TagRecord)
-    → totalLength (rs ++ (r ∷ [])) ≡ totalLength rs + recordLength (length r.tags)
+pub total_length_last : (rs : List TagRecord) (r : TagRecord)
+    → total_length (rs ++ (r ∷ [])) ≡ total_length rs + record_length (length r.tags)
 unfolding sum
-totalLength-last rs r =
-    sum-append (λ (q : TagRecord). recordLength (length q.tags)) rs (r ∷ [])
-    ∙ ap (λ (k : ℕ). totalLength rs + k) (add-zero (recordLength (length r.tags)))
+total_length_last rs r =
+    sum_append (λ (q : TagRecord). record_length (length q.tags)) rs (r ∷ [])
+    ∙ ap (λ (k : ℕ). total_length rs + k) (add-zero (record_length (length r.tags)))
 
 -- the records of a file lie within it
-records-inside : (fuel : ℕ) (file : List ℕ) (at : ℕ) → at ≤ length file → at + totalLength (recordsFrom fuel file at) ≤ length file
-unfolding recordsFrom sum
-records-inside zero file at h = omega arith
-records-inside (suc fuel) file at h = whole (λ next. records-inside fuel file next) (readAt file at) refl
+records_inside : (fuel : ℕ) (file : List ℕ) (at : ℕ) → at ≤ length file → at + total_length (records_from fuel file at) ≤ length file
+unfolding records_from sum
+records_inside zero file at h = omega arith
+records_inside (suc fuel) file at h = whole (λ next. records_inside fuel file next) (read_at file at) refl
   where
-    whole : ((next : ℕ) → next ≤ length file → next + totalLength (recordsFrom fuel file next) ≤ length file)
-        → (a : ReadAnswer) → readAt file at ≡ a
-        → at + totalLength (onward a file (λ next. recordsFrom fuel file next)) ≤ length file
+    whole : ((next : ℕ) → next ≤ length file → next + total_length (records_from fuel file next) ≤ length file)
+        → (a : ReadAnswer) → read_at file at ≡ a
+        → at + total_length (onward a file (λ next. records_from fuel file next)) ≤ length file
     whole again (Record s n c p next) e =
-        omega (arith, again next (read-within file at e), read_length file at e, length-tagsAt c file p)
+        omega (arith, again next (read_within file at e), read_length file at e, length-tags_at c file p)
     whole again NoMore e = omega arith
     whole again (Refused why) e = omega arith
 
-pub totalLength-inside : (file : List ℕ) → totalLength (records file) ≤ length file
-totalLength-inside file = omega (arith, records-inside (length file) file 0 (omega arith))
+pub total_length_inside : (file : List ℕ) → total_length (records file) ≤ length file
+total_length_inside file = omega (arith, records_inside (length file) file 0 (omega arith))

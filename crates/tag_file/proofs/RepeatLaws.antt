@@ -8,42 +8,42 @@ use native.Mathlib.Nat.{add-zero}
 use native.Mathlib.Omega.{arith}
 use lib.ListN.{length, length-append}
 use Rattle.lists.specs.Lists.{one, onto, keep, sum, memb, rising}
-use Rattle.lists.proofs.Rising.{rising-same}
+use Rattle.lists.proofs.Rising.{rising_same}
 use Rattle.lists.proofs.Filtering.{keep_append}
-use Rattle.lists.proofs.Summing.{sum_same, sum-add, sum-append}
+use Rattle.lists.proofs.Summing.{sum_same, sum-add, sum_append}
 use Rattle.sets.specs.declared.Side.{Side}
 use Rattle.sets.specs.declared.Side.TheVariants.{Left, Right}
-use Rattle.tag_file.specs.Format.{tagLength, recordLength}
-use Rattle.tag_file.specs.Records.{TagRecord, totalLength, records, sameSide, ofSide, collapse, entriesOf}
-use Rattle.tag_file.specs.Repeats.{repeatsIn, repeatsOf, reads_of}
-use Rattle.tag_file.specs.Loading.{Lists, loadAnswer}
+use Rattle.tag_file.specs.Format.{tag_length, record_length}
+use Rattle.tag_file.specs.Records.{TagRecord, total_length, records, same_side, of_side, collapse, entries_of}
+use Rattle.tag_file.specs.Repeats.{repeats_in, repeats_of, reads_of}
+use Rattle.tag_file.specs.Loading.{Lists, load_answer}
 use Rattle.tag_file.specs.declared.Loaded.{Loaded}
 use Rattle.tag_file.specs.declared.Repeats.{Repeats}
 use Rattle.tag_file.specs.declared.LoadAnswer.TheVariants as load
 use Rattle.tag_file.proofs.AnswerLaws.{accepted}
-use Rattle.tag_file.proofs.Tables.{rising-collapse, memb-collapse, collapse-last, length-insertAll-bound}
+use Rattle.tag_file.proofs.Tables.{rising-collapse, memb-collapse, collapse_last, length-insert_all_bound}
 
 -- ---- one record
 
-pub distinct-and-repeats : (tags : List ℕ) → length (collapse tags) + repeatsIn tags ≡ length tags
-unfolding repeatsIn
-distinct-and-repeats tags = omega (arith, length-insertAll-bound [] tags)
+pub distinct_and_repeats : (tags : List ℕ) → length (collapse tags) + repeats_in tags ≡ length tags
+unfolding repeats_in
+distinct_and_repeats tags = omega (arith, length-insert_all_bound [] tags)
 
 -- by its count and its distinct tags
-pub repeats-are : (tags : List ℕ) (count fresh : ℕ) → length tags ≡ count → fresh ≡ length (collapse tags)
-    → count - fresh ≡ repeatsIn tags
-unfolding repeatsIn
-repeats-are tags count fresh c f = rw (c, f)
+pub repeats_are : (tags : List ℕ) (count fresh : ℕ) → length tags ≡ count → fresh ≡ length (collapse tags)
+    → count - fresh ≡ repeats_in tags
+unfolding repeats_in
+repeats_are tags count fresh c f = rw (c, f)
 
 -- one tag more is a repeat where it is among those before it
-pub repeatsIn-last : (tags : List ℕ) (x : ℕ) → repeatsIn (tags ++ (x ∷ [])) ≡ repeatsIn tags + one (memb x tags)
-repeatsIn-last tags x =
+pub repeats_in_last : (tags : List ℕ) (x : ℕ) → repeats_in (tags ++ (x ∷ [])) ≡ repeats_in tags + one (memb x tags)
+repeats_in_last tags x =
     omega (
       arith,
-      collapse-last tags x,
+      collapse_last tags x,
       either (memb x tags),
-      distinct-and-repeats tags,
-      distinct-and-repeats (tags ++ (x ∷ [])),
+      distinct_and_repeats tags,
+      distinct_and_repeats (tags ++ (x ∷ [])),
       length-append tags (x ∷ []),
     )
   where
@@ -52,62 +52,62 @@ repeatsIn-last tags x =
     either false = refl
 
 -- tags that rise strictly have none
-pub rising-repeats : (tags : List ℕ) → rising tags ≡ true → repeatsIn tags ≡ 0
-rising-repeats tags r =
-    let same : collapse tags ≡ tags = rising-same (collapse tags) tags (rising-collapse tags) r (λ z. memb-collapse z tags) in
-    omega (arith, distinct-and-repeats tags, ap length same)
+pub rising_repeats : (tags : List ℕ) → rising tags ≡ true → repeats_in tags ≡ 0
+rising_repeats tags r =
+    let same : collapse tags ≡ tags = rising_same (collapse tags) tags (rising-collapse tags) r (λ z. memb-collapse z tags) in
+    omega (arith, distinct_and_repeats tags, ap length same)
 
 -- ---- the records of a side
 
 module _ (side : Side) where
-  pub entries-and-repeats : (rs : List TagRecord) → entriesOf side rs + repeatsOf side rs ≡ reads_of side rs
-  entries-and-repeats rs =
-      sym (sum-add (λ (r : TagRecord). length (collapse r.tags)) (λ (r : TagRecord). repeatsIn r.tags) (ofSide side rs))
-      ∙ sum_same (λ (r : TagRecord). length (collapse r.tags) + repeatsIn r.tags) (λ (r : TagRecord). length r.tags)
-      (ofSide side rs) (λ r. distinct-and-repeats r.tags)
+  pub entries_and_repeats : (rs : List TagRecord) → entries_of side rs + repeats_of side rs ≡ reads_of side rs
+  entries_and_repeats rs =
+      sym (sum-add (λ (r : TagRecord). length (collapse r.tags)) (λ (r : TagRecord). repeats_in r.tags) (of_side side rs))
+      ∙ sum_same (λ (r : TagRecord). length (collapse r.tags) + repeats_in r.tags) (λ (r : TagRecord). length r.tags)
+      (of_side side rs) (λ r. distinct_and_repeats r.tags)
 
   -- they lie in the file: each takes the bytes of a tag
-  pub repeats-bound : (rs : List TagRecord) → tagLength * repeatsOf side rs ≤ totalLength rs
+  pub repeats_bound : (rs : List TagRecord) → tag_length * repeats_of side rs ≤ total_length rs
   unfolding keep sum
-  repeats-bound [] = omega arith
-  repeats-bound (r ∷ rs) = by-mine (sameSide side r.side) (repeats-bound rs)
+  repeats_bound [] = omega arith
+  repeats_bound (r ∷ rs) = by_mine (same_side side r.side) (repeats_bound rs)
     where
-      by-mine : (b : Bool) → tagLength * repeatsOf side rs ≤ totalLength rs
-          → tagLength * sum (λ (q : TagRecord). repeatsIn q.tags) (onto b r (ofSide side rs))
-          ≤ recordLength (length r.tags) + totalLength rs
-      by-mine true again = omega (arith, again, distinct-and-repeats r.tags)
-      by-mine false again = omega (arith, again)
+      by_mine : (b : Bool) → tag_length * repeats_of side rs ≤ total_length rs
+          → tag_length * sum (λ (q : TagRecord). repeats_in q.tags) (onto b r (of_side side rs))
+          ≤ record_length (length r.tags) + total_length rs
+      by_mine true again = omega (arith, again, distinct_and_repeats r.tags)
+      by_mine false again = omega (arith, again)
 
   module _ (rs : List TagRecord) (r : TagRecord) where
-    last_of : ofSide side (rs ++ (r ∷ [])) ≡ ofSide side rs ++ ofSide side (r ∷ [])
-    last_of = keep_append (λ q. sameSide side q.side) rs (r ∷ [])
+    last_of : of_side side (rs ++ (r ∷ [])) ≡ of_side side rs ++ of_side side (r ∷ [])
+    last_of = keep_append (λ q. same_side side q.side) rs (r ∷ [])
 
-    pub ofSide-same : sameSide side r.side ≡ true → ofSide side (rs ++ (r ∷ [])) ≡ ofSide side rs ++ (r ∷ [])
+    pub of_side_same : same_side side r.side ≡ true → of_side side (rs ++ (r ∷ [])) ≡ of_side side rs ++ (r ∷ [])
     unfolding keep
-    ofSide-same e = last_of ∙ rw e
+    of_side_same e = last_of ∙ rw e
 
-    pub ofSide-other : sameSide side r.side ≡ false → ofSide side (rs ++ (r ∷ [])) ≡ ofSide side rs
+    pub of_side_other : same_side side r.side ≡ false → of_side side (rs ++ (r ∷ [])) ≡ of_side side rs
     unfolding keep
-    ofSide-other e = last_of ∙ rw (e, append-nil)
+    of_side_other e = last_of ∙ rw (e, append-nil)
 
-    pub repeats-same : sameSide side r.side ≡ true → repeatsOf side (rs ++ (r ∷ [])) ≡ repeatsOf side rs + repeatsIn r.tags
+    pub repeats_same : same_side side r.side ≡ true → repeats_of side (rs ++ (r ∷ [])) ≡ repeats_of side rs + repeats_in r.tags
     unfolding sum
-    repeats-same e =
-        ap (sum (λ q. repeatsIn q.tags)) (ofSide-same e)
-        ∙ sum-append (λ (q : TagRecord). repeatsIn q.tags) (ofSide side rs) (r ∷ [])
-        ∙ ap (λ (k : ℕ). repeatsOf side rs + k) (add-zero (repeatsIn r.tags))
+    repeats_same e =
+        ap (sum (λ q. repeats_in q.tags)) (of_side_same e)
+        ∙ sum_append (λ (q : TagRecord). repeats_in q.tags) (of_side side rs) (r ∷ [])
+        ∙ ap (λ (k : ℕ). repeats_of side rs + k) (add-zero (repeats_in r.tags))
 
-    pub repeats-other : sameSide side r.side ≡ false → repeatsOf side (rs ++ (r ∷ [])) ≡ repeatsOf side rs
-    repeats-other e = ap (sum (λ q. repeatsIn q.tags)) (ofSide-other e)
+    pub repeats_other : same_side side r.side ≡ false → repeats_of side (rs ++ (r ∷ [])) ≡ repeats_of side rs
+    repeats_other e = ap (sum (λ q. repeats_in q.tags)) (of_side_other e)
 
 -- ---- of a load that is accepted: for each side entries and repeats are the reads
 
-pub loaded-reads : (file : List ℕ) (lent : Lists) (totals : Loaded) (repeats : Repeats)
-    → loadAnswer file lent ≡ load.Loaded totals repeats
+pub loaded_reads : (file : List ℕ) (lent : Lists) (totals : Loaded) (repeats : Repeats)
+    → load_answer file lent ≡ load.Loaded totals repeats
     → (totals.left_entries + repeats.left ≡ reads_of Left (records file))
     × (totals.right_entries + repeats.right ≡ reads_of Right (records file))
-loaded-reads file lent totals repeats e =
+loaded_reads file lent totals repeats e =
     let a = accepted file lent totals repeats e in (
-      rw (← a.counted, ← a.repeated) (entries-and-repeats Left (records file)),
-      rw (← a.counted, ← a.repeated) (entries-and-repeats Right (records file)),
+      rw (← a.counted, ← a.repeated) (entries_and_repeats Left (records file)),
+      rw (← a.counted, ← a.repeated) (entries_and_repeats Right (records file)),
     )

@@ -5,9 +5,9 @@ use mathlib.Core.List.{List, [], ◌∷◌, ◌++◌, map, flatten}
 use Rattle.std.specs.Borrow.{Bor}
 use Rattle.lists.specs.Lists.{any}
 use Rattle.lists.specs.Lent.{Lent}
-use Rattle.sets.specs.Limits.{maxItems, maxSets, maxEntries}
-use Rattle.sets.specs.Refusals.{refuseIf, unless}
-use Rattle.sets.specs.Lent.{filledOver, afterRefusal}
+use Rattle.sets.specs.Limits.{max_items, max_sets, max_entries}
+use Rattle.sets.specs.Refusals.{refuse_if, unless}
+use Rattle.sets.specs.Lent.{filled_over, after_refusal}
 use Rattle.sets.specs.declared.Side.{Side}
 use Rattle.sets.specs.declared.Side.TheVariants.{Left, Right}
 use Rattle.sets.specs.declared.Refusal.TheVariants.{NumberUsed, TooMany, ShortOutput}
@@ -16,80 +16,80 @@ use Rattle.sets.specs.declared.Tested.TheVariants.{Passed, Failed}
 use Rattle.tag_file.specs.declared.Loaded.{Loaded}
 use Rattle.tag_file.specs.declared.LoadAnswer.{LoadAnswer}
 use Rattle.tag_file.specs.declared.LoadAnswer.TheVariants as load
-use Rattle.tag_file.specs.Format.{tagBytes}
-use Rattle.tag_file.specs.Reading.{readAt}
-use Rattle.tag_file.specs.Records.{TagRecord, totalLength, records, sameSide, ofSide, tagTable, entriesOf, setsOfSide}
-use Rattle.tag_file.specs.Repeats.{repeatTotals}
+use Rattle.tag_file.specs.Format.{tag_bytes}
+use Rattle.tag_file.specs.Reading.{read_at}
+use Rattle.tag_file.specs.Records.{TagRecord, total_length, records, same_side, of_side, tag_table, entries_of, sets_of_side}
+use Rattle.tag_file.specs.Repeats.{repeat_totals}
 use Rattle.tag_file.specs.declared.ReadAnswer.{ReadAnswer}
 use Rattle.tag_file.specs.declared.ReadAnswer.TheVariants.{Record, NoMore, Refused}
 
 -- whether a record of the same side has this number
-abbrev pub numberUsed : List TagRecord → TagRecord → Bool
-numberUsed seen r = any (λ s. sameSide s.side r.side && eqb s.number r.number) seen
+abbrev pub number_used : List TagRecord → TagRecord → Bool
+number_used seen r = any (λ s. same_side s.side r.side && eqb s.number r.number) seen
 
 -- whether records pass a limit: the sets or entries of a side, or the distinct tags of both
-unfoldable pub tooMany : Side → List TagRecord → Bool
-tooMany side rs =
-    ltb maxSets (length (ofSide side rs)) || (ltb maxEntries (entriesOf side rs) || ltb maxItems (length (tagTable rs)))
+unfoldable pub too_many : Side → List TagRecord → Bool
+too_many side rs =
+    ltb max_sets (length (of_side side rs)) || (ltb max_entries (entries_of side rs) || ltb max_items (length (tag_table rs)))
 
 -- the test of a whole record that follows those seen: 2 before 3, with its byte place
-unfoldable pub faultOf : List TagRecord → TagRecord → Tested
-faultOf seen r =
-    unless Failed (refuseIf (numberUsed seen r) (NumberUsed (totalLength seen)))
-    (refuseIf (tooMany r.side (seen ++ (r ∷ []))) (TooMany (totalLength seen)))
+unfoldable pub fault_of : List TagRecord → TagRecord → Tested
+fault_of seen r =
+    unless Failed (refuse_if (number_used seen r) (NumberUsed (total_length seen)))
+    (refuse_if (too_many r.side (seen ++ (r ∷ []))) (TooMany (total_length seen)))
 
 -- the first fault of records that follow those seen, or else what the reading ended with
-unfoldable pub firstFault : List TagRecord → List TagRecord → Tested → Tested
-firstFault seen [] last = last
-firstFault seen (r ∷ rs) last = unless Failed (faultOf seen r) (firstFault (seen ++ (r ∷ [])) rs last)
+unfoldable pub first_fault : List TagRecord → List TagRecord → Tested → Tested
+first_fault seen [] last = last
+first_fault seen (r ∷ rs) last = unless Failed (fault_of seen r) (first_fault (seen ++ (r ∷ [])) rs last)
 
 -- the refusal that the reading ended with; at the file's end there is none
-abbrev pub refusalOf : ReadAnswer → Tested
-refusalOf (Refused why) = Failed why
-refusalOf NoMore = Passed
-refusalOf (Record side number count place next) = Passed
+abbrev pub refusal_of : ReadAnswer → Tested
+refusal_of (Refused why) = Failed why
+refusal_of NoMore = Passed
+refusal_of (Record side number count place next) = Passed
 
 -- the first fault of a file: of its whole records, or else at the place where they end
-unfoldable pub fileFault : List ℕ → Tested
-fileFault file = firstFault [] (records file) (refusalOf (readAt file (totalLength (records file))))
+unfoldable pub file_fault : List ℕ → Tested
+file_fault file = first_fault [] (records file) (refusal_of (read_at file (total_length (records file))))
 
 -- the seven lists: the tag table as bytes, and for each side the record numbers, the ends and the items
 pub record Lists : Type 0 where
   pub tags : List ℕ
-  pub leftNumbers : List ℕ
-  pub leftEnds : List ℕ
-  pub leftItems : List ℕ
-  pub rightNumbers : List ℕ
-  pub rightEnds : List ℕ
-  pub rightItems : List ℕ
+  pub left_numbers : List ℕ
+  pub left_ends : List ℕ
+  pub left_items : List ℕ
+  pub right_numbers : List ℕ
+  pub right_ends : List ℕ
+  pub right_items : List ℕ
 
 -- the record numbers of a side, by place
-abbrev pub numbersOf : Side → List TagRecord → List ℕ
-numbersOf side rs = map (λ r. r.number) (ofSide side rs)
+abbrev pub numbers_of : Side → List TagRecord → List ℕ
+numbers_of side rs = map (λ r. r.number) (of_side side rs)
 
 -- where each of the sets ends, the first beginning at start
-unfoldable pub endsFrom : ℕ → List (List ℕ) → List ℕ
-endsFrom start [] = []
-endsFrom start (set ∷ sets) = (start + length set) ∷ endsFrom (start + length set) sets
+unfoldable pub ends_from : ℕ → List (List ℕ) → List ℕ
+ends_from start [] = []
+ends_from start (set ∷ sets) = (start + length set) ∷ ends_from (start + length set) sets
 
-abbrev pub endsOf : Side → List TagRecord → List ℕ
-endsOf side rs = endsFrom 0 (setsOfSide side (tagTable rs) rs)
+abbrev pub ends_of : Side → List TagRecord → List ℕ
+ends_of side rs = ends_from 0 (sets_of_side side (tag_table rs) rs)
 
 -- the items of a side, one set after the other
-abbrev pub flatItems : Side → List TagRecord → List ℕ
-flatItems side rs = flatten (setsOfSide side (tagTable rs) rs)
+abbrev pub flat_items : Side → List TagRecord → List ℕ
+flat_items side rs = flatten (sets_of_side side (tag_table rs) rs)
 
 -- what an accepted file fills
 abbrev pub filled : List TagRecord → Lists
 filled rs =
     record {
-      tags = tagBytes (tagTable rs);
-      leftNumbers = numbersOf Left rs;
-      leftEnds = endsOf Left rs;
-      leftItems = flatItems Left rs;
-      rightNumbers = numbersOf Right rs;
-      rightEnds = endsOf Right rs;
-      rightItems = flatItems Right rs;
+      tags = tag_bytes (tag_table rs);
+      left_numbers = numbers_of Left rs;
+      left_ends = ends_of Left rs;
+      left_items = flat_items Left rs;
+      right_numbers = numbers_of Right rs;
+      right_ends = ends_of Right rs;
+      right_items = flat_items Right rs;
     }
 
 -- whether a part fits into a lent list
@@ -100,91 +100,91 @@ fits part lent = leb (length part) (length lent)
 unfoldable pub room_for : Lists → Lists → Bool
 room_for part lent =
     fits part.tags lent.tags
-    && (fits part.leftNumbers lent.leftNumbers
-    && (fits part.leftEnds lent.leftEnds
-    && (fits part.leftItems lent.leftItems
-    && (fits part.rightNumbers lent.rightNumbers
-    && (fits part.rightEnds lent.rightEnds && fits part.rightItems lent.rightItems)))))
+    && (fits part.left_numbers lent.left_numbers
+    && (fits part.left_ends lent.left_ends
+    && (fits part.left_items lent.left_items
+    && (fits part.right_numbers lent.right_numbers
+    && (fits part.right_ends lent.right_ends && fits part.right_items lent.right_items)))))
 
 -- how much records give: sets and collapsed entries a side, and distinct tags
-abbrev pub totalsOf : List TagRecord → Loaded
-totalsOf rs =
+abbrev pub totals_of : List TagRecord → Loaded
+totals_of rs =
     record {
-      left_sets = length (ofSide Left rs);
-      right_sets = length (ofSide Right rs);
-      left_entries = entriesOf Left rs;
-      right_entries = entriesOf Right rs;
-      tag_count = length (tagTable rs);
+      left_sets = length (of_side Left rs);
+      right_sets = length (of_side Right rs);
+      left_entries = entries_of Left rs;
+      right_entries = entries_of Right rs;
+      tag_count = length (tag_table rs);
     }
 
 -- the loader's answer: the first record at fault by 1, 2, 3; then 4; else how much was filled, and the repeats
-unfoldable pub loadAnswer : List ℕ → Lists → LoadAnswer
-loadAnswer file lent =
-    unless load.Refused (fileFault file)
-    (unless load.Refused (refuseIf (not (room_for (filled (records file)) lent)) ShortOutput)
-    (load.Loaded (totalsOf (records file)) (repeatTotals (records file))))
+unfoldable pub load_answer : List ℕ → Lists → LoadAnswer
+load_answer file lent =
+    unless load.Refused (file_fault file)
+    (unless load.Refused (refuse_if (not (room_for (filled (records file)) lent)) ShortOutput)
+    (load.Loaded (totals_of (records file)) (repeat_totals (records file))))
 
 -- a lent list at the end: filled from its beginning and as before beyond, or as the refusal leaves it
-abbrev pub lentAfter : LoadAnswer → List ℕ → List ℕ → List ℕ
-lentAfter (load.Loaded totals repeats) part lent = filledOver part lent
-lentAfter (load.Refused why) part lent = afterRefusal why lent
+abbrev pub lent_after : LoadAnswer → List ℕ → List ℕ → List ℕ
+lent_after (load.Loaded totals repeats) part lent = filled_over part lent
+lent_after (load.Refused why) part lent = after_refusal why lent
 
 -- the seven lent lists at the end, by the answer and what it fills
-abbrev pub listsBy : LoadAnswer → Lists → Lists → Lists
-listsBy answer part lent =
+abbrev pub lists_by : LoadAnswer → Lists → Lists → Lists
+lists_by answer part lent =
     record {
-      tags = lentAfter answer part.tags lent.tags;
-      leftNumbers = lentAfter answer part.leftNumbers lent.leftNumbers;
-      leftEnds = lentAfter answer part.leftEnds lent.leftEnds;
-      leftItems = lentAfter answer part.leftItems lent.leftItems;
-      rightNumbers = lentAfter answer part.rightNumbers lent.rightNumbers;
-      rightEnds = lentAfter answer part.rightEnds lent.rightEnds;
-      rightItems = lentAfter answer part.rightItems lent.rightItems;
+      tags = lent_after answer part.tags lent.tags;
+      left_numbers = lent_after answer part.left_numbers lent.left_numbers;
+      left_ends = lent_after answer part.left_ends lent.left_ends;
+      left_items = lent_after answer part.left_items lent.left_items;
+      right_numbers = lent_after answer part.right_numbers lent.right_numbers;
+      right_ends = lent_after answer part.right_ends lent.right_ends;
+      right_items = lent_after answer part.right_items lent.right_items;
     }
 
 -- the same after the load of a file
-abbrev pub listsAfter : List ℕ → Lists → Lists
-listsAfter file lent = listsBy (loadAnswer file lent) (filled (records file)) lent
+abbrev pub lists_after : List ℕ → Lists → Lists
+lists_after file lent = lists_by (load_answer file lent) (filled (records file)) lent
 
 -- seven lists by their names
 abbrev pub lists_of : List ℕ → List ℕ → List ℕ → List ℕ → List ℕ → List ℕ → List ℕ → Lists
-lists_of tags leftNumbers leftEnds leftItems rightNumbers rightEnds rightItems =
+lists_of tags left_numbers left_ends left_items right_numbers right_ends right_items =
     record {
       tags = tags;
-      leftNumbers = leftNumbers;
-      leftEnds = leftEnds;
-      leftItems = leftItems;
-      rightNumbers = rightNumbers;
-      rightEnds = rightEnds;
-      rightItems = rightItems;
+      left_numbers = left_numbers;
+      left_ends = left_ends;
+      left_items = left_items;
+      right_numbers = right_numbers;
+      right_ends = right_ends;
+      right_items = right_items;
     }
 
 -- seven lent lists as they come
-abbrev pub lentLists : Lent → Lent → Lent → Lent → Lent → Lent → Lent → Lists
-lentLists tags leftNumbers leftEnds leftItems rightNumbers rightEnds rightItems =
-    lists_of tags.entry.now leftNumbers.entry.now leftEnds.entry.now leftItems.entry.now
-    rightNumbers.entry.now rightEnds.entry.now rightItems.entry.now
+abbrev pub lent_lists : Lent → Lent → Lent → Lent → Lent → Lent → Lent → Lists
+lent_lists tags left_numbers left_ends left_items right_numbers right_ends right_items =
+    lists_of tags.entry.now left_numbers.entry.now left_ends.entry.now left_items.entry.now
+    right_numbers.entry.now right_ends.entry.now right_items.entry.now
 
 -- the same as they go back
-abbrev pub returnedLists : Lent → Lent → Lent → Lent → Lent → Lent → Lent → Lists
-returnedLists tags leftNumbers leftEnds leftItems rightNumbers rightEnds rightItems =
-    lists_of tags.exit.now leftNumbers.exit.now leftEnds.exit.now leftItems.exit.now
-    rightNumbers.exit.now rightEnds.exit.now rightItems.exit.now
+abbrev pub returned_lists : Lent → Lent → Lent → Lent → Lent → Lent → Lent → Lists
+returned_lists tags left_numbers left_ends left_items right_numbers right_ends right_items =
+    lists_of tags.exit.now left_numbers.exit.now left_ends.exit.now left_items.exit.now
+    right_numbers.exit.now right_ends.exit.now right_items.exit.now
 
 -- and as a `requires` has them
-abbrev pub listsNow : Bor (List ℕ) → Bor (List ℕ) → Bor (List ℕ) → Bor (List ℕ) → Bor (List ℕ) → Bor (List ℕ)
+abbrev pub lists_now : Bor (List ℕ) → Bor (List ℕ) → Bor (List ℕ) → Bor (List ℕ) → Bor (List ℕ) → Bor (List ℕ)
     → Bor (List ℕ) → Lists
-listsNow tags leftNumbers leftEnds leftItems rightNumbers rightEnds rightItems =
-    lists_of tags.now leftNumbers.now leftEnds.now leftItems.now
-    rightNumbers.now rightEnds.now rightItems.now
+lists_now tags left_numbers left_ends left_items right_numbers right_ends right_items =
+    lists_of tags.now left_numbers.now left_ends.now left_items.now
+    right_numbers.now right_ends.now right_items.now
 
 -- a load of a file into seven lent lists: what is answered, and each list afterwards
 pub record LoadCall (file : List ℕ) (before after : Lists) (answer : LoadAnswer) : Type 0 where
-  pub answered : answer ≡ loadAnswer file before
-  pub tags : after.tags ≡ (listsAfter file before).tags
-  pub leftNumbers : after.leftNumbers ≡ (listsAfter file before).leftNumbers
-  pub leftEnds : after.leftEnds ≡ (listsAfter file before).leftEnds
-  pub leftItems : after.leftItems ≡ (listsAfter file before).leftItems
-  pub rightNumbers : after.rightNumbers ≡ (listsAfter file before).rightNumbers
-  pub rightEnds : after.rightEnds ≡ (listsAfter file before).rightEnds
-  pub rightItems : after.rightItems ≡ (listsAfter file before).rightItems
+  pub answered : answer ≡ load_answer file before
+  pub tags : after.tags ≡ (lists_after file before).tags
+  pub left_numbers : after.left_numbers ≡ (lists_after file before).left_numbers
+  pub left_ends : after.left_ends ≡ (lists_after file before).left_ends
+  pub left_items : after.left_items ≡ (lists_after file before).left_items
+  pub right_numbers : after.right_numbers ≡ (lists_after file before).right_numbers
+  pub right_ends : after.right_ends ≡ (lists_after file before).right_ends
+  pub right_items : after.right_items ≡ (lists_after file before).right_items

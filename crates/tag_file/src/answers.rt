@@ -1,13 +1,13 @@
 // The answers of the record reader and of both loads as words at the C boundary.
 ghost use Rattle.std.specs.Prelude.{◌≡◌};
-ghost use Rattle.tag_file.specs.answers.Words.{readWords, loadWords};
+ghost use Rattle.tag_file.specs.answers.Words.{read_words, load_words};
 
 use crate::{LoadAnswer, ReadAnswer, RecordRead};
 use sets::{head_of, side_word};
 
 // The words of the reader's answer at the C boundary.
 pub fn read_words(read: RecordRead) -> [u64; 10]
-    ensures { result ≡ readWords read }
+    ensures { result ≡ read_words read }
 {
     let answer = read.answer;
     match answer {
@@ -41,7 +41,7 @@ pub fn read_words(read: RecordRead) -> [u64; 10]
 
 // The words of the loader's answer at the C boundary.
 pub fn load_words(answer: LoadAnswer) -> [u64; 10]
-    ensures { result ≡ loadWords answer }
+    ensures { result ≡ load_words answer }
 {
     match answer {
         LoadAnswer::Loaded(loaded, repeats) => [

@@ -32,9 +32,9 @@ pub enum LoadAnswer {
 }
 
 ghost use Rattle.std.specs.Prelude.{◌≡◌, ◌+◌, ◌≤◌, ◌<◌, length};
-ghost use Rattle.tag_file.specs.Format.{headLength};
-ghost use Rattle.tag_file.specs.Reading.{readAt, recordAt};
-ghost use Rattle.tag_file.specs.Records.{sameSide};
+ghost use Rattle.tag_file.specs.Format.{head_length};
+ghost use Rattle.tag_file.specs.Reading.{read_at, record_at};
+ghost use Rattle.tag_file.specs.Records.{same_side};
 ghost use Rattle.tag_file.specs.Inner.{ByteAt};
 
 pub mod answers;
@@ -63,7 +63,7 @@ pub struct RecordRead {
 
 // Whether two sides are the same.
 pub fn is_side(a: Side, b: Side) -> bool
-    ensures { result ≡ sameSide a b }
+    ensures { result ≡ same_side a b }
 {
     match a {
         Side::Left => match b {
@@ -87,8 +87,8 @@ pub fn byte_at(file: &[u8], at: usize) -> usize
 
 // A record whose mark is that of the side, and whose head is whole.
 fn record_at(side: Side, file: &[u8], at: usize) -> ReadAnswer
-    requires { at + headLength ≤ length file.now }
-    ensures { result ≡ recordAt side file.now at }
+    requires { at + head_length ≤ length file.now }
+    ensures { result ≡ record_at side file.now at }
 {
     let high = byte_at(file, at + 2);
     let low = byte_at(file, at + 3);
@@ -110,7 +110,7 @@ fn record_at(side: Side, file: &[u8], at: usize) -> ReadAnswer
 
 // Reads the record at a place of a file.
 pub fn read_at(file: &[u8], at: usize) -> ReadAnswer
-    ensures { result ≡ readAt file.now at }
+    ensures { result ≡ read_at file.now at }
 {
     let len = file.len();
     if at == len {
@@ -151,14 +151,14 @@ pub fn begin_at<'a>(file: &'a [u8], at: usize) -> Reader<'a>
 
 // The record at the reader's next place.
 pub fn read_next<'a>(r: Reader<'a>) -> ReadAnswer
-    ensures { result ≡ readAt r.entry.file.now r.entry.at }
+    ensures { result ≡ read_at r.entry.file.now r.entry.at }
 {
     read_at(r.file, r.at)
 }
 
 // The record at a place of a file, by a reader made for it.
 pub fn read_record(file: &[u8], at: usize) -> ReadAnswer
-    ensures { result ≡ readAt file.now at }
+    ensures { result ≡ read_at file.now at }
 {
     read_next(begin_at(file, at))
 }

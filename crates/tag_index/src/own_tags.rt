@@ -1,6 +1,6 @@
 // The tags of a record, added to a set that may have tags from a record before; the record's own distinct tags are counted beside.
 ghost use Rattle.std.specs.Prelude.{◌≡◌, List, ℕ, length};
-ghost use Rattle.tag_file.specs.Reading.{tagsAt};
+ghost use Rattle.tag_file.specs.Reading.{tags_at};
 ghost use Rattle.tag_file.specs.Records.{collapse};
 ghost use Rattle.tag_index.specs.tag_adding.Adding.{Adding, SomeAdding, RoomToAdd, AllAdded};
 
@@ -36,7 +36,7 @@ pub fn add_beside(
         → AllAdded done file.now start count sum.tag_count heads.old tails.old
         ids.old result.tag_count result.distinct
         heads.new tails.new ids.new seen.new }
-    ensures own_value { result.own ≡ length (collapse (tagsAt count file.now start)) }
+    ensures own_value { result.own ≡ length (collapse (tags_at count file.now start)) }
 {
     let mut alone = [0u64; SEEN_WORDS];
     let mut tag_count = sum.tag_count;

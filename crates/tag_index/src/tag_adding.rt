@@ -2,8 +2,8 @@
 // not counted again.
 ghost use Rattle.std.specs.Prelude.{◌≡◌, List, ℕ, ◌≤◌, ◌<◌, length};
 ghost use Rattle.lists.specs.Lists.{one};
-ghost use Rattle.tag_index.specs.Index.{indexRoom};
-ghost use Rattle.tag_index.specs.tag_adding.Adding.{seenWords, Seen, Adding, SomeAdding, RoomToAdd, AllAdded};
+ghost use Rattle.tag_index.specs.Index.{index_room};
+ghost use Rattle.tag_index.specs.tag_adding.Adding.{seen_words, Seen, Adding, SomeAdding, RoomToAdd, AllAdded};
 
 use crate::{HINT_SLOTS, INDEX_ROOM, take_tag};
 use bit_sets::{contains, insert};
@@ -21,7 +21,7 @@ fn number(b: bool) -> usize
 
 // Sees the tag of an id: 1 if it was not seen before, else 0.
 pub fn see(seen: &mut [u64], id: usize) -> usize
-    requires { (id < indexRoom) × (length seen.old ≡ seenWords) }
+    requires { (id < index_room) × (length seen.old ≡ seen_words) }
     ensures { Seen seen.old id result seen.new }
 {
     let before = contains(seen, id);

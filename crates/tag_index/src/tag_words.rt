@@ -1,8 +1,8 @@
 // A tag of a file as two numbers, high byte first: reading one, and comparing two.
 ghost use Rattle.std.specs.Prelude.{◌≡◌, ◌+◌, ◌≤◌, ◌<◌, ltb, eqb, length};
-ghost use Rattle.sets.specs.Limits.{fullWords};
-ghost use Rattle.tag_file.specs.Format.{tagLength, tagAt};
-ghost use Rattle.tag_index.specs.tag_words.Words.{WordIs, TagIs, tagValue};
+ghost use Rattle.sets.specs.Limits.{full_words};
+ghost use Rattle.tag_file.specs.Format.{tag_length, tag_at};
+ghost use Rattle.tag_index.specs.tag_words.Words.{WordIs, TagIs, tag_value};
 
 use tag_file::byte_at;
 
@@ -30,8 +30,8 @@ fn word_at(file: &[u8], at: usize) -> usize
 
 // The tag at a place.
 pub fn tag_at(file: &[u8], at: usize) -> Tag
-    requires { at + tagLength ≤ length file.now }
-    ensures { TagIs (tagAt file.now at) result }
+    requires { at + tag_length ≤ length file.now }
+    ensures { TagIs (tag_at file.now at) result }
 {
     let a = word_at(file, at);
     let b = word_at(file, at + 4);
@@ -44,8 +44,8 @@ pub fn tag_at(file: &[u8], at: usize) -> Tag
 
 // Whether one tag is below another.
 pub fn is_below(a: Tag, b: Tag) -> bool
-    requires { (a.lo < fullWords) × (b.lo < fullWords) }
-    ensures { result ≡ ltb (tagValue a) (tagValue b) }
+    requires { (a.lo < full_words) × (b.lo < full_words) }
+    ensures { result ≡ ltb (tag_value a) (tag_value b) }
 {
     if a.hi == b.hi {
         a.lo < b.lo
@@ -56,8 +56,8 @@ pub fn is_below(a: Tag, b: Tag) -> bool
 
 // Whether two tags are the same.
 pub fn is_same(a: Tag, b: Tag) -> bool
-    requires { (a.lo < fullWords) × (b.lo < fullWords) }
-    ensures { result ≡ eqb (tagValue a) (tagValue b) }
+    requires { (a.lo < full_words) × (b.lo < full_words) }
+    ensures { result ≡ eqb (tag_value a) (tag_value b) }
 {
     if a.hi == b.hi { a.lo == b.lo } else { false }
 }

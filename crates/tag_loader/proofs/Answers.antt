@@ -14,30 +14,30 @@ use Rattle.tag_file.specs.declared.Repeats.{Repeats}
 use Rattle.tag_file.specs.declared.LoadAnswer.{LoadAnswer}
 use Rattle.tag_file.specs.declared.LoadAnswer.TheVariants as load
 use Rattle.tag_file.specs.Records.{records}
-use Rattle.tag_file.specs.Repeats.{repeatTotals}
-use Rattle.tag_file.specs.Loading.{Lists, fileFault, totalsOf, filled, room_for, loadAnswer, LoadCall}
-use Rattle.tag_file.proofs.FaultLaws.{fault-clears}
-use Rattle.tag_file.proofs.AnswerLaws.{tested-refused, tested-loaded, accepts, refuses-short, refuses-fault}
+use Rattle.tag_file.specs.Repeats.{repeat_totals}
+use Rattle.tag_file.specs.Loading.{Lists, file_fault, totals_of, filled, room_for, load_answer, LoadCall}
+use Rattle.tag_file.proofs.FaultLaws.{fault_clears}
+use Rattle.tag_file.proofs.AnswerLaws.{tested-refused, tested-loaded, accepts, refuses_short, refuses_fault}
 use Rattle.tag_scan.specs.totals.Totals.{Limited}
 use Rattle.tag_scan.specs.Scan.{Scanned}
-use Rattle.tag_loader.specs.lent_lists.LentLists.{roomIn, hasRoom, AllCleared}
+use Rattle.tag_loader.specs.lent_lists.LentLists.{room_in, has_room, AllCleared}
 use Rattle.tag_loader.specs.Passes.{AllFilled, Fillable}
-use Rattle.tag_loader.proofs.Rooms.{room-counted}
+use Rattle.tag_loader.proofs.Rooms.{room_counted}
 
 -- a refusal that makes zeros
 call-refused : {file : List ℕ} {before after : Lists} {answer : LoadAnswer} (why : Refusal)
-    → loadAnswer file before ≡ load.Refused why → clears why ≡ true → answer ≡ load.Refused why → AllCleared before after
+    → load_answer file before ≡ load.Refused why → clears why ≡ true → answer ≡ load.Refused why → AllCleared before after
     → LoadCall file before after answer
 call-refused why is zeros e z =
     record {
       answered = e ∙ sym is;
-      tags = rw (is, zeros) z.tags-zero;
-      leftNumbers = rw (is, zeros) z.left.numbers-zero;
-      leftEnds = rw (is, zeros) z.left.ends-zero;
-      leftItems = rw (is, zeros) z.left.items-zero;
-      rightNumbers = rw (is, zeros) z.right.numbers-zero;
-      rightEnds = rw (is, zeros) z.right.ends-zero;
-      rightItems = rw (is, zeros) z.right.items-zero;
+      tags = rw (is, zeros) z.tags_zero;
+      left_numbers = rw (is, zeros) z.left.numbers_zero;
+      left_ends = rw (is, zeros) z.left.ends_zero;
+      left_items = rw (is, zeros) z.left.items_zero;
+      right_numbers = rw (is, zeros) z.right.numbers_zero;
+      right_ends = rw (is, zeros) z.right.ends_zero;
+      right_items = rw (is, zeros) z.right.items_zero;
     }
 
 -- a file at fault: the refusal of the first pass is the answer
@@ -45,38 +45,38 @@ pub call-fault : {file heads tails ids : List ℕ} {before after : Lists} {r : L
     → Scanned file heads tails ids r → r ≡ load.Refused why → AllCleared before after → LoadCall file before after r
 call-fault {file} {heads} {tails} {ids} {before} {after} {r} why s e z =
     let fault =
-    tested-refused (fileFault file) (totalsOf (records file)) (repeatTotals (records file)) why (sym s.answer ∙ e) in
-    call-refused why (refuses-fault file before why fault) (fault-clears file why fault) e z
+    tested-refused (file_fault file) (totals_of (records file)) (repeat_totals (records file)) why (sym s.answer ∙ e) in
+    call-refused why (refuses_fault file before why fault) (fault_clears file why fault) e z
 
 -- no fault: the totals and the repeats are the file's
 pub record Sound (file : List ℕ) (total : Loaded) (repeats : Repeats) : Type 0 where
-  pub clean : fileFault file ≡ Passed
-  pub counts : total ≡ totalsOf (records file)
-  pub repeated : repeats ≡ repeatTotals (records file)
+  pub clean : file_fault file ≡ Passed
+  pub counts : total ≡ totals_of (records file)
+  pub repeated : repeats ≡ repeat_totals (records file)
 
 module _ {file heads tails ids : List ℕ} {r : LoadAnswer} {total : Loaded} {repeats : Repeats}
     (s : Scanned file heads tails ids r) (e : r ≡ load.Loaded total repeats) where
   sound : Sound file total repeats
   sound =
       let all =
-      tested-loaded (fileFault file) (totalsOf (records file)) (repeatTotals (records file)) total repeats (sym s.answer ∙ e) in
+      tested-loaded (file_fault file) (totals_of (records file)) (repeat_totals (records file)) total repeats (sym s.answer ∙ e) in
       record { clean = all.0; counts = all.1; repeated = all.2 }
 
   pub sound-limited : Limited total
   sound-limited = subst (λ (t : Loaded). Limited t) (sym sound.counts) (s.taken sound.clean).limited
 
   module _ (lent : Lists) where
-    same-room : hasRoom total (roomIn lent) ≡ room_for (filled (records file)) lent
-    same-room = ap (λ (t : Loaded). hasRoom t (roomIn lent)) sound.counts ∙ room-counted (records file) lent
+    same-room : has_room total (room_in lent) ≡ room_for (filled (records file)) lent
+    same-room = ap (λ (t : Loaded). has_room t (room_in lent)) sound.counts ∙ room_counted (records file) lent
 
     -- a list is too short
-    pub call-short : {b : Bool} {after : Lists} → b ≡ hasRoom total (roomIn lent) → not b ≡ true → AllCleared lent after
+    pub call-short : {b : Bool} {after : Lists} → b ≡ has_room total (room_in lent) → not b ≡ true → AllCleared lent after
         → LoadCall file lent after (load.Refused ShortOutput)
     call-short {b} is short z =
-        call-refused ShortOutput (refuses-short file lent sound.clean (sym same-room ∙ sym is ∙ not-true b short)) refl refl z
+        call-refused ShortOutput (refuses_short file lent sound.clean (sym same-room ∙ sym is ∙ not-true b short)) refl refl z
 
     -- there is room
-    module _ {b : Bool} (is : b ≡ hasRoom total (roomIn lent)) (enough : not b ≡ false) where
+    module _ {b : Bool} (is : b ≡ has_room total (room_in lent)) (enough : not b ≡ false) where
       room-here : room_for (filled (records file)) lent ≡ true
       room-here = sym same-room ∙ sym is ∙ not-false b enough
 
@@ -93,11 +93,11 @@ module _ {file heads tails ids : List ℕ} {r : LoadAnswer} {total : Loaded} {re
           let accepted = accepts file lent sound.clean room-here in
           record {
             answered = ap₂ load.Loaded sound.counts sound.repeated ∙ sym accepted;
-            tags = rw accepted z.tags-filled;
-            leftNumbers = rw accepted z.leftNumbers-filled;
-            leftEnds = rw accepted z.leftEnds-filled;
-            leftItems = rw accepted z.leftItems-filled;
-            rightNumbers = rw accepted z.rightNumbers-filled;
-            rightEnds = rw accepted z.rightEnds-filled;
-            rightItems = rw accepted z.rightItems-filled;
+            tags = rw accepted z.tags_filled;
+            left_numbers = rw accepted z.left_numbers_filled;
+            left_ends = rw accepted z.left_ends_filled;
+            left_items = rw accepted z.left_items_filled;
+            right_numbers = rw accepted z.right_numbers_filled;
+            right_ends = rw accepted z.right_ends_filled;
+            right_items = rw accepted z.right_items_filled;
           }

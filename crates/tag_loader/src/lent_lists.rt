@@ -1,15 +1,15 @@
 // The seven lists that a load fills: whether lists of these lengths hold what was counted, and all of them filled with zeros.
 ghost use Rattle.std.specs.Prelude.{◌≡◌};
-ghost use Rattle.tag_file.specs.Loading.{lentLists, returnedLists};
+ghost use Rattle.tag_file.specs.Loading.{lent_lists, returned_lists};
 ghost use Rattle.tag_scan.specs.totals.Totals.{Limited};
-ghost use Rattle.tag_loader.specs.lent_lists.LentLists.{sideFits, SideCleared, AllCleared, hasRoom};
+ghost use Rattle.tag_loader.specs.lent_lists.LentLists.{side_fits, SideCleared, AllCleared, has_room};
 
 use lists::{zero_u8, zero_u16, zero_u32};
 use tag_file::{Loaded, TAG_LENGTH};
 
 // Whether lists of these lengths hold the numbers, ends and items of a side.
 fn side_fits(sets: usize, entries: usize, numbers: usize, ends: usize, items: usize) -> bool
-    ensures { result ≡ sideFits sets entries numbers ends items }
+    ensures { result ≡ side_fits sets entries numbers ends items }
 {
     sets <= numbers && (sets <= ends && entries <= items)
 }
@@ -35,8 +35,8 @@ pub fn clear_lists(
     right_items: &mut [u16],
 )
     ensures { AllCleared
-        (lentLists tags left_numbers left_ends left_items right_numbers right_ends right_items)
-        (returnedLists tags left_numbers left_ends left_items right_numbers right_ends right_items) }
+        (lent_lists tags left_numbers left_ends left_items right_numbers right_ends right_items)
+        (returned_lists tags left_numbers left_ends left_items right_numbers right_ends right_items) }
 {
     zero_u8(tags);
     clear_side(left_numbers, left_ends, left_items);
@@ -58,7 +58,7 @@ pub struct LoadRoom {
 // Whether lists of these lengths hold what was counted.
 pub fn has_room(total: Loaded, room: LoadRoom) -> bool
     requires { Limited total }
-    ensures { result ≡ hasRoom total room }
+    ensures { result ≡ has_room total room }
 {
     if room.tags < TAG_LENGTH * total.tag_count {
         return false;

@@ -2,7 +2,7 @@
 // Then `lent_lists` tests the room, `tag_table` writes the tags, and `fill` goes through the file again for each side, record by
 // record (`record_items`). It allocates nothing beyond its own arrays.
 ghost use Rattle.tag_file.specs.Records.{records};
-ghost use Rattle.tag_file.specs.Loading.{lentLists, returnedLists, listsNow, LoadCall};
+ghost use Rattle.tag_file.specs.Loading.{lent_lists, returned_lists, lists_now, LoadCall};
 ghost use Rattle.tag_scan.specs.Scan.{Lengths, Scanned};
 ghost use Rattle.tag_loader.specs.Passes.{AllFilled, Fillable};
 
@@ -57,10 +57,10 @@ fn fill_lists(
     right_items: &mut [u16],
 )
     requires { Fillable file.now heads.now tails.now ids.now n
-        (listsNow tags left_numbers left_ends left_items right_numbers right_ends right_items) }
+        (lists_now tags left_numbers left_ends left_items right_numbers right_ends right_items) }
     ensures { AllFilled (records file.now)
-        (lentLists tags left_numbers left_ends left_items right_numbers right_ends right_items)
-        (returnedLists tags left_numbers left_ends left_items right_numbers right_ends right_items) }
+        (lent_lists tags left_numbers left_ends left_items right_numbers right_ends right_items)
+        (returned_lists tags left_numbers left_ends left_items right_numbers right_ends right_items) }
 {
     let mut ranks = [0u16; INDEX_ROOM];
     rank_ids(ids, n, &mut ranks);
@@ -105,8 +105,8 @@ pub fn load(
     right_items: &mut [u16],
 ) -> LoadAnswer
     ensures { LoadCall file.now
-        (lentLists tags left_numbers left_ends left_items right_numbers right_ends right_items)
-        (returnedLists tags left_numbers left_ends left_items right_numbers right_ends right_items) result }
+        (lent_lists tags left_numbers left_ends left_items right_numbers right_ends right_items)
+        (returned_lists tags left_numbers left_ends left_items right_numbers right_ends right_items) result }
 {
     let mut heads = [0usize; INDEX_ROOM];
     let mut tails = [0u32; INDEX_ROOM];

@@ -1,9 +1,9 @@
 // Writes the loader's table of the distinct tags: the tags of an index in rising order, one after the other.
 ghost use Rattle.std.specs.Prelude.{◌≡◌, ◌+◌, ◌*◌, ◌≤◌, length};
 ghost use Rattle.lists.specs.Writing.{Put};
-ghost use Rattle.sets.specs.Limits.{fullWords};
-ghost use Rattle.sets.specs.Lent.{filledOver};
-ghost use Rattle.tag_file.specs.Format.{tagLength, bytes_of, tagBytes};
+ghost use Rattle.sets.specs.Limits.{full_words};
+ghost use Rattle.sets.specs.Lent.{filled_over};
+ghost use Rattle.tag_file.specs.Format.{tag_length, bytes_of, tag_bytes};
 ghost use Rattle.tag_index.specs.Index.{table_of, Sorted};
 
 use tag_index::INDEX_ROOM;
@@ -25,8 +25,8 @@ fn put_number(number: usize, width: usize, tags: &mut [u8], at: usize) -> usize
 
 // Writes a tag from a place on: its first 8 bytes and its last 4.
 fn put_tag(head: usize, tail: u32, tags: &mut [u8], at: usize) -> usize
-    requires { at + tagLength ≤ length tags.old }
-    ensures { Put tags.old at (bytes_of tagLength (head * fullWords + tail)) result tags.new }
+    requires { at + tag_length ≤ length tags.old }
+    ensures { Put tags.old at (bytes_of tag_length (head * full_words + tail)) result tags.new }
 {
     let mid = put_number(head, 8, tags, at);
     put_number(tail as usize, 4, tags, mid)
@@ -41,9 +41,9 @@ pub fn fill_tags(
     tags: &mut [u8],
 )
     requires sorted { Sorted heads.now tails.now n ids.now }
-    requires ids_in_bounds { length (tagBytes (table_of heads.now tails.now n ids.now)) ≤ length tags.old }
+    requires ids_in_bounds { length (tag_bytes (table_of heads.now tails.now n ids.now)) ≤ length tags.old }
     ensures { tags.new
-        ≡ filledOver (tagBytes (table_of heads.now tails.now n ids.now)) tags.old }
+        ≡ filled_over (tag_bytes (table_of heads.now tails.now n ids.now)) tags.old }
 {
     let mut i = 0;
     let mut at = 0;

@@ -5,14 +5,14 @@ use mathlib.Core.Path.{◌≡◌, refl}
 use Prim.Native.Nat.{ℕ}
 use mathlib.Core.List.{List, [], ◌∷◌, ◌++◌, flatten}
 use Rattle.lists.specs.Lists.{keep, memb, sum, range, any, prefix}
-use Rattle.sets.specs.Collections.{setsFrom}
+use Rattle.sets.specs.Collections.{sets_from}
 use Rattle.sets.specs.declared.Tested.TheVariants.{Passed}
-use Rattle.tag_file.specs.Format.{valueFrom, bytes_of, tagBytes}
-use Rattle.tag_file.specs.Reading.{readAt, tagsAt}
-use Rattle.tag_file.specs.Records.{records, recordsFrom, insert, insertAll, allTags, items_of}
-use Rattle.tag_file.specs.Repeats.{repeatsIn, repeatTotals, noRepeats}
-use Rattle.tag_file.specs.Loading.{filled, fileFault, firstFault, faultOf, tooMany, endsFrom}
-use Rattle.tag_writer_spec.specs.Writer.{recordsOf, fileBytes}
+use Rattle.tag_file.specs.Format.{value_from, bytes_of, tag_bytes}
+use Rattle.tag_file.specs.Reading.{read_at, tags_at}
+use Rattle.tag_file.specs.Records.{records, records_from, insert, insert_all, all_tags, items_of}
+use Rattle.tag_file.specs.Repeats.{repeats_in, repeat_totals, no_repeats}
+use Rattle.tag_file.specs.Loading.{filled, file_fault, first_fault, fault_of, too_many, ends_from}
+use Rattle.tag_writer_spec.specs.Writer.{records_of, file_bytes}
 
 -- a tag: eleven zero bytes and the one shown
 tag : ℕ → List ℕ
@@ -23,24 +23,24 @@ file : List ℕ
 file =
     (0x53 ∷ 0x4B ∷ 0 ∷ 9 ∷ 3 ∷ []) ++ (tag 2 ++ (tag 1 ++ tag 1)) ++ (0x4B ∷ 0x54 ∷ 0 ∷ 7 ∷ 2 ∷ []) ++ (tag 1 ++ tag 2)
 
-rewritten-file : List ℕ
-rewritten-file = (0x4B ∷ 0x54 ∷ 0 ∷ 7 ∷ 2 ∷ []) ++ (tag 1 ++ tag 2) ++ (0x53 ∷ 0x4B ∷ 0 ∷ 9 ∷ 2 ∷ []) ++ (tag 1 ++ tag 2)
+rewritten_file : List ℕ
+rewritten_file = (0x4B ∷ 0x54 ∷ 0 ∷ 7 ∷ 2 ∷ []) ++ (tag 1 ++ tag 2) ++ (0x53 ∷ 0x4B ∷ 0 ∷ 9 ∷ 2 ∷ []) ++ (tag 1 ++ tag 2)
 
-example-accepted : fileFault file ≡ Passed
-unfolding file tag fileFault firstFault faultOf tooMany readAt tagsAt recordsFrom valueFrom insert insertAll allTags
+example_accepted : file_fault file ≡ Passed
+unfolding file tag file_fault first_fault fault_of too_many read_at tags_at records_from value_from insert insert_all all_tags
     keep memb sum any prefix
-example-accepted = refl
+example_accepted = refl
 
-example-written : fileBytes (filled (records file)) ≡ rewritten-file
-unfolding file tag rewritten-file readAt tagsAt recordsFrom valueFrom insert insertAll allTags items_of
-    keep memb range prefix endsFrom flatten setsFrom tagBytes bytes_of recordsOf fileBytes
-example-written = refl
+example_written : file_bytes (filled (records file)) ≡ rewritten_file
+unfolding file tag rewritten_file read_at tags_at records_from value_from insert insert_all all_tags items_of
+    keep memb range prefix ends_from flatten sets_from tag_bytes bytes_of records_of file_bytes
+example_written = refl
 
 -- tag 1 stands twice in right set 9
-example-repeats : repeatTotals (records file) ≡ record { left = 0; right = 1 }
-unfolding file tag readAt tagsAt recordsFrom valueFrom insert insertAll keep sum prefix repeatsIn
-example-repeats = refl
+example_repeats : repeat_totals (records file) ≡ record { left = 0; right = 1 }
+unfolding file tag read_at tags_at records_from value_from insert insert_all keep sum prefix repeats_in
+example_repeats = refl
 
-example-no-repeats : repeatTotals (records rewritten-file) ≡ noRepeats
-unfolding rewritten-file tag readAt tagsAt recordsFrom valueFrom insert insertAll keep sum prefix repeatsIn
-example-no-repeats = refl
+example_no_repeats : repeat_totals (records rewritten_file) ≡ no_repeats
+unfolding rewritten_file tag read_at tags_at records_from value_from insert insert_all keep sum prefix repeats_in
+example_no_repeats = refl

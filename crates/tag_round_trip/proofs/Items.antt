@@ -11,18 +11,18 @@ use lib.Seq.{drop-cons}
 use Rattle.lists.specs.Lists.{all, keep, onto, memb, range, upto, rising, subset}
 use Rattle.lists.proofs.Bools.{and_both}
 use Rattle.lists.proofs.Filtering.{all_keep, keep_same}
-use Rattle.lists.proofs.Mapping.{map-agree}
-use Rattle.lists.proofs.Throughout.{all-elim, subset-elim}
-use Rattle.lists.proofs.Ranges.{all-upto}
+use Rattle.lists.proofs.Mapping.{map_agree}
+use Rattle.lists.proofs.Throughout.{all_elim, subset_elim}
+use Rattle.lists.proofs.Ranges.{all_upto}
 use Rattle.lists.proofs.Rising.{rising-keep, rising-range}
-use Rattle.sets.specs.Limits.{maxSetLength}
-use Rattle.sets.specs.Collections.{goodItems}
-use Rattle.tag_file.specs.Format.{tagBytes}
+use Rattle.sets.specs.Limits.{max_set_length}
+use Rattle.sets.specs.Collections.{good_items}
+use Rattle.tag_file.specs.Format.{tag_bytes}
 use Rattle.tag_file.specs.Records.{collapse, items_of}
 use Rattle.tag_file.proofs.Tables.{memb-collapse}
 use Rattle.tag_file.proofs.ItemCount.{keep-collapse, item_count}
-use Rattle.tag_writer_spec.specs.Writer.{itemTag, itemTags}
-use Rattle.tag_round_trip.proofs.Values.{tagsFit, tagAt-table}
+use Rattle.tag_writer_spec.specs.Writer.{item_tag, item_tags}
+use Rattle.tag_round_trip.proofs.Values.{tags_fit, tag_at_table}
 
 map-keep : (f : ℕ → ℕ) (p : ℕ → Bool) (xs : List ℕ) → map f (keep (λ x. p (f x)) xs) ≡ keep p (map f xs)
 unfolding keep
@@ -44,39 +44,39 @@ map-upto l = map_range l 0 (length l) (omega arith)
 
 module _ (table tags : List ℕ) where
   -- the items are below the number of tags, and rise
-  pub items-below : all (λ i. ltb i (length table)) (items_of table tags) ≡ true
+  pub items_below : all (λ i. ltb i (length table)) (items_of table tags) ≡ true
   unfolding items_of
-  items-below =
-      all_keep (λ i. ltb i (length table)) (λ i. memb (get_or table i 0) tags) (upto (length table)) (all-upto (length table))
+  items_below =
+      all_keep (λ i. ltb i (length table)) (λ i. memb (get_or table i 0) tags) (upto (length table)) (all_upto (length table))
 
-  items-rising : rising (items_of table tags) ≡ true
+  items_rising : rising (items_of table tags) ≡ true
   unfolding items_of
-  items-rising = rising-keep (λ i. memb (get_or table i 0) tags) (upto (length table)) (rising-range 0 (length table))
+  items_rising = rising-keep (λ i. memb (get_or table i 0) tags) (upto (length table)) (rising-range 0 (length table))
 
 module _ (table tags : List ℕ) (r : rising table ≡ true) (sub : subset tags table ≡ true) where
   -- an item's tag is the table's
-  items-tags : map (λ i. get_or table i 0) (items_of table tags) ≡ collapse tags
+  items_tags : map (λ i. get_or table i 0) (items_of table tags) ≡ collapse tags
   unfolding items_of
-  items-tags =
+  items_tags =
       map-keep (λ i. get_or table i 0) (λ t. memb t tags) (upto (length table))
-      ∙ ap (keep (λ t. memb t tags)) (map-upto table) ∙ keep-collapse table tags r (subset-elim tags table sub)
+      ∙ ap (keep (λ t. memb t tags)) (map-upto table) ∙ keep-collapse table tags r (subset_elim tags table sub)
 
-  pub tags-of-items : tagsFit table ≡ true → itemTags (tagBytes table) (items_of table tags) ≡ collapse tags
-  tags-of-items fit =
-      map-agree (itemTag (tagBytes table)) (λ i. get_or table i 0) (items_of table tags)
+  pub tags_of_items : tags_fit table ≡ true → item_tags (tag_bytes table) (items_of table tags) ≡ collapse tags
+  tags_of_items fit =
+      map_agree (item_tag (tag_bytes table)) (λ i. get_or table i 0) (items_of table tags)
       (λ i there.
-      tagAt-table table i fit
-      (ltb-true i (length table) (all-elim _ (items_of table tags) (items-below table tags) i there)))
-      ∙ items-tags
+      tag_at_table table i fit
+      (ltb-true i (length table) (all_elim _ (items_of table tags) (items_below table tags) i there)))
+      ∙ items_tags
 
-  pub items-good : length (collapse tags) ≤ maxSetLength → goodItems (length table) (items_of table tags) ≡ true
-  items-good few =
-      let n = item_count table tags r (subset-elim tags table sub) in
-      and_both (le-leb (length (items_of table tags)) maxSetLength (omega arith))
-      (and_both (items-below table tags) (items-rising table tags))
+  pub items_good : length (collapse tags) ≤ max_set_length → good_items (length table) (items_of table tags) ≡ true
+  items_good few =
+      let n = item_count table tags r (subset_elim tags table sub) in
+      and_both (le-leb (length (items_of table tags)) max_set_length (omega arith))
+      (and_both (items_below table tags) (items_rising table tags))
 
-pub items-collapse : (table tags : List ℕ) → items_of table (collapse tags) ≡ items_of table tags
+pub items_collapse : (table tags : List ℕ) → items_of table (collapse tags) ≡ items_of table tags
 unfolding items_of
-items-collapse table tags =
+items_collapse table tags =
     keep_same (λ i. memb (get_or table i 0) (collapse tags)) (λ i. memb (get_or table i 0) tags) (upto (length table))
     (λ i. memb-collapse (get_or table i 0) tags)

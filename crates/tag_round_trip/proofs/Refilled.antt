@@ -9,74 +9,74 @@ use lib.Dec.{leb}
 use lib.ListN.{length, length-append, length-map}
 use Rattle.lists.specs.Lists.{all, memb, rising, subset}
 use Rattle.lists.proofs.Bools.{and_both, and_left, and_right, or_left, or_right}
-use Rattle.lists.proofs.Membership.{memb-append}
-use Rattle.lists.proofs.Throughout.{subset-intro, all-weaken}
-use Rattle.lists.proofs.Filtering.{all_keep, all-kept}
-use Rattle.sets.specs.Limits.{maxSets, maxEntries, maxSetLength}
-use Rattle.sets.specs.Collections.{between, setsOf, goodItems, goodEnd, firstBad, firstBadFrom}
-use Rattle.sets.specs.Refusals.{noBadSet}
+use Rattle.lists.proofs.Membership.{memb_append}
+use Rattle.lists.proofs.Throughout.{subset_intro, all_weaken}
+use Rattle.lists.proofs.Filtering.{all_keep, all_kept}
+use Rattle.sets.specs.Limits.{max_sets, max_entries, max_set_length}
+use Rattle.sets.specs.Collections.{between, sets_of, good_items, good_end, first_bad, first_bad_from}
+use Rattle.sets.specs.Refusals.{no_bad_set}
 use Rattle.sets.specs.declared.Side.{Side}
 use Rattle.sets.specs.declared.Side.TheVariants.{Left, Right}
 use Rattle.sets.specs.declared.Verdict.TheVariants.{Good}
 use Rattle.sets.specs.declared.Tested.TheVariants.{Passed}
-use Rattle.sets.proofs.Good.{not-bad}
-use Rattle.tag_file.specs.Format.{tagBytes}
-use Rattle.tag_file.specs.Records.{TagRecord, sameSide, ofSide, collapse, allTags, tagTable, items_of, entriesOf, setsOfSide}
-use Rattle.tag_file.specs.Loading.{endsFrom, numbersOf, endsOf, flatItems, filled}
+use Rattle.sets.proofs.Good.{not_bad}
+use Rattle.tag_file.specs.Format.{tag_bytes}
+use Rattle.tag_file.specs.Records.{TagRecord, same_side, of_side, collapse, all_tags, tag_table, items_of, entries_of, sets_of_side}
+use Rattle.tag_file.specs.Loading.{ends_from, numbers_of, ends_of, flat_items, filled}
 use Rattle.tag_file.proofs.Tables.{rising-collapse, memb-collapse}
-use Rattle.tag_file.proofs.RecordLaws.{same-side}
-use Rattle.tag_file.proofs.ItemCount.{length-numbersOf, length-endsOf, length-flatItems}
-use Rattle.tag_writer_spec.specs.Writer.{itemTags, numberedTest}
-use Rattle.tag_writer_spec.proofs.Tests.{side-even}
-use Rattle.tag_round_trip.specs.Rewritten.{sideRecords, recordsOfLists, collapsed, collapsedSide, rewritten}
-use Rattle.tag_round_trip.proofs.Decoding.{between-joined, sets-joined}
-use Rattle.tag_round_trip.proofs.Items.{tags-of-items, items-good}
+use Rattle.tag_file.proofs.RecordLaws.{same_side_lem}
+use Rattle.tag_file.proofs.ItemCount.{length-numbers_of, length-ends_of, length-flat_items}
+use Rattle.tag_writer_spec.specs.Writer.{item_tags, numbered_test}
+use Rattle.tag_writer_spec.proofs.Tests.{side_even}
+use Rattle.tag_round_trip.specs.Rewritten.{side_records, records_of_lists, collapsed, collapsed_side, rewritten}
+use Rattle.tag_round_trip.proofs.Decoding.{between_joined, sets_joined}
+use Rattle.tag_round_trip.proofs.Items.{tags_of_items, items_good}
 use Rattle.tag_round_trip.proofs.Sorted.{length-collapse}
-use Rattle.tag_round_trip.proofs.Values.{tagsFit}
+use Rattle.tag_round_trip.proofs.Values.{tags_fit}
 
 -- whether each record has no more distinct tags than the greatest set length
-abbrev pub setsFew : List TagRecord → Bool
-setsFew rs = all (λ r. leb (length (collapse r.tags)) maxSetLength) rs
+abbrev pub sets_few : List TagRecord → Bool
+sets_few rs = all (λ r. leb (length (collapse r.tags)) max_set_length) rs
 
 -- records that have no more tags than that are such
-pub sets-few : (rs : List TagRecord) → all (λ r. leb (length r.tags) maxSetLength) rs ≡ true → setsFew rs ≡ true
-sets-few rs few =
-    all-weaken (λ r. leb (length r.tags) maxSetLength) (λ r. leb (length (collapse r.tags)) maxSetLength) rs
+pub sets_few_lem : (rs : List TagRecord) → all (λ r. leb (length r.tags) max_set_length) rs ≡ true → sets_few rs ≡ true
+sets_few_lem rs few =
+    all_weaken (λ r. leb (length r.tags) max_set_length) (λ r. leb (length (collapse r.tags)) max_set_length) rs
     (λ r short.
     let most = length-collapse r.tags in
-    let raw : length r.tags ≤ maxSetLength = leb-true (length r.tags) maxSetLength short in
-    le-leb (length (collapse r.tags)) maxSetLength (omega arith))
+    let raw : length r.tags ≤ max_set_length = leb-true (length r.tags) max_set_length short in
+    le-leb (length (collapse r.tags)) max_set_length (omega arith))
     few
 
 -- every record's tags are in a table that has all tags
-tags-within : (table : List ℕ) (rs : List TagRecord) → ((x : ℕ) → memb x (allTags rs) ≡ true → memb x table ≡ true)
+tags_within : (table : List ℕ) (rs : List TagRecord) → ((x : ℕ) → memb x (all_tags rs) ≡ true → memb x table ≡ true)
     → all (λ r. subset r.tags table) rs ≡ true
-unfolding all allTags
-tags-within table [] h = refl
-tags-within table (r ∷ rs) h =
-    and_both (subset-intro r.tags table (λ x m. h x (split x ∙ or_left (memb x r.tags) (memb x (allTags rs)) m)))
-    (tags-within table rs (λ x m. h x (split x ∙ or_right (memb x r.tags) (memb x (allTags rs)) m)))
+unfolding all all_tags
+tags_within table [] h = refl
+tags_within table (r ∷ rs) h =
+    and_both (subset_intro r.tags table (λ x m. h x (split x ∙ or_left (memb x r.tags) (memb x (all_tags rs)) m)))
+    (tags_within table rs (λ x m. h x (split x ∙ or_right (memb x r.tags) (memb x (all_tags rs)) m)))
   where
-    split : (x : ℕ) → memb x (r.tags ++ allTags rs) ≡ (memb x r.tags || memb x (allTags rs))
-    split x = memb-append x r.tags (allTags rs)
+    split : (x : ℕ) → memb x (r.tags ++ all_tags rs) ≡ (memb x r.tags || memb x (all_tags rs))
+    split x = memb_append x r.tags (all_tags rs)
 
-tags-in-table : (rs : List TagRecord) → all (λ r. subset r.tags (tagTable rs)) rs ≡ true
-tags-in-table rs = tags-within (tagTable rs) rs (λ x m. memb-collapse x (allTags rs) ∙ m)
+tags_in_table : (rs : List TagRecord) → all (λ r. subset r.tags (tag_table rs)) rs ≡ true
+tags_in_table rs = tags_within (tag_table rs) rs (λ x m. memb-collapse x (all_tags rs) ∙ m)
 
 -- ---- the records that are written
 
 module _ (side : Side) (table : List ℕ) (r : rising table ≡ true) where
-  sides-records : tagsFit table ≡ true → (rs : List TagRecord) → all (λ r. sameSide side r.side) rs ≡ true
+  sides_records : tags_fit table ≡ true → (rs : List TagRecord) → all (λ r. same_side side r.side) rs ≡ true
       → all (λ r. subset r.tags table) rs ≡ true
-      → sideRecords side (tagBytes table) (map (λ r. r.number) rs) (map (λ r. items_of table r.tags) rs) ≡ map collapsed rs
-  unfolding sideRecords all
-  sides-records fit [] own sub = refl
-  sides-records fit (s ∷ rs) own sub =
-      let same = and_left (sameSide side s.side) (all (λ r. sameSide side r.side) rs) own in
-      let e : side ≡ s.side = same-side side s.side same in
-      let t : itemTags (tagBytes table) (items_of table s.tags) ≡ collapse s.tags =
-      tags-of-items table s.tags r (and_left (subset s.tags table) (all (λ r. subset r.tags table) rs) sub) fit in
-      let rest = sides-records fit rs (and_right (sameSide side s.side) (all (λ r. sameSide side r.side) rs) own)
+      → side_records side (tag_bytes table) (map (λ r. r.number) rs) (map (λ r. items_of table r.tags) rs) ≡ map collapsed rs
+  unfolding side_records all
+  sides_records fit [] own sub = refl
+  sides_records fit (s ∷ rs) own sub =
+      let same = and_left (same_side side s.side) (all (λ r. same_side side r.side) rs) own in
+      let e : side ≡ s.side = same_side_lem side s.side same in
+      let t : item_tags (tag_bytes table) (items_of table s.tags) ≡ collapse s.tags =
+      tags_of_items table s.tags r (and_left (subset s.tags table) (all (λ r. subset r.tags table) rs) sub) fit in
+      let rest = sides_records fit rs (and_right (same_side side s.side) (all (λ r. same_side side r.side) rs) own)
       (and_right (subset s.tags table) (all (λ r. subset r.tags table) rs) sub) in
       cons_same e t rest
     where
@@ -87,80 +87,80 @@ module _ (side : Side) (table : List ℕ) (r : rising table ≡ true) where
 
   -- ---- the sets are good
 
-  sets-good : (rs : List TagRecord) → all (λ r. subset r.tags table) rs ≡ true
-      → setsFew rs ≡ true
-      → all (goodItems (length table)) (map (λ r. items_of table r.tags) rs) ≡ true
+  sets_good : (rs : List TagRecord) → all (λ r. subset r.tags table) rs ≡ true
+      → sets_few rs ≡ true
+      → all (good_items (length table)) (map (λ r. items_of table r.tags) rs) ≡ true
   unfolding all
-  sets-good [] sub few = refl
-  sets-good (s ∷ rs) sub few =
+  sets_good [] sub few = refl
+  sets_good (s ∷ rs) sub few =
       and_both
-      (items-good table s.tags r (and_left (subset s.tags table) (all (λ r. subset r.tags table) rs) sub)
-      (leb-true _ _ (and_left (leb (length (collapse s.tags)) maxSetLength) (setsFew rs) few)))
-      (sets-good rs (and_right (subset s.tags table) (all (λ r. subset r.tags table) rs) sub)
-      (and_right (leb (length (collapse s.tags)) maxSetLength) (setsFew rs) few))
+      (items_good table s.tags r (and_left (subset s.tags table) (all (λ r. subset r.tags table) rs) sub)
+      (leb-true _ _ (and_left (leb (length (collapse s.tags)) max_set_length) (sets_few rs) few)))
+      (sets_good rs (and_right (subset s.tags table) (all (λ r. subset r.tags table) rs) sub)
+      (and_right (leb (length (collapse s.tags)) max_set_length) (sets_few rs) few))
 
 -- good sets that were joined, within the limits, have no bad one among them
-good-joined : (T k start : ℕ) (before : List ℕ) (sets : List (List ℕ)) → length before ≡ start → k + length sets ≤ maxSets
-    → start + length (flatten sets) ≤ maxEntries → all (goodItems T) sets ≡ true
-    → firstBadFrom T k start (endsFrom start sets) (before ++ flatten sets) ≡ Good
-unfolding firstBadFrom endsFrom flatten all
-good-joined T k start before [] e places entries good = refl
-good-joined T k start before (set ∷ sets) e places entries good =
+good_joined : (T k start : ℕ) (before : List ℕ) (sets : List (List ℕ)) → length before ≡ start → k + length sets ≤ max_sets
+    → start + length (flatten sets) ≤ max_entries → all (good_items T) sets ≡ true
+    → first_bad_from T k start (ends_from start sets) (before ++ flatten sets) ≡ Good
+unfolding first_bad_from ends_from flatten all
+good_joined T k start before [] e places entries good = refl
+good_joined T k start before (set ∷ sets) e places entries good =
     let items = before ++ (set ++ flatten sets) in
     let long : length items ≡ start + (length set + length (flatten sets)) = rw (length-append, length-append set (flatten sets), e) in
     let all-long : length (set ++ flatten sets) ≡ length set + length (flatten sets) = length-append set (flatten sets) in
     let next : length (before ++ set) ≡ start + length set = rw (length-append, e) in
-    let end-good : goodEnd start (start + length set) items ≡ true =
+    let end-good : good_end start (start + length set) items ≡ true =
     and_both (le-leb start (start + length set) (omega arith))
-    (and_both (le-leb (start + length set) maxEntries (omega arith))
+    (and_both (le-leb (start + length set) max_entries (omega arith))
     (le-leb (start + length set) (length items) (omega arith))) in
-    let set-good : goodItems T (between start (start + length set) items) ≡ true =
-    ap (goodItems T) (between-joined before set (flatten sets) start e) ∙ and_left (goodItems T set) (all (goodItems T) sets) good in
-    let here = not-bad T k start (start + length set) items (omega arith) (and_both end-good set-good) in
-    let again = good-joined T (suc k) (start + length set) (before ++ set) sets next (omega arith) (omega arith)
-    (and_right (goodItems T set) (all (goodItems T) sets) good) in
+    let set-good : good_items T (between start (start + length set) items) ≡ true =
+    ap (good_items T) (between_joined before set (flatten sets) start e) ∙ and_left (good_items T set) (all (good_items T) sets) good in
+    let here = not_bad T k start (start + length set) items (omega arith) (and_both end-good set-good) in
+    let again = good_joined T (suc k) (start + length set) (before ++ set) sets next (omega arith) (omega arith)
+    (and_right (good_items T set) (all (good_items T) sets) good) in
     rw here (rw (append_assoc before set (flatten sets)) at again)
 
 module _ (rs : List TagRecord) where
-  own-tags : (side : Side) → all (λ r. subset r.tags (tagTable rs)) (ofSide side rs) ≡ true
-  own-tags side = all_keep (λ r. subset r.tags (tagTable rs)) (λ r. sameSide side r.side) rs (tags-in-table rs)
+  own_tags : (side : Side) → all (λ r. subset r.tags (tag_table rs)) (of_side side rs) ≡ true
+  own_tags side = all_keep (λ r. subset r.tags (tag_table rs)) (λ r. same_side side r.side) rs (tags_in_table rs)
 
   -- the sets of a side, from its ends and items
-  side-sets : (side : Side) → setsOf (endsOf side rs) (flatItems side rs) ≡ setsOfSide side (tagTable rs) rs
-  side-sets side = sets-joined (setsOfSide side (tagTable rs) rs)
+  side_sets_lem : (side : Side) → sets_of (ends_of side rs) (flat_items side rs) ≡ sets_of_side side (tag_table rs) rs
+  side_sets_lem side = sets_joined (sets_of_side side (tag_table rs) rs)
 
   -- no set of a side is bad, within the limits
-  module _ (side : Side) (few : setsFew rs ≡ true) (places : length (ofSide side rs) ≤ maxSets)
-      (entries : entriesOf side rs ≤ maxEntries) where
-    pub sets-unbad : firstBad (length (tagTable rs)) (endsOf side rs) (flatItems side rs) ≡ Good
-    sets-unbad =
-        let table = tagTable rs in
-        let sets = setsOfSide side table rs in
-        let n : length sets ≡ length (ofSide side rs) = length-map (ofSide side rs) (λ r. items_of table r.tags) in
-        let m : length (flatten sets) ≡ entriesOf side rs = length-flatItems side rs in
-        good-joined (length table) 0 0 [] sets refl (omega arith) (omega arith)
-        (sets-good side table (rising-collapse (allTags rs)) (ofSide side rs) (own-tags side)
-        (all_keep (λ r. leb (length (collapse r.tags)) maxSetLength) (λ r. sameSide side r.side) rs few))
+  module _ (side : Side) (few : sets_few rs ≡ true) (places : length (of_side side rs) ≤ max_sets)
+      (entries : entries_of side rs ≤ max_entries) where
+    pub sets_unbad : first_bad (length (tag_table rs)) (ends_of side rs) (flat_items side rs) ≡ Good
+    sets_unbad =
+        let table = tag_table rs in
+        let sets = sets_of_side side table rs in
+        let n : length sets ≡ length (of_side side rs) = length-map (of_side side rs) (λ r. items_of table r.tags) in
+        let m : length (flatten sets) ≡ entries_of side rs = length-flat_items side rs in
+        good_joined (length table) 0 0 [] sets refl (omega arith) (omega arith)
+        (sets_good side table (rising-collapse (all_tags rs)) (of_side side rs) (own_tags side)
+        (all_keep (λ r. leb (length (collapse r.tags)) max_set_length) (λ r. same_side side r.side) rs few))
 
-    pub side-good : numberedTest (length (tagTable rs)) side (numbersOf side rs) (endsOf side rs) (flatItems side rs) ≡ Passed
-    side-good =
-        sym (side-even (length (tagTable rs)) side (numbersOf side rs) (endsOf side rs) (flatItems side rs)
-        (ap (noBadSet side) sets-unbad) (length-numbersOf side rs ∙ sym (length-endsOf side rs)))
+    pub side_good : numbered_test (length (tag_table rs)) side (numbers_of side rs) (ends_of side rs) (flat_items side rs) ≡ Passed
+    side_good =
+        sym (side_even (length (tag_table rs)) side (numbers_of side rs) (ends_of side rs) (flat_items side rs)
+        (ap (no_bad_set side) sets_unbad) (length-numbers_of side rs ∙ sym (length-ends_of side rs)))
 
   -- the same of records that have no more tags than the greatest set length
-  pub side-unbad : (side : Side) → all (λ r. leb (length r.tags) maxSetLength) rs ≡ true
-      → length (ofSide side rs) ≤ maxSets → entriesOf side rs ≤ maxEntries
-      → firstBad (length (tagTable rs)) (endsOf side rs) (flatItems side rs) ≡ Good
-  side-unbad side few places entries = sets-unbad side (sets-few rs few) places entries
+  pub side_unbad : (side : Side) → all (λ r. leb (length r.tags) max_set_length) rs ≡ true
+      → length (of_side side rs) ≤ max_sets → entries_of side rs ≤ max_entries
+      → first_bad (length (tag_table rs)) (ends_of side rs) (flat_items side rs) ≡ Good
+  side_unbad side few places entries = sets_unbad side (sets_few_lem rs few) places entries
 
-  pub lists-records : tagsFit (tagTable rs) ≡ true → recordsOfLists (filled rs) ≡ rewritten rs
+  pub lists_records : tags_fit (tag_table rs) ≡ true → records_of_lists (filled rs) ≡ rewritten rs
   unfolding rewritten
-  lists-records fit = rw (of-side Left, of-side Right)
+  lists_records fit = rw (of_side_lem Left, of_side_lem Right)
     where
-      of-side : (side : Side)
-          → sideRecords side (tagBytes (tagTable rs)) (numbersOf side rs) (setsOf (endsOf side rs) (flatItems side rs))
-          ≡ collapsedSide side rs
-      of-side side =
-          ap (sideRecords side (tagBytes (tagTable rs)) (numbersOf side rs)) (side-sets side)
-          ∙ sides-records side (tagTable rs) (rising-collapse (allTags rs)) fit (ofSide side rs)
-          (all-kept (λ r. sameSide side r.side) rs) (own-tags side)
+      of_side_lem : (side : Side)
+          → side_records side (tag_bytes (tag_table rs)) (numbers_of side rs) (sets_of (ends_of side rs) (flat_items side rs))
+          ≡ collapsed_side side rs
+      of_side_lem side =
+          ap (side_records side (tag_bytes (tag_table rs)) (numbers_of side rs)) (side_sets_lem side)
+          ∙ sides_records side (tag_table rs) (rising-collapse (all_tags rs)) fit (of_side side rs)
+          (all_kept (λ r. same_side side r.side) rs) (own_tags side)

@@ -7,7 +7,7 @@ use native.Mathlib.Omega.{arith}
 use lib.ListN.{length}
 use Rattle.lists.specs.Lists.{keep, sum}
 use Rattle.bit_sets.specs.BitSets.{member, Inserted}
-use Rattle.sets.specs.Limits.{maxSetLength, halfWords}
+use Rattle.sets.specs.Limits.{max_set_length, half_words}
 use Rattle.sets.specs.Refusals.{unless}
 use Rattle.sets.specs.declared.Side.{Side}
 use Rattle.sets.specs.declared.Side.TheVariants.{Left, Right}
@@ -17,55 +17,55 @@ use Rattle.sets.specs.declared.Tested.{Tested}
 use Rattle.sets.specs.declared.Tested.TheVariants.{Passed, Failed}
 use Rattle.tag_file.specs.declared.Loaded.{Loaded}
 use Rattle.tag_file.specs.declared.Repeats.{Repeats}
-use Rattle.tag_file.specs.Repeats.{repeatsIn, repeatTotals, noRepeats}
+use Rattle.tag_file.specs.Repeats.{repeats_in, repeat_totals, no_repeats}
 use Rattle.tag_file.specs.declared.LoadAnswer.TheVariants as load
-use Rattle.tag_file.specs.Reading.{readAt, tagsAt}
-use Rattle.tag_file.specs.Records.{TagRecord, totalLength, recordsAt, records}
-use Rattle.tag_file.specs.Loading.{numberUsed, tooMany, faultOf, firstFault, refusalOf, fileFault, totalsOf}
+use Rattle.tag_file.specs.Reading.{read_at, tags_at}
+use Rattle.tag_file.specs.Records.{TagRecord, total_length, records_at, records}
+use Rattle.tag_file.specs.Loading.{number_used, too_many, fault_of, first_fault, refusal_of, file_fault, totals_of}
 use Rattle.tag_file.specs.declared.ReadAnswer.{ReadAnswer}
 use Rattle.tag_file.specs.declared.ReadAnswer.TheVariants.{Record}
-use Rattle.tag_file.proofs.RecordLaws.{length-tagsAt, read_past, read-within, read_length}
-use Rattle.tag_file.proofs.RecordLaws.{records-next, totalLength-last}
-use Rattle.tag_file.proofs.FaultLaws.{fault-used, fault-none}
-use Rattle.tag_file.proofs.RepeatLaws.{repeats-are, repeats-bound}
+use Rattle.tag_file.proofs.RecordLaws.{length-tags_at, read_past, read_within, read_length}
+use Rattle.tag_file.proofs.RecordLaws.{records_next, total_length_last}
+use Rattle.tag_file.proofs.FaultLaws.{fault_used, fault_none}
+use Rattle.tag_file.proofs.RepeatLaws.{repeats_are, repeats_bound}
 use Rattle.tag_index.specs.tag_adding.Adding.{Adding, RoomToAdd, AllAdded}
-use Rattle.tag_index.proofs.tag_adding.AddLaws.{added-distinct}
+use Rattle.tag_index.proofs.tag_adding.AddLaws.{added_distinct}
 use Rattle.tag_scan.specs.used_numbers.Keys.{key_of}
-use Rattle.tag_scan.proofs.used_numbers.Numbers.{Noted, noted_step, noted-tells}
-use Rattle.tag_scan.specs.totals.Totals.{grownBy, is_over, wordNumbers, repeatedBy, RepeatsRoom}
-use Rattle.tag_scan.proofs.totals.Counting.{grown-repeats}
+use Rattle.tag_scan.proofs.used_numbers.Numbers.{Noted, noted_step, noted_tells}
+use Rattle.tag_scan.specs.totals.Totals.{grown_by, is_over, word_numbers, repeated_by, RepeatsRoom}
+use Rattle.tag_scan.proofs.totals.Counting.{grown_repeats}
 use Rattle.tag_scan.specs.Scan.{Taken, Scanned}
-use Rattle.tag_scan.proofs.Taking.{taken-over, taken_next}
+use Rattle.tag_scan.proofs.Taking.{taken_over, taken_next}
 
 -- what the reading of a file ends with
-abbrev lastRefusal : List ℕ → Tested
-lastRefusal file = refusalOf (readAt file (totalLength (records file)))
+abbrev last_refusal : List ℕ → Tested
+last_refusal file = refusal_of (read_at file (total_length (records file)))
 
 pub record Scanning (file used heads tails ids : List ℕ) (total : Loaded) (repeats : Repeats) (at : ℕ) : Type 0 where
   pub seen : List TagRecord
-  pub split : records file ≡ seen ++ recordsAt file at
-  pub place : at ≡ totalLength seen
-  pub fault : fileFault file ≡ firstFault seen (recordsAt file at) (lastRefusal file)
+  pub split : records file ≡ seen ++ records_at file at
+  pub place : at ≡ total_length seen
+  pub fault : file_fault file ≡ first_fault seen (records_at file at) (last_refusal file)
   pub noted : Noted used seen
   pub taken : Taken seen total heads tails ids
-  pub repeated : repeats ≡ repeatTotals seen
+  pub repeated : repeats ≡ repeat_totals seen
 
-pub scanning-start : (file used heads tails ids : List ℕ) {total : Loaded} → Taken [] total heads tails ids → Noted used []
-    → Scanning file used heads tails ids total noRepeats 0
-unfolding fileFault sum keep
-scanning-start file used heads tails ids {total} taken noted =
+pub scanning_start : (file used heads tails ids : List ℕ) {total : Loaded} → Taken [] total heads tails ids → Noted used []
+    → Scanning file used heads tails ids total no_repeats 0
+unfolding file_fault sum keep
+scanning_start file used heads tails ids {total} taken noted =
     record { seen = []; split = refl; place = refl; fault = refl; noted = noted; taken = taken; repeated = refl }
 
 -- a record that passes a limit
-fault_past : (seen : List TagRecord) (r : TagRecord) → numberUsed seen r ≡ false → tooMany r.side (seen ++ (r ∷ [])) ≡ true
-    → faultOf seen r ≡ Failed (TooMany (totalLength seen))
-unfolding faultOf
+fault_past : (seen : List TagRecord) (r : TagRecord) → number_used seen r ≡ false → too_many r.side (seen ++ (r ∷ [])) ≡ true
+    → fault_of seen r ≡ Failed (TooMany (total_length seen))
+unfolding fault_of
 fault_past seen r free past = rw (free, past)
 
 -- a fault is what the file is refused with
-scanning-refused : {file heads tails ids : List ℕ} (why : Refusal) → fileFault file ≡ Failed why
+scanning_refused : {file heads tails ids : List ℕ} (why : Refusal) → file_fault file ≡ Failed why
     → Scanned file heads tails ids (load.Refused why)
-scanning-refused {file} why e = record { answer = rw e; taken = λ n. never (sym e ∙ n) }
+scanning_refused {file} why e = record { answer = rw e; taken = λ n. never (sym e ∙ n) }
   where
     never : {A : Type 0} {w : Refusal} → Failed w ≡ Passed → A
     never e = let z : ◌≡◌ {A = ℕ} 0 1 = cc in absurd (omega arith)
@@ -73,116 +73,116 @@ scanning-refused {file} why e = record { answer = rw e; taken = λ n. never (sym
 module _ {file used heads tails ids : List ℕ} {total : Loaded} {repeats : Repeats} {at : ℕ}
     (s : Scanning file used heads tails ids total repeats at) where
   -- the reading ended: there are no records from here on
-  pub scanning-stop : (a : ReadAnswer) → readAt file at ≡ a → recordsAt file at ≡ []
-      → Scanned file heads tails ids (unless load.Refused (refusalOf a) (load.Loaded total repeats))
-  unfolding firstFault
-  scanning-stop a e stop =
+  pub scanning_stop : (a : ReadAnswer) → read_at file at ≡ a → records_at file at ≡ []
+      → Scanned file heads tails ids (unless load.Refused (refusal_of a) (load.Loaded total repeats))
+  unfolding first_fault
+  scanning_stop a e stop =
       record {
         answer = ap (λ (t : Tested). unless load.Refused t (load.Loaded total repeats)) (sym ends)
-            ∙ ap₂ (λ (t : Loaded) (q : Repeats). unless load.Refused (fileFault file) (load.Loaded t q))
-            (s.taken.counts ∙ ap totalsOf (sym all)) (s.repeated ∙ ap repeatTotals (sym all));
-        taken = λ n. subst (λ (rs : List TagRecord). Taken rs (totalsOf rs) heads tails ids) (sym all)
+            ∙ ap₂ (λ (t : Loaded) (q : Repeats). unless load.Refused (file_fault file) (load.Loaded t q))
+            (s.taken.counts ∙ ap totals_of (sym all)) (s.repeated ∙ ap repeat_totals (sym all));
+        taken = λ n. subst (λ (rs : List TagRecord). Taken rs (totals_of rs) heads tails ids) (sym all)
             (subst (λ (t : Loaded). Taken s.seen t heads tails ids) s.taken.counts s.taken);
       }
     where
       all : records file ≡ s.seen
       all = s.split ∙ ap (λ (l : List TagRecord). s.seen ++ l) stop ∙ append-nil s.seen
 
-      ends : fileFault file ≡ refusalOf a
+      ends : file_fault file ≡ refusal_of a
       ends =
-          s.fault ∙ ap (λ (l : List TagRecord). firstFault s.seen l (lastRefusal file)) stop
-          ∙ ap refusalOf (ap (readAt file) (ap totalLength all ∙ sym s.place) ∙ e)
+          s.fault ∙ ap (λ (l : List TagRecord). first_fault s.seen l (last_refusal file)) stop
+          ∙ ap refusal_of (ap (read_at file) (ap total_length all ∙ sym s.place) ∙ e)
 
   -- the record here: its number was used, it passes a limit, or it is taken in
-  module _ {side : Side} {n c p next : ℕ} (e : readAt file at ≡ Record side n c p next) where
+  module _ {side : Side} {n c p next : ℕ} (e : read_at file at ≡ Record side n c p next) where
     abbrev this : TagRecord
-    this = record { side = side; number = n; tags = tagsAt c file p }
+    this = record { side = side; number = n; tags = tags_at c file p }
 
-    here : fileFault file
-        ≡ unless Failed (faultOf s.seen this) (firstFault (s.seen ++ (this ∷ [])) (recordsAt file next) (lastRefusal file))
-    unfolding firstFault
+    here : file_fault file
+        ≡ unless Failed (fault_of s.seen this) (first_fault (s.seen ++ (this ∷ [])) (records_at file next) (last_refusal file))
+    unfolding first_fault
     here =
         s.fault
-        ∙ ap (λ (l : List TagRecord). firstFault s.seen l (lastRefusal file)) (records-next file at side n c p next e)
+        ∙ ap (λ (l : List TagRecord). first_fault s.seen l (last_refusal file)) (records_next file at side n c p next e)
 
     -- what the noted numbers tell of it
-    module _ (small : n < halfWords) where
-      tells : numberUsed s.seen this ≡ member used (key_of side n)
-      tells = sym (noted-tells this small s.noted)
+    module _ (small : n < half_words) where
+      tells : number_used s.seen this ≡ member used (key_of side n)
+      tells = sym (noted_tells this small s.noted)
 
       -- the record's number was used
-      pub scanning-used : member used (key_of side n) ≡ true → Scanned file heads tails ids (load.Refused (NumberUsed at))
-      scanning-used t = scanning-refused (NumberUsed at) (here ∙ rw (fault-used s.seen this (tells ∙ t), ← s.place))
+      pub scanning_used : member used (key_of side n) ≡ true → Scanned file heads tails ids (load.Refused (NumberUsed at))
+      scanning_used t = scanning_refused (NumberUsed at) (here ∙ rw (fault_used s.seen this (tells ∙ t), ← s.place))
 
-    pub scanning-room : c ≤ maxSetLength → RoomToAdd file p c total.tag_count 0
-    scanning-room few =
+    pub scanning_room : c ≤ max_set_length → RoomToAdd file p c total.tag_count 0
+    scanning_room few =
         record {
-          inside = omega (arith, read_past file at e, read-within file at e);
+          inside = omega (arith, read_past file at e, read_within file at e);
           room = omega (arith, s.taken.limited.tags);
           count_room = omega arith;
         }
 
     module _ {tagCount distinct : ℕ} {now-heads now-tails now-ids now-marks : List ℕ}
         (added : AllAdded [] file p c total.tag_count heads tails ids tagCount distinct now-heads now-tails now-ids now-marks) where
-      pub distinct-few : {marks : List ℕ} → Adding [] heads tails total.tag_count 0 ids marks → c ≤ maxSetLength
-          → distinct ≤ maxSetLength
-      distinct-few a few = omega (arith, added-distinct a added)
+      pub distinct_few : {marks : List ℕ} → Adding [] heads tails total.tag_count 0 ids marks → c ≤ max_set_length
+          → distinct ≤ max_set_length
+      distinct_few a few = omega (arith, added_distinct a added)
 
       -- its repeats are those of its tags that are not distinct
-      here-repeats : c - distinct ≡ repeatsIn (tagsAt c file p)
-      here-repeats = repeats-are (tagsAt c file p) c distinct (length-tagsAt c file p) added.adding.counted
+      here_repeats : c - distinct ≡ repeats_in (tags_at c file p)
+      here_repeats = repeats_are (tags_at c file p) c distinct (length-tags_at c file p) added.adding.counted
 
       -- they lie in the file with those before
-      pub repeats-room : length file < wordNumbers → RepeatsRoom repeats (c - distinct)
-      repeats-room fits =
+      pub repeats_room : length file < word_numbers → RepeatsRoom repeats (c - distinct)
+      repeats_room fits =
           record {
             left = omega (
               arith,
               fits,
-              repeats-bound Left s.seen,
+              repeats_bound Left s.seen,
               ap (λ (q : Repeats). q.left) s.repeated,
               s.place,
               read_length file at e,
-              read-within file at e,
+              read_within file at e,
             );
             right = omega (
               arith,
               fits,
-              repeats-bound Right s.seen,
+              repeats_bound Right s.seen,
               ap (λ (q : Repeats). q.right) s.repeated,
               s.place,
               read_length file at e,
-              read-within file at e,
+              read_within file at e,
             );
           }
 
-      module _ (small : n < halfWords) (free : member used (key_of side n) ≡ false) {now-total : Loaded}
-          (grew : now-total ≡ grownBy total side tagCount distinct) where
+      module _ (small : n < half_words) (free : member used (key_of side n) ≡ false) {now-total : Loaded}
+          (grew : now-total ≡ grown_by total side tagCount distinct) where
         -- what the limits say of it
-        limit : is_over now-total side ≡ tooMany side (s.seen ++ (this ∷ []))
+        limit : is_over now-total side ≡ too_many side (s.seen ++ (this ∷ []))
         limit =
             ap (λ (t : Loaded). is_over t side) grew
-            ∙ taken-over s.taken this added.adding.sorted added.table added.adding.counted
+            ∙ taken_over s.taken this added.adding.sorted added.table added.adding.counted
 
         -- the record passes a limit
-        pub scanning-past : is_over now-total side ≡ true → Scanned file now-heads now-tails now-ids (load.Refused (TooMany at))
-        scanning-past t =
-            scanning-refused (TooMany at)
+        pub scanning_past : is_over now-total side ≡ true → Scanned file now-heads now-tails now-ids (load.Refused (TooMany at))
+        scanning_past t =
+            scanning_refused (TooMany at)
             (here ∙ rw (fault_past s.seen this (tells small ∙ free) (sym limit ∙ t), ← s.place))
 
-        pub scanning-next : {now-used : List ℕ} {now-repeats : Repeats} → Inserted used (key_of side n) now-used
-            → is_over now-total side ≡ false → now-repeats ≡ repeatedBy repeats side (c - distinct)
+        pub scanning_next : {now-used : List ℕ} {now-repeats : Repeats} → Inserted used (key_of side n) now-used
+            → is_over now-total side ≡ false → now-repeats ≡ repeated_by repeats side (c - distinct)
             → Scanning file now-used now-heads now-tails now-ids now-total now-repeats next
-        scanning-next noted few rose =
+        scanning_next noted few rose =
             record {
               seen = s.seen ++ (this ∷ []);
-              split = s.split ∙ ap (λ (l : List TagRecord). s.seen ++ l) (records-next file at side n c p next e)
-                  ∙ sym (append_assoc s.seen (this ∷ []) (recordsAt file next));
-              place = omega (arith, totalLength-last s.seen this, s.place, length-tagsAt c file p, read_length file at e);
-              fault = here ∙ rw (fault-none s.seen this (tells small ∙ free) (sym limit ∙ few));
+              split = s.split ∙ ap (λ (l : List TagRecord). s.seen ++ l) (records_next file at side n c p next e)
+                  ∙ sym (append_assoc s.seen (this ∷ []) (records_at file next));
+              place = omega (arith, total_length_last s.seen this, s.place, length-tags_at c file p, read_length file at e);
+              fault = here ∙ rw (fault_none s.seen this (tells small ∙ free) (sym limit ∙ few));
               noted = noted_step this small s.noted noted;
               taken = taken_next s.taken this added.adding.sorted added.table added.adding.counted grew
                   (sym (ap (λ (t : Loaded). is_over t side) grew) ∙ few);
-              repeated = rose ∙ ap (λ (q : Repeats). repeatedBy q side (c - distinct)) s.repeated
-                  ∙ grown-repeats s.seen this (c - distinct) here-repeats;
+              repeated = rose ∙ ap (λ (q : Repeats). repeated_by q side (c - distinct)) s.repeated
+                  ∙ grown_repeats s.seen this (c - distinct) here_repeats;
             }

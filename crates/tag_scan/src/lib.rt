@@ -2,7 +2,7 @@
 // tags. The index tells how many distinct tags a record has, and so how many are repeats. `used_numbers` notes the numbers, `totals`
 // has the counts with one more record and the limits.
 ghost use Rattle.std.specs.Prelude.{◌≡◌, replicate};
-ghost use Rattle.tag_scan.specs.used_numbers.Keys.{usedWords};
+ghost use Rattle.tag_scan.specs.used_numbers.Keys.{used_words};
 ghost use Rattle.tag_scan.specs.Scan.{Lengths, Scanned};
 
 use crate::totals::{grown, is_over, repeated, stopped};
@@ -25,7 +25,7 @@ pub fn scan_records(
     hints: &mut [u16; HINT_SLOTS],
 ) -> LoadAnswer
     requires lengths { Lengths heads.old tails.old ids.old }
-    requires used_value { used.old ≡ replicate usedWords 0 }
+    requires used_value { used.old ≡ replicate used_words 0 }
     ensures { Scanned file.now heads.new tails.new ids.new result }
 {
     let mut total = Loaded {

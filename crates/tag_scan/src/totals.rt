@@ -1,11 +1,11 @@
 // The totals of a load: its counts and repeats with one more record of a side, whether counts exceed a limit, and the answer of a
 // first pass when the reading has ended.
 ghost use Rattle.std.specs.Prelude.{◌≡◌, ◌≤◌};
-ghost use Rattle.sets.specs.Limits.{maxSetLength};
+ghost use Rattle.sets.specs.Limits.{max_set_length};
 ghost use Rattle.sets.specs.Refusals.{unless};
 ghost use Rattle.tag_file.specs.declared.LoadAnswer.TheVariants.{Loaded as Accepted, Refused as Rejected};
-ghost use Rattle.tag_file.specs.Loading.{refusalOf};
-ghost use Rattle.tag_scan.specs.totals.Totals.{grownBy, passes, is_over, Limited, repeatedBy, RepeatsRoom};
+ghost use Rattle.tag_file.specs.Loading.{refusal_of};
+ghost use Rattle.tag_scan.specs.totals.Totals.{grown_by, passes, is_over, Limited, repeated_by, RepeatsRoom};
 
 use sets::{MAX_ENTRIES, MAX_ITEMS, MAX_SETS, Side};
 use tag_file::{LoadAnswer, Loaded, ReadAnswer, Repeats};
@@ -17,8 +17,8 @@ const MAX_TAGS: usize = MAX_ITEMS as usize;
 // The counts with one more record of a side.
 pub fn grown(total: Loaded, side: Side, added: Added) -> Loaded
     requires limited { Limited total }
-    requires distinct_le_max_set_length { added.distinct ≤ maxSetLength }
-    ensures { result ≡ grownBy total side added.tag_count added.distinct }
+    requires distinct_le_max_set_length { added.distinct ≤ max_set_length }
+    ensures { result ≡ grown_by total side added.tag_count added.distinct }
 {
     match side {
         Side::Left => Loaded {
@@ -41,7 +41,7 @@ pub fn grown(total: Loaded, side: Side, added: Added) -> Loaded
 // The repeats with those of one more record of a side.
 pub fn repeated(repeats: Repeats, side: Side, more: usize) -> Repeats
     requires { RepeatsRoom repeats more }
-    ensures { result ≡ repeatedBy repeats side more }
+    ensures { result ≡ repeated_by repeats side more }
 {
     match side {
         Side::Left => Repeats {
@@ -74,7 +74,7 @@ pub fn is_over(total: Loaded, side: Side) -> bool
 
 // What the first pass answers when the reading has ended: the reader's refusal, or the counts and the repeats.
 pub fn stopped(answer: ReadAnswer, total: Loaded, repeats: Repeats) -> LoadAnswer
-    ensures { result ≡ unless Rejected (refusalOf answer) (Accepted total repeats) }
+    ensures { result ≡ unless Rejected (refusal_of answer) (Accepted total repeats) }
 {
     match answer {
         ReadAnswer::Refused(why) => LoadAnswer::Refused(why),

@@ -1,7 +1,7 @@
 // The numbers that the records of a file used, noted in a bit set: a number of one side is free for the other.
 ghost use Rattle.std.specs.Prelude.{◌≡◌, length};
 ghost use Rattle.bit_sets.specs.BitSets.{Claimed};
-ghost use Rattle.tag_scan.specs.used_numbers.Keys.{usedWords, key_of};
+ghost use Rattle.tag_scan.specs.used_numbers.Keys.{used_words, key_of};
 
 use sets::Side;
 
@@ -23,7 +23,7 @@ fn key_of(side: Side, number: u16) -> usize
 
 // Notes a number of a side, and tells whether it was noted before.
 pub fn claim(used: &mut [u64], side: Side, number: u16) -> bool
-    requires { length used.old ≡ usedWords }
+    requires { length used.old ≡ used_words }
     ensures { Claimed used.old (key_of side number) result used.new }
 {
     bit_sets::claim(used, key_of(side, number))

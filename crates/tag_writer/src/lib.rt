@@ -1,9 +1,9 @@
 // The writer of a tag file (document 01, "Tag file"): a record for each left set (kit), then for each right set (stack), by
 // `record_writer`. What it answers and leaves in the lent output is defined in `tag_writer_spec`.
 ghost use Rattle.std.specs.Prelude.{◌≡◌, length};
-ghost use Rattle.tag_file.specs.Loading.{lentLists, listsNow};
-ghost use Rattle.tag_writer_spec.specs.Writer.{fileBytes, tableTest, numberedTest, listsTest};
-ghost use Rattle.tag_writer_spec.specs.Writer.{writtenWithin, fileAfter, WriteCall};
+ghost use Rattle.tag_file.specs.Loading.{lent_lists, lists_now};
+ghost use Rattle.tag_writer_spec.specs.Writer.{file_bytes, table_test, numbered_test, lists_test};
+ghost use Rattle.tag_writer_spec.specs.Writer.{written_within, file_after, WriteCall};
 ghost use Rattle.tag_writer_spec.specs.Inner.{GoodLists};
 
 use crate::record_writer::{TAG_LENGTH, put_side, side_length};
@@ -14,7 +14,7 @@ pub mod record_writer;
 
 // T is within its limit, and the tag table is as long as it says.
 fn test_table(t: u32, tags: &[u8]) -> Tested
-    ensures { result ≡ tableTest t tags.now }
+    ensures { result ≡ table_test t tags.now }
 {
     let items = inputs::test_items(t);
     if let Tested::Failed(why) = items {
@@ -28,7 +28,7 @@ fn test_table(t: u32, tags: &[u8]) -> Tested
 
 // A side has no bad set, and then as many numbers as sets; else the shorter length is the place.
 fn test_numbered(t: u32, side: Side, numbers: &[u16], ends: &[u32], items: &[u16]) -> Tested
-    ensures { result ≡ numberedTest t side numbers.now ends.now items.now }
+    ensures { result ≡ numbered_test t side numbers.now ends.now items.now }
 {
     let sets = inputs::test_side(t, side, ends, items);
     if let Tested::Failed(why) = sets {
@@ -54,8 +54,8 @@ fn test_lists(
     right_ends: &[u32],
     right_items: &[u16],
 ) -> Tested
-    ensures { result ≡ listsTest t
-        (lentLists tags left_numbers left_ends left_items right_numbers right_ends right_items) }
+    ensures { result ≡ lists_test t
+        (lent_lists tags left_numbers left_ends left_items right_numbers right_ends right_items) }
 {
     let table = test_table(t, tags);
     if let Tested::Failed(why) = table {
@@ -79,11 +79,11 @@ fn write_good(
     right_items: &[u16],
     file: &mut [u8],
 ) -> WriteAnswer
-    requires { GoodLists (listsNow tags left_numbers left_ends left_items right_numbers right_ends right_items) }
-    ensures answer { result ≡ writtenWithin (length file.old) (fileBytes
-        (lentLists tags left_numbers left_ends left_items right_numbers right_ends right_items)) }
-    ensures file { file.new ≡ fileAfter result (fileBytes
-        (lentLists tags left_numbers left_ends left_items right_numbers right_ends right_items)) file.old }
+    requires { GoodLists (lists_now tags left_numbers left_ends left_items right_numbers right_ends right_items) }
+    ensures answer { result ≡ written_within (length file.old) (file_bytes
+        (lent_lists tags left_numbers left_ends left_items right_numbers right_ends right_items)) }
+    ensures file { file.new ≡ file_after result (file_bytes
+        (lent_lists tags left_numbers left_ends left_items right_numbers right_ends right_items)) file.old }
 {
     let left = side_length(left_ends);
     let right = side_length(right_ends);
@@ -124,7 +124,7 @@ pub fn write(
     right_items: &[u16],
     file: &mut [u8],
 ) -> WriteAnswer
-    ensures { WriteCall t (lentLists tags left_numbers left_ends left_items right_numbers right_ends right_items)
+    ensures { WriteCall t (lent_lists tags left_numbers left_ends left_items right_numbers right_ends right_items)
         file.old file.new result }
 {
     let tested = test_lists(

@@ -2,10 +2,10 @@
 // record, whatever its side.
 ghost use Rattle.std.specs.Prelude.{◌≡◌, ◌+◌, ◌*◌, ◌-◌, ◌≤◌, length, take, drop, get_or};
 ghost use Rattle.std.proofs.lemmas.List.Edits.{sets};
-ghost use Rattle.sets.specs.Limits.{maxSets, maxEntries, maxSetLength};
-ghost use Rattle.sets.specs.Collections.{between, setsOf, entries};
-ghost use Rattle.tag_file.specs.Format.{tagLength, headLength, recordLength, tagBytes, mark, recordHead, recordBytes};
-ghost use Rattle.tag_writer_spec.specs.Writer.{itemTags, recordsOf};
+ghost use Rattle.sets.specs.Limits.{max_sets, max_entries, max_set_length};
+ghost use Rattle.sets.specs.Collections.{between, sets_of, entries};
+ghost use Rattle.tag_file.specs.Format.{tag_length, head_length, record_length, tag_bytes, mark, record_head, record_bytes};
+ghost use Rattle.tag_writer_spec.specs.Writer.{item_tags, records_of};
 ghost use Rattle.tag_writer_spec.specs.Inner.{ItemsFit, GoodSide};
 
 use sets::Side;
@@ -33,8 +33,8 @@ fn put_four(tags: &[u8], from: usize, file: &mut [u8], at: usize)
 
 // Copies the tag at a place of the tag table to a place of the file.
 fn put_tag(tags: &[u8], from: usize, file: &mut [u8], at: usize)
-    requires { (from + tagLength ≤ length tags.now) × (at + tagLength ≤ length file.old) }
-    ensures { file.new ≡ sets file.old at (take tagLength (drop from tags.now)) }
+    requires { (from + tag_length ≤ length tags.now) × (at + tag_length ≤ length file.old) }
+    ensures { file.new ≡ sets file.old at (take tag_length (drop from tags.now)) }
 {
     put_four(tags, from, file, at);
     put_four(tags, from + 4, file, at + 4);
@@ -63,8 +63,8 @@ fn second_mark(side: Side) -> u8
 
 // Writes the mark, the number and the count of a record to a place of the file.
 fn put_head(side: Side, number: u16, count: u8, file: &mut [u8], at: usize)
-    requires { at + headLength ≤ length file.old }
-    ensures { file.new ≡ sets file.old at (recordHead side number count) }
+    requires { at + head_length ≤ length file.old }
+    ensures { file.new ≡ sets file.old at (record_head side number count) }
 {
     let first = first_mark(side);
     let second = second_mark(side);
@@ -78,9 +78,9 @@ fn put_head(side: Side, number: u16, count: u8, file: &mut [u8], at: usize)
 // Writes the tags of items[start..end] to a place of the file.
 fn put_tags(tags: &[u8], items: &[u16], start: usize, end: usize, file: &mut [u8], at: usize)
     requires items_fit { ItemsFit tags.now items.now start end }
-    requires start_in_bounds { at + tagLength * (end - start) ≤ length file.old }
+    requires start_in_bounds { at + tag_length * (end - start) ≤ length file.old }
     ensures { file.new ≡ sets file.old at
-        (tagBytes (itemTags tags.now (between start end items.now))) }
+        (tag_bytes (item_tags tags.now (between start end items.now))) }
 {
     let mut i = start;
     let mut to = at;
@@ -104,9 +104,9 @@ fn put_record(
     at: usize,
 )
     requires items_fit { ItemsFit tags.now items.now start end }
-    requires start_bound { (end - start ≤ maxSetLength) × (at + recordLength (end - start) ≤ length file.old) }
+    requires start_bound { (end - start ≤ max_set_length) × (at + record_length (end - start) ≤ length file.old) }
     ensures { file.new ≡ sets file.old at
-        (recordBytes side number (itemTags tags.now (between start end items.now))) }
+        (record_bytes side number (item_tags tags.now (between start end items.now))) }
 {
     let count = (end - start) as u8;
     put_head(side, number, count, file, at);
@@ -115,8 +115,8 @@ fn put_record(
 
 // The bytes of a record with so many tags.
 fn record_length(count: usize) -> usize
-    requires { count ≤ maxSetLength }
-    ensures { result ≡ recordLength count }
+    requires { count ≤ max_set_length }
+    ensures { result ≡ record_length count }
 {
     HEAD_LENGTH + TAG_LENGTH * count
 }
@@ -132,9 +132,9 @@ pub fn put_side(
     at: usize,
 )
     requires good_side { GoodSide tags.now numbers.now ends.now items.now }
-    requires in_bounds { at + length (recordsOf side tags.now numbers.now (setsOf ends.now items.now)) ≤ length file.old }
+    requires in_bounds { at + length (records_of side tags.now numbers.now (sets_of ends.now items.now)) ≤ length file.old }
     ensures { file.new ≡ sets file.old at
-        (recordsOf side tags.now numbers.now (setsOf ends.now items.now)) }
+        (records_of side tags.now numbers.now (sets_of ends.now items.now)) }
 {
     let mut k: usize = 0;
     let mut start: usize = 0;
@@ -151,8 +151,8 @@ pub fn put_side(
 
 // The bytes that the records of a side take.
 pub fn side_length(ends: &[u32]) -> usize
-    requires { (length ends.now ≤ maxSets) × (entries ends.now ≤ maxEntries) }
-    ensures { result ≡ headLength * length ends.now + tagLength * entries ends.now }
+    requires { (length ends.now ≤ max_sets) × (entries ends.now ≤ max_entries) }
+    ensures { result ≡ head_length * length ends.now + tag_length * entries ends.now }
 {
     let entries = sets::count_entries(ends);
     HEAD_LENGTH * ends.len() + TAG_LENGTH * entries

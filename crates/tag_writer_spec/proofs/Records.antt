@@ -7,26 +7,26 @@ use Rattle.sets.specs.Collections.{between}
 use Rattle.sets.proofs.Between.{between_cons}
 use Rattle.sets.specs.declared.Side.{Side}
 use Rattle.sets.specs.declared.Side.TheVariants.{Left, Right}
-use Rattle.tag_file.specs.Format.{tagLength, headLength, tagBytes, mark, recordHead}
-use Rattle.tag_writer_spec.specs.Writer.{itemTag, itemTags}
-use Rattle.tag_file.proofs.Bytes.{bytesOf-tagAt}
+use Rattle.tag_file.specs.Format.{tag_length, head_length, tag_bytes, mark, record_head}
+use Rattle.tag_writer_spec.specs.Writer.{item_tag, item_tags}
+use Rattle.tag_file.proofs.Bytes.{bytes_of-tag_at}
 
-pub mark-bytes : (side : Side) → mark side ≡ get_or (mark side) 0 0 ∷ get_or (mark side) 1 0 ∷ []
-mark-bytes Left = refl
-mark-bytes Right = refl
+pub mark_bytes : (side : Side) → mark side ≡ get_or (mark side) 0 0 ∷ get_or (mark side) 1 0 ∷ []
+mark_bytes Left = refl
+mark_bytes Right = refl
 
-pub length-head : (side : Side) (number count : ℕ) → length (recordHead side number count) ≡ headLength
-length-head Left number count = refl
-length-head Right number count = refl
+pub length_head : (side : Side) (number count : ℕ) → length (record_head side number count) ≡ head_length
+length_head Left number count = refl
+length_head Right number count = refl
 
-pub length-itemTags : (tags set : List ℕ) → length (itemTags tags set) ≡ length set
-length-itemTags tags set = length-map set (itemTag tags)
+pub length-item_tags : (tags set : List ℕ) → length (item_tags tags set) ≡ length set
+length-item_tags tags set = length-map set (item_tag tags)
 
 -- the tags of the items from a place on: the first one's bytes in the table, then the others
-pub tags-run : (tags items : List ℕ) (i end : ℕ) → i < end → end ≤ length items
-    → tagLength * get_or items i 0 + tagLength ≤ length tags → ((k : ℕ) → get_or tags k 0 < 256)
-    → tagBytes (itemTags tags (between i end items))
-    ≡ take tagLength (drop (tagLength * get_or items i 0) tags) ++ tagBytes (itemTags tags (between (i + 1) end items))
-unfolding tagBytes
-tags-run tags items i end more inside known low =
-    rw (between_cons i end items more inside, bytesOf-tagAt tags (tagLength * get_or items i 0) known low)
+pub tags_run : (tags items : List ℕ) (i end : ℕ) → i < end → end ≤ length items
+    → tag_length * get_or items i 0 + tag_length ≤ length tags → ((k : ℕ) → get_or tags k 0 < 256)
+    → tag_bytes (item_tags tags (between i end items))
+    ≡ take tag_length (drop (tag_length * get_or items i 0) tags) ++ tag_bytes (item_tags tags (between (i + 1) end items))
+unfolding tag_bytes
+tags_run tags items i end more inside known low =
+    rw (between_cons i end items more inside, bytes_of-tag_at tags (tag_length * get_or items i 0) known low)

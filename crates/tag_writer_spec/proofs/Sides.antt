@@ -8,67 +8,67 @@ use borrow.Author.Tests.{ltb-true}
 use lib.Dec.{ltb}
 use lib.ListN.{length, drop, get_or, length-append}
 use lib.Seq.{drop-cons, get_or-take, get_or-drop}
-use Rattle.lists.proofs.Throughout.{all-at}
-use Rattle.sets.specs.Collections.{between, setsFrom, firstBadFrom, last_end}
+use Rattle.lists.proofs.Throughout.{all_at}
+use Rattle.sets.specs.Collections.{between, sets_from, first_bad_from, last_end}
 use Rattle.sets.specs.declared.Side.{Side}
 use Rattle.sets.specs.declared.Verdict.TheVariants.{Good}
 use Rattle.sets.proofs.Between.{length-between}
-use Rattle.sets.proofs.Good.{GoodSet, good-cons, good-rest}
-use Rattle.tag_file.specs.Format.{tagLength, headLength, recordLength, recordBytes}
-use Rattle.tag_file.proofs.ItemCount.{length-tagBytes}
+use Rattle.sets.proofs.Good.{GoodSet, good_cons, good_rest}
+use Rattle.tag_file.specs.Format.{tag_length, head_length, record_length, record_bytes}
+use Rattle.tag_file.proofs.ItemCount.{length-tag_bytes}
 use Rattle.tag_writer_spec.specs.Inner.{ItemsFit}
-use Rattle.tag_writer_spec.specs.Writer.{itemTags, recordsOf}
-use Rattle.tag_writer_spec.proofs.Records.{length-head, length-itemTags}
+use Rattle.tag_writer_spec.specs.Writer.{item_tags, records_of}
+use Rattle.tag_writer_spec.proofs.Records.{length_head, length-item_tags}
 
 -- the item at a place of a set that is not bad is below the number of tags
-item-below : (T k start end : ℕ) (items : List ℕ) → GoodSet T k start end items → (i : ℕ) → start ≤ i → i < end
+item_below : (T k start end : ℕ) (items : List ℕ) → GoodSet T k start end items → (i : ℕ) → start ≤ i → i < end
     → get_or items i 0 < T
-item-below T k start end items so i above below =
+item_below T k start end items so i above below =
     let n = length-between start end items so.within in
     let place : start + (i - start) ≡ i = omega arith in
-    let test = all-at (λ i. ltb i T) 0 (between start end items) so.below (i - start) (omega arith) in
+    let test = all_at (λ i. ltb i T) 0 (between start end items) so.below (i - start) (omega arith) in
     let less : get_or (between start end items) (i - start) 0 < T = ltb-true _ _ test in
     rw (get_or-take (end - start) (drop start items) (i - start) 0 (omega arith), get_or-drop, place) at less
 
-pub fit-items : (tags items : List ℕ) (k start end : ℕ) → GoodSet (length tags / tagLength) k start end items
+pub fit_items : (tags items : List ℕ) (k start end : ℕ) → GoodSet (length tags / tag_length) k start end items
     → ItemsFit tags items start end
-fit-items tags items k start end so =
-    record { rise = so.ordered; inside = so.within; known = tag-there }
+fit_items tags items k start end so =
+    record { rise = so.ordered; inside = so.within; known = tag_there }
   where
-    tag-there : (i : ℕ) → start ≤ i → i < end → tagLength * get_or items i 0 + tagLength ≤ length tags
-    tag-there i above below =
-        let low = item-below (length tags / tagLength) k start end items so i above below in
+    tag_there : (i : ℕ) → start ≤ i → i < end → tag_length * get_or items i 0 + tag_length ≤ length tags
+    tag_there i above below =
+        let low = item_below (length tags / tag_length) k start end items so i above below in
         omega arith
 
-pub length-record : (side : Side) (number : ℕ) (tags set : List ℕ)
-    → length (recordBytes side number (itemTags tags set)) ≡ recordLength (length set)
-length-record side number tags set =
-    rw (length-append, length-head side number _, length-tagBytes, length-itemTags)
+pub length_record : (side : Side) (number : ℕ) (tags set : List ℕ)
+    → length (record_bytes side number (item_tags tags set)) ≡ record_length (length set)
+length_record side number tags set =
+    rw (length-append, length_head side number _, length-tag_bytes, length-item_tags)
 
 -- the records from place k on: the one there, and those after it
-pub records-next : (side : Side) (tags numbers ends items : List ℕ) (k start : ℕ) → k < length ends → length numbers ≡ length ends
-    → recordsOf side tags (drop k numbers) (setsFrom start (drop k ends) items)
-    ≡ recordBytes side (get_or numbers k 0) (itemTags tags (between start (get_or ends k 0) items))
-    ++ recordsOf side tags (drop (k + 1) numbers) (setsFrom (get_or ends k 0) (drop (k + 1) ends) items)
-unfolding recordsOf setsFrom
-records-next side tags numbers ends items k start more same =
+pub records_next : (side : Side) (tags numbers ends items : List ℕ) (k start : ℕ) → k < length ends → length numbers ≡ length ends
+    → records_of side tags (drop k numbers) (sets_from start (drop k ends) items)
+    ≡ record_bytes side (get_or numbers k 0) (item_tags tags (between start (get_or ends k 0) items))
+    ++ records_of side tags (drop (k + 1) numbers) (sets_from (get_or ends k 0) (drop (k + 1) ends) items)
+unfolding records_of sets_from
+records_next side tags numbers ends items k start more same =
     let fewer : k < length numbers = omega arith in
     rw (drop-cons numbers k 0 fewer, drop-cons ends k 0 more, add-one k)
 
 -- the length of the records of sets that are not bad
 pub records-length : (T : ℕ) (side : Side) (tags numbers : List ℕ) (k start : ℕ) (ends items : List ℕ)
-    → firstBadFrom T k start ends items ≡ Good → length numbers ≡ length ends
-    → length (recordsOf side tags numbers (setsFrom start ends items)) + tagLength * start
-    ≡ headLength * length ends + tagLength * last_end start ends
-unfolding recordsOf setsFrom last_end
+    → first_bad_from T k start ends items ≡ Good → length numbers ≡ length ends
+    → length (records_of side tags numbers (sets_from start ends items)) + tag_length * start
+    ≡ head_length * length ends + tag_length * last_end start ends
+unfolding records_of sets_from last_end
 records-length T side tags [] k start [] items e same = omega arith
 records-length T side tags [] k start (end ∷ ends) items e same = absurd (omega arith)
 records-length T side tags (number ∷ numbers) k start [] items e same = absurd (omega arith)
 records-length T side tags (number ∷ numbers) k start (end ∷ ends) items e same =
-    let set = good-cons T k start end ends items e in
-    let next = good-rest T k start end ends items e in
+    let set = good_cons T k start end ends items e in
+    let next = good_rest T k start end ends items e in
     let rest = records-length T side tags numbers (suc k) end ends items next (omega arith) in
-    let here = length-record side number tags (between start end items) in
+    let here = length_record side number tags (between start end items) in
     let n = length-between start end items set.within in
     let rise : start ≤ end = set.ordered in
     rw length-append (omega arith)

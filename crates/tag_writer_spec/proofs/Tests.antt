@@ -7,9 +7,9 @@ use native.Mathlib.Omega.{arith}
 use borrow.Author.Tests.{eq-eqb, ne_eqb, eqb-true, le-ltb, ltb-false, not-false}
 use lib.Dec.{eqb, ltb}
 use lib.ListN.{length}
-use Rattle.sets.specs.Limits.{maxItems}
-use Rattle.sets.specs.Collections.{firstBad}
-use Rattle.sets.specs.Refusals.{clears, refuseIf, noBadSet, unless}
+use Rattle.sets.specs.Limits.{max_items}
+use Rattle.sets.specs.Collections.{first_bad}
+use Rattle.sets.specs.Refusals.{clears, refuse_if, no_bad_set, unless}
 use Rattle.sets.specs.declared.Side.{Side}
 use Rattle.sets.specs.declared.Side.TheVariants.{Left, Right}
 use Rattle.sets.specs.declared.Verdict.{Verdict}
@@ -18,117 +18,117 @@ use Rattle.sets.specs.declared.Refusal.{Refusal}
 use Rattle.sets.specs.declared.Refusal.TheVariants.{ShortOutput, BadSet, BadSettings}
 use Rattle.sets.specs.declared.Tested.{Tested}
 use Rattle.sets.specs.declared.Tested.TheVariants.{Passed, Failed}
-use Rattle.inputs.specs.Tests.{itemsTest, sideTest}
-use Rattle.sets.proofs.Testing.{both-passed, refuse-passed, failed-same}
-use Rattle.tag_file.specs.Format.{tagLength}
+use Rattle.inputs.specs.Tests.{items_test, side_test}
+use Rattle.sets.proofs.Testing.{both_passed, refuse_passed, failed_same}
+use Rattle.tag_file.specs.Format.{tag_length}
 use Rattle.tag_file.specs.Loading.{Lists}
 use Rattle.tag_writer_spec.specs.Inner.{GoodSide, GoodLists}
-use Rattle.tag_writer_spec.specs.Writer.{tableTest, numbersTest, numberedTest, listsTest, roomTest}
+use Rattle.tag_writer_spec.specs.Writer.{table_test, numbers_test, numbered_test, lists_test, room_test}
 
 -- ---- the cases
 
 module _ (T : ℕ) (tags : List ℕ) where
-  pub table-items : {why : Refusal} → itemsTest T ≡ Failed why → Failed why ≡ tableTest T tags
-  unfolding tableTest
-  table-items failed = rw failed
+  pub table_items : {why : Refusal} → items_test T ≡ Failed why → Failed why ≡ table_test T tags
+  unfolding table_test
+  table_items failed = rw failed
 
-  module _ (few : itemsTest T ≡ Passed) where
-    pub table-other : (length tags ≡ tagLength * T → ⊥) → Failed BadSettings ≡ tableTest T tags
-    unfolding tableTest
-    table-other other = rw (few, ne_eqb (length tags) (tagLength * T) other)
+  module _ (few : items_test T ≡ Passed) where
+    pub table_other : (length tags ≡ tag_length * T → ⊥) → Failed BadSettings ≡ table_test T tags
+    unfolding table_test
+    table_other other = rw (few, ne_eqb (length tags) (tag_length * T) other)
 
-    pub table-whole : length tags ≡ tagLength * T → Passed ≡ tableTest T tags
-    unfolding tableTest
-    table-whole whole = rw (few, eq-eqb (length tags) (tagLength * T) whole)
+    pub table_whole : length tags ≡ tag_length * T → Passed ≡ table_test T tags
+    unfolding table_test
+    table_whole whole = rw (few, eq-eqb (length tags) (tag_length * T) whole)
 
 module _ (T : ℕ) (side : Side) (numbers ends items : List ℕ) where
   -- the test of its sets alone
   abbrev pub judged : Tested
-  judged = sideTest T side (record { ends = ends; items = items })
+  judged = side_test T side (record { ends = ends; items = items })
 
-  pub side-bad : {why : Refusal} → judged ≡ Failed why → Failed why ≡ numberedTest T side numbers ends items
-  unfolding numberedTest
-  side-bad bad = rw bad
+  pub side_bad : {why : Refusal} → judged ≡ Failed why → Failed why ≡ numbered_test T side numbers ends items
+  unfolding numbered_test
+  side_bad bad = rw bad
 
   module _ (good : judged ≡ Passed) where
-    pub side-even : length numbers ≡ length ends → Passed ≡ numberedTest T side numbers ends items
-    unfolding numberedTest
-    side-even even = rw (good, eq-eqb (length numbers) (length ends) even)
+    pub side_even : length numbers ≡ length ends → Passed ≡ numbered_test T side numbers ends items
+    unfolding numbered_test
+    side_even even = rw (good, eq-eqb (length numbers) (length ends) even)
 
-    pub side-fewer : length numbers < length ends → Failed (BadSet side (length numbers)) ≡ numberedTest T side numbers ends items
-    unfolding numberedTest
-    side-fewer fewer =
+    pub side_fewer : length numbers < length ends → Failed (BadSet side (length numbers)) ≡ numbered_test T side numbers ends items
+    unfolding numbered_test
+    side_fewer fewer =
         let least : min (length numbers) (length ends) ≡ length numbers = omega arith in
         rw (good, ne_eqb (length numbers) (length ends) (λ e. omega arith), least)
 
-    pub side-more : (length numbers ≡ length ends → ⊥) → length ends ≤ length numbers
-        → Failed (BadSet side (length ends)) ≡ numberedTest T side numbers ends items
-    unfolding numberedTest
-    side-more other more =
+    pub side_more : (length numbers ≡ length ends → ⊥) → length ends ≤ length numbers
+        → Failed (BadSet side (length ends)) ≡ numbered_test T side numbers ends items
+    unfolding numbered_test
+    side_more other more =
         let least : min (length numbers) (length ends) ≡ length ends = omega arith in
         rw (good, ne_eqb (length numbers) (length ends) other, least)
 
 module _ (T : ℕ) (l : Lists) where
   -- the tests of the two sides
   abbrev left : Tested
-  left = numberedTest T Left l.leftNumbers l.leftEnds l.leftItems
+  left = numbered_test T Left l.left_numbers l.left_ends l.left_items
 
   abbrev right : Tested
-  right = numberedTest T Right l.rightNumbers l.rightEnds l.rightItems
+  right = numbered_test T Right l.right_numbers l.right_ends l.right_items
 
-  pub lists-table : (why : Refusal) → tableTest T l.tags ≡ Failed why → Failed why ≡ listsTest T l
-  unfolding listsTest
-  lists-table why failed = rw failed
+  pub lists_table : (why : Refusal) → table_test T l.tags ≡ Failed why → Failed why ≡ lists_test T l
+  unfolding lists_test
+  lists_table why failed = rw failed
 
-  module _ (table : tableTest T l.tags ≡ Passed) where
-    pub lists-left : (why : Refusal) → left ≡ Failed why → Failed why ≡ listsTest T l
-    unfolding listsTest
-    lists-left why failed = rw (table, failed)
+  module _ (table : table_test T l.tags ≡ Passed) where
+    pub lists_left : (why : Refusal) → left ≡ Failed why → Failed why ≡ lists_test T l
+    unfolding lists_test
+    lists_left why failed = rw (table, failed)
 
-    pub lists-right : {r : Tested} → left ≡ Passed → r ≡ right → r ≡ listsTest T l
-    unfolding listsTest
-    lists-right passed e = rw (table, passed) e
+    pub lists_right : {r : Tested} → left ≡ Passed → r ≡ right → r ≡ lists_test T l
+    unfolding lists_test
+    lists_right passed e = rw (table, passed) e
 
-  pub lists-good : T ≤ maxItems → length l.tags ≡ tagLength * T → left ≡ Passed → right ≡ Passed → listsTest T l ≡ Passed
-  lists-good few whole good_left good_right =
-      let table = table-whole T l.tags (ap (λ (b : Bool). refuseIf b BadSettings) (le-ltb maxItems T few)) whole in
-      sym (lists-right (sym table) good_left (sym good_right))
+  pub lists_good : T ≤ max_items → length l.tags ≡ tag_length * T → left ≡ Passed → right ≡ Passed → lists_test T l ≡ Passed
+  lists_good few whole good_left good_right =
+      let table = table_whole T l.tags (ap (λ (b : Bool). refuse_if b BadSettings) (le-ltb max_items T few)) whole in
+      sym (lists_right (sym table) good_left (sym good_right))
 
 -- ---- what lists have that passed
 
-no-bad : (side : Side) (v : Verdict) → noBadSet side v ≡ Passed → v ≡ Good
-no-bad side Good e = refl
-no-bad side (Bad place) e = let z : ◌≡◌ {A = ℕ} 0 1 = cc in absurd (omega arith)
+no_bad : (side : Side) (v : Verdict) → no_bad_set side v ≡ Passed → v ≡ Good
+no_bad side Good e = refl
+no_bad side (Bad place) e = let z : ◌≡◌ {A = ℕ} 0 1 = cc in absurd (omega arith)
 
-pub room-passed : (room bytes : ℕ) → roomTest room bytes ≡ Passed → bytes ≤ room
-room-passed room bytes e = ltb-false room bytes (refuse-passed (ltb room bytes) ShortOutput e)
+pub room_passed : (room bytes : ℕ) → room_test room bytes ≡ Passed → bytes ≤ room
+room_passed room bytes e = ltb-false room bytes (refuse_passed (ltb room bytes) ShortOutput e)
 
-table-passed : (T : ℕ) (tags : List ℕ) → tableTest T tags ≡ Passed → length tags ≡ tagLength * T
-unfolding tableTest
-table-passed T tags e =
-    let both = both-passed (itemsTest T) _ e in
-    eqb-true _ _ (not-false (eqb (length tags) (tagLength * T)) (refuse-passed _ BadSettings both.1))
+table_passed : (T : ℕ) (tags : List ℕ) → table_test T tags ≡ Passed → length tags ≡ tag_length * T
+unfolding table_test
+table_passed T tags e =
+    let both = both_passed (items_test T) _ e in
+    eqb-true _ _ (not-false (eqb (length tags) (tag_length * T)) (refuse_passed _ BadSettings both.1))
 
-side-passed : (T : ℕ) (side : Side) (tags numbers ends items : List ℕ) → length tags ≡ tagLength * T
-    → numberedTest T side numbers ends items ≡ Passed → GoodSide tags numbers ends items
-unfolding numberedTest
-side-passed T side tags numbers ends items whole e =
-    let both = both-passed (judged T side numbers ends items) (numbersTest side numbers ends) e in
-    let count : length tags / tagLength ≡ T = omega arith in
+side_passed : (T : ℕ) (side : Side) (tags numbers ends items : List ℕ) → length tags ≡ tag_length * T
+    → numbered_test T side numbers ends items ≡ Passed → GoodSide tags numbers ends items
+unfolding numbered_test
+side_passed T side tags numbers ends items whole e =
+    let both = both_passed (judged T side numbers ends items) (numbers_test side numbers ends) e in
+    let count : length tags / tag_length ≡ T = omega arith in
     record {
-      good = rw count (no-bad side (firstBad T ends items) both.0);
-      numbered = eqb-true _ _ (not-false (eqb (length numbers) (length ends)) (refuse-passed _ _ both.1));
+      good = rw count (no_bad side (first_bad T ends items) both.0);
+      numbered = eqb-true _ _ (not-false (eqb (length numbers) (length ends)) (refuse_passed _ _ both.1));
     }
 
-pub lists-passed : (T : ℕ) (l : Lists) → listsTest T l ≡ Passed → GoodLists l
-unfolding listsTest
-lists-passed T l e =
-    let first = both-passed (tableTest T l.tags) (unless Failed (left T l) (right T l)) e in
-    let later = both-passed (left T l) (right T l) first.1 in
-    let whole = table-passed T l.tags first.0 in
+pub lists_passed : (T : ℕ) (l : Lists) → lists_test T l ≡ Passed → GoodLists l
+unfolding lists_test
+lists_passed T l e =
+    let first = both_passed (table_test T l.tags) (unless Failed (left T l) (right T l)) e in
+    let later = both_passed (left T l) (right T l) first.1 in
+    let whole = table_passed T l.tags first.0 in
     record {
-      left = side-passed T Left l.tags l.leftNumbers l.leftEnds l.leftItems whole later.0;
-      right = side-passed T Right l.tags l.rightNumbers l.rightEnds l.rightItems whole later.1;
+      left = side_passed T Left l.tags l.left_numbers l.left_ends l.left_items whole later.0;
+      right = side_passed T Right l.tags l.right_numbers l.right_ends l.right_items whole later.1;
     }
 
 -- ---- their refusals change nothing
@@ -137,31 +137,31 @@ lists-passed T l e =
 abbrev pub Keeping : Tested → Type 0
 Keeping t = (why : Refusal) → t ≡ Failed why → clears why ≡ false
 
-keeping-of : (wrong : Bool) (why : Refusal) → clears why ≡ false → Keeping (refuseIf wrong why)
-keeping-of true why keeps other e = ap clears (sym (failed-same why other e)) ∙ keeps
-keeping-of false why keeps other e = let z : ◌≡◌ {A = ℕ} 0 1 = cc in absurd (omega arith)
+keeping_of : (wrong : Bool) (why : Refusal) → clears why ≡ false → Keeping (refuse_if wrong why)
+keeping_of true why keeps other e = ap clears (sym (failed_same why other e)) ∙ keeps
+keeping_of false why keeps other e = let z : ◌≡◌ {A = ℕ} 0 1 = cc in absurd (omega arith)
 
-keeping-sets : (side : Side) (v : Verdict) → Keeping (noBadSet side v)
+keeping-sets : (side : Side) (v : Verdict) → Keeping (no_bad_set side v)
 keeping-sets side Good other e = let z : ◌≡◌ {A = ℕ} 0 1 = cc in absurd (omega arith)
-keeping-sets side (Bad place) other e = keeping-of true (BadSet side place) refl other e
+keeping-sets side (Bad place) other e = keeping_of true (BadSet side place) refl other e
 
-keeping-then : (a b : Tested) → Keeping a → Keeping b → Keeping (unless Failed a b)
-keeping-then Passed b ka kb = kb
-keeping-then (Failed why) b ka kb = ka
+keeping_then : (a b : Tested) → Keeping a → Keeping b → Keeping (unless Failed a b)
+keeping_then Passed b ka kb = kb
+keeping_then (Failed why) b ka kb = ka
 
-pub lists-keeping : (T : ℕ) (l : Lists) → Keeping (listsTest T l)
-unfolding listsTest tableTest numberedTest
-lists-keeping T l =
-    keeping-then (tableTest T l.tags) _
-    (keeping-then (itemsTest T) _
-    (keeping-of (ltb maxItems T) BadSettings refl)
-    (keeping-of (not (eqb (length l.tags) (tagLength * T))) BadSettings refl))
-    (keeping-then (left T l) (right T l)
-    (keeping-side Left l.leftNumbers l.leftEnds l.leftItems)
-    (keeping-side Right l.rightNumbers l.rightEnds l.rightItems))
+pub lists_keeping : (T : ℕ) (l : Lists) → Keeping (lists_test T l)
+unfolding lists_test table_test numbered_test
+lists_keeping T l =
+    keeping_then (table_test T l.tags) _
+    (keeping_then (items_test T) _
+    (keeping_of (ltb max_items T) BadSettings refl)
+    (keeping_of (not (eqb (length l.tags) (tag_length * T))) BadSettings refl))
+    (keeping_then (left T l) (right T l)
+    (keeping_side Left l.left_numbers l.left_ends l.left_items)
+    (keeping_side Right l.right_numbers l.right_ends l.right_items))
   where
-    keeping-side : (side : Side) (numbers ends items : List ℕ) → Keeping (numberedTest T side numbers ends items)
-    keeping-side side numbers ends items =
-        keeping-then (noBadSet side (firstBad T ends items)) (numbersTest side numbers ends)
-        (keeping-sets side (firstBad T ends items))
-        (keeping-of (not (eqb (length numbers) (length ends))) _ refl)
+    keeping_side : (side : Side) (numbers ends items : List ℕ) → Keeping (numbered_test T side numbers ends items)
+    keeping_side side numbers ends items =
+        keeping_then (no_bad_set side (first_bad T ends items)) (numbers_test side numbers ends)
+        (keeping-sets side (first_bad T ends items))
+        (keeping_of (not (eqb (length numbers) (length ends))) _ refl)

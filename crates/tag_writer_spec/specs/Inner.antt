@@ -1,22 +1,22 @@
 -- Inner: what the functions of the writer ask for: sets that lie within their lists.
 use Rattle.std.specs.Prelude.{◌≡◌, ℕ, ◌+◌, ◌*◌, ◌/◌, ◌≤◌, ◌<◌, List, length, get_or}
-use Rattle.sets.specs.Collections.{firstBad}
+use Rattle.sets.specs.Collections.{first_bad}
 use Rattle.sets.specs.declared.Verdict.TheVariants.{Good}
-use Rattle.tag_file.specs.Format.{tagLength}
+use Rattle.tag_file.specs.Format.{tag_length}
 use Rattle.tag_file.specs.Loading.{Lists}
 
 -- the items from start up to end are there, and the tag table has each one's tag
 pub record ItemsFit (tags items : List ℕ) (start end : ℕ) : Type 0 where
   pub rise : start ≤ end
   pub inside : end ≤ length items
-  pub known : (i : ℕ) → start ≤ i → i < end → tagLength * get_or items i 0 + tagLength ≤ length tags
+  pub known : (i : ℕ) → start ≤ i → i < end → tag_length * get_or items i 0 + tag_length ≤ length tags
 
 -- a side has no fault: no bad set over the tags of the table, and as many numbers as sets
 pub record GoodSide (tags numbers ends items : List ℕ) : Type 0 where
-  pub good : firstBad (length tags / tagLength) ends items ≡ Good
+  pub good : first_bad (length tags / tag_length) ends items ≡ Good
   pub numbered : length numbers ≡ length ends
 
 -- neither side has a fault
 pub record GoodLists (l : Lists) : Type 0 where
-  pub left : GoodSide l.tags l.leftNumbers l.leftEnds l.leftItems
-  pub right : GoodSide l.tags l.rightNumbers l.rightEnds l.rightItems
+  pub left : GoodSide l.tags l.left_numbers l.left_ends l.left_items
+  pub right : GoodSide l.tags l.right_numbers l.right_ends l.right_items

@@ -2,16 +2,16 @@
 -- list is made". The seven lists are the loader's, and records those of tag_file's Format. Left sets are kits there, and right
 -- sets stacks.
 use Rattle.std.specs.Prelude.{◌≡◌, ℕ, ◌*◌, min, List, [], ◌∷◌, ◌++◌, map, not, eqb, ltb, length}
-use Rattle.sets.specs.Collections.{setsOf}
-use Rattle.sets.specs.Refusals.{refuseIf, unless, acceptedWords, refusedWords}
-use Rattle.sets.specs.Lent.{filledOver, afterRefusal}
+use Rattle.sets.specs.Collections.{sets_of}
+use Rattle.sets.specs.Refusals.{refuse_if, unless, accepted_words, refused_words}
+use Rattle.sets.specs.Lent.{filled_over, after_refusal}
 use Rattle.sets.specs.declared.Side.{Side}
 use Rattle.sets.specs.declared.Side.TheVariants.{Left, Right}
 use Rattle.sets.specs.declared.Refusal.TheVariants.{ShortOutput, BadSet, BadSettings}
 use Rattle.sets.specs.declared.Tested.{Tested}
 use Rattle.sets.specs.declared.Tested.TheVariants.{Failed}
-use Rattle.inputs.specs.Tests.{itemsTest, sideTest}
-use Rattle.tag_file.specs.Format.{tagLength, tagAt, recordBytes}
+use Rattle.inputs.specs.Tests.{items_test, side_test}
+use Rattle.tag_file.specs.Format.{tag_length, tag_at, record_bytes}
 use Rattle.tag_file.specs.Loading.{Lists}
 use Rattle.tag_writer_spec.specs.declared.WriteAnswer.{WriteAnswer}
 use Rattle.tag_writer_spec.specs.declared.WriteAnswer.TheVariants.{Written, Refused}
@@ -19,84 +19,84 @@ use Rattle.tag_writer_spec.specs.declared.WriteAnswer.TheVariants.{Written, Refu
 -- ---- the file
 
 -- the tag of an item: the 12 bytes at 12 times the item in the tag table
-abbrev pub itemTag : List ℕ → ℕ → ℕ
-itemTag tags item = tagAt tags (tagLength * item)
+abbrev pub item_tag : List ℕ → ℕ → ℕ
+item_tag tags item = tag_at tags (tag_length * item)
 
 -- the tags of a set, by item
-abbrev pub itemTags : List ℕ → List ℕ → List ℕ
-itemTags tags set = map (itemTag tags) set
+abbrev pub item_tags : List ℕ → List ℕ → List ℕ
+item_tags tags set = map (item_tag tags) set
 
 -- the records of a side, by place: one for each number with its set
-unfoldable pub recordsOf : Side → List ℕ → List ℕ → List (List ℕ) → List ℕ
-recordsOf side tags [] sets = []
-recordsOf side tags (number ∷ numbers) [] = []
-recordsOf side tags (number ∷ numbers) (set ∷ sets) =
-    recordBytes side number (itemTags tags set) ++ recordsOf side tags numbers sets
+unfoldable pub records_of : Side → List ℕ → List ℕ → List (List ℕ) → List ℕ
+records_of side tags [] sets = []
+records_of side tags (number ∷ numbers) [] = []
+records_of side tags (number ∷ numbers) (set ∷ sets) =
+    record_bytes side number (item_tags tags set) ++ records_of side tags numbers sets
 
 -- the records of the left sets, and of the right sets
-abbrev pub leftBytes : Lists → List ℕ
-leftBytes l = recordsOf Left l.tags l.leftNumbers (setsOf l.leftEnds l.leftItems)
+abbrev pub left_bytes : Lists → List ℕ
+left_bytes l = records_of Left l.tags l.left_numbers (sets_of l.left_ends l.left_items)
 
-abbrev pub rightBytes : Lists → List ℕ
-rightBytes l = recordsOf Right l.tags l.rightNumbers (setsOf l.rightEnds l.rightItems)
+abbrev pub right_bytes : Lists → List ℕ
+right_bytes l = records_of Right l.tags l.right_numbers (sets_of l.right_ends l.right_items)
 
 -- the whole file: the left sets' records, then the right sets'
-unfoldable pub fileBytes : Lists → List ℕ
-fileBytes l = leftBytes l ++ rightBytes l
+unfoldable pub file_bytes : Lists → List ℕ
+file_bytes l = left_bytes l ++ right_bytes l
 
 -- ---- the tests
 
 -- T is within its limit, and the tag table has 12 bytes for each item: 6
-unfoldable pub tableTest : ℕ → List ℕ → Tested
-tableTest T tags =
-    unless Failed (itemsTest T) (refuseIf (not (eqb (length tags) (tagLength * T))) BadSettings)
+unfoldable pub table_test : ℕ → List ℕ → Tested
+table_test T tags =
+    unless Failed (items_test T) (refuse_if (not (eqb (length tags) (tag_length * T))) BadSettings)
 
 -- a side has as many numbers as sets: 5, with the shorter length as the place
-abbrev pub numbersTest : Side → List ℕ → List ℕ → Tested
-numbersTest side numbers ends =
-    refuseIf (not (eqb (length numbers) (length ends))) (BadSet side (min (length numbers) (length ends)))
+abbrev pub numbers_test : Side → List ℕ → List ℕ → Tested
+numbers_test side numbers ends =
+    refuse_if (not (eqb (length numbers) (length ends))) (BadSet side (min (length numbers) (length ends)))
 
 -- a side has no bad set, and then as many numbers as sets: 5
-unfoldable pub numberedTest : ℕ → Side → List ℕ → List ℕ → List ℕ → Tested
-numberedTest T side numbers ends items =
-    unless Failed (sideTest T side (record { ends = ends; items = items })) (numbersTest side numbers ends)
+unfoldable pub numbered_test : ℕ → Side → List ℕ → List ℕ → List ℕ → Tested
+numbered_test T side numbers ends items =
+    unless Failed (side_test T side (record { ends = ends; items = items })) (numbers_test side numbers ends)
 
 -- what is lent to be written: 6, 5 of the left sets, 5 of the right sets
-unfoldable pub listsTest : ℕ → Lists → Tested
-listsTest T l =
-    unless Failed (tableTest T l.tags)
-    (unless Failed (numberedTest T Left l.leftNumbers l.leftEnds l.leftItems)
-    (numberedTest T Right l.rightNumbers l.rightEnds l.rightItems))
+unfoldable pub lists_test : ℕ → Lists → Tested
+lists_test T l =
+    unless Failed (table_test T l.tags)
+    (unless Failed (numbered_test T Left l.left_numbers l.left_ends l.left_items)
+    (numbered_test T Right l.right_numbers l.right_ends l.right_items))
 
 -- the output has room for so many bytes: 4
-abbrev pub roomTest : ℕ → ℕ → Tested
-roomTest room bytes = refuseIf (ltb room bytes) ShortOutput
+abbrev pub room_test : ℕ → ℕ → Tested
+room_test room bytes = refuse_if (ltb room bytes) ShortOutput
 
 -- ---- the answer, and the output afterwards
 
 -- the length of what is written, if the output has room for it
-abbrev pub writtenWithin : ℕ → List ℕ → WriteAnswer
-writtenWithin room bytes = unless Refused (roomTest room (length bytes)) (Written (length bytes))
+abbrev pub written_within : ℕ → List ℕ → WriteAnswer
+written_within room bytes = unless Refused (room_test room (length bytes)) (Written (length bytes))
 
 -- the writer's answer: what is lent, then 4, or the length written
-unfoldable pub writeAnswer : ℕ → Lists → ℕ → WriteAnswer
-writeAnswer T l room = unless Refused (listsTest T l) (writtenWithin room (fileBytes l))
+unfoldable pub write_answer : ℕ → Lists → ℕ → WriteAnswer
+write_answer T l room = unless Refused (lists_test T l) (written_within room (file_bytes l))
 
 -- the output after an answer: the bytes with the rest as before; zeros after 4; unchanged after 5 and 6
-abbrev pub fileAfter : WriteAnswer → List ℕ → List ℕ → List ℕ
-fileAfter (Written n) bytes file = filledOver bytes file
-fileAfter (Refused why) bytes file = afterRefusal why file
+abbrev pub file_after : WriteAnswer → List ℕ → List ℕ → List ℕ
+file_after (Written n) bytes file = filled_over bytes file
+file_after (Refused why) bytes file = after_refusal why file
 
 -- the output after a write
-abbrev pub writtenFile : ℕ → Lists → List ℕ → List ℕ
-writtenFile T l before = fileAfter (writeAnswer T l (length before)) (fileBytes l) before
+abbrev pub written_file : ℕ → Lists → List ℕ → List ℕ
+written_file T l before = file_after (write_answer T l (length before)) (file_bytes l) before
 
 -- the words of an answer: the length
-abbrev pub writeWords : WriteAnswer → List ℕ
-writeWords (Written n) = acceptedWords (n ∷ [])
-writeWords (Refused why) = refusedWords why 1
+abbrev pub write_words : WriteAnswer → List ℕ
+write_words (Written n) = accepted_words (n ∷ [])
+write_words (Refused why) = refused_words why 1
 
 -- a call of the writer over seven lists: its answer, and its output list before and after
 pub record WriteCall (T : ℕ) (l : Lists) (before after : List ℕ) (answer : WriteAnswer) : Type 0 where
-  pub answered : answer ≡ writeAnswer T l (length before)
-  pub file : after ≡ writtenFile T l before
+  pub answered : answer ≡ write_answer T l (length before)
+  pub file : after ≡ written_file T l before

@@ -10,11 +10,11 @@ pub enum WriteAnswer {
 }
 
 ghost use Rattle.std.specs.Prelude.{◌≡◌};
-ghost use Rattle.tag_writer_spec.specs.Writer.{writeWords};
+ghost use Rattle.tag_writer_spec.specs.Writer.{write_words};
 
 // The words of the writer's answer at the C boundary.
 pub fn write_words(answer: WriteAnswer) -> [u64; 4]
-    ensures { result ≡ writeWords answer }
+    ensures { result ≡ write_words answer }
 {
     match answer {
         WriteAnswer::Written(length) => [0, 0, 0, length as u64],

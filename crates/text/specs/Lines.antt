@@ -10,42 +10,42 @@ use Rattle.join_spec.specs.declared.Counts.{Counts}
 use Rattle.tag_file.specs.declared.Repeats.{Repeats}
 
 -- n characters of a text from a place on, by their codes
-abbrev pub codesFrom : ℕ → ℕ → String → List ℕ
-codesFrom zero place text = []
-codesFrom (suc n) place text = code (char_at text place) ∷ codesFrom n (suc place) text
+abbrev pub codes_from : ℕ → ℕ → String → List ℕ
+codes_from zero place text = []
+codes_from (suc n) place text = code (char_at text place) ∷ codes_from n (suc place) text
 
 -- a text of plain characters as bytes
 abbrev pub ascii : String → List ℕ
-ascii text = codesFrom (len text) 0 text
+ascii text = codes_from (len text) 0 text
 
 -- the character of a digit
 abbrev pub digit : ℕ → ℕ
 digit d = 48 + d
 
 -- a number in decimal, most significant digit first; fuel many digits at most
-unfoldable pub decimalFrom : ℕ → ℕ → List ℕ
-decimalFrom zero n = []
-decimalFrom (suc fuel) n = cond (ltb n 10) (digit n ∷ []) (decimalFrom fuel (n / 10) ++ (digit (n % 10) ∷ []))
+unfoldable pub decimal_from : ℕ → ℕ → List ℕ
+decimal_from zero n = []
+decimal_from (suc fuel) n = cond (ltb n 10) (digit n ∷ []) (decimal_from fuel (n / 10) ++ (digit (n % 10) ∷ []))
 
 -- the same with fuel enough: no leading zeros, and 0 has its own digit
 unfoldable pub decimal : ℕ → List ℕ
-decimal n = decimalFrom (suc n) n
+decimal n = decimal_from (suc n) n
 
 -- a word before a number
 abbrev pub labelled : List ℕ → ℕ → List ℕ
 labelled word n = word ++ decimal n
 
 -- a refusal with this number and detail
-unfoldable pub refusedLine : ℕ → ℕ → List ℕ
-refusedLine number detail = labelled (ascii "refused ") number ++ (labelled (ascii " ") detail ++ ascii "\n")
+unfoldable pub refused_line : ℕ → ℕ → List ℕ
+refused_line number detail = labelled (ascii "refused ") number ++ (labelled (ascii " ") detail ++ ascii "\n")
 
 -- the line of a refusal, by its row of the table. Only 5 returns a second number, and the program never refuses with 5
-abbrev pub refusalLine : Refusal → List ℕ
-refusalLine why = refusedLine (row_of why).number (row_of why).first
+abbrev pub refusal_line : Refusal → List ℕ
+refusal_line why = refused_line (row_of why).number (row_of why).first
 
 -- the six counts
-unfoldable pub countsLine : Counts → List ℕ
-countsLine counts =
+unfoldable pub counts_line : Counts → List ℕ
+counts_line counts =
     labelled (ascii "pairs ") counts.pairs
     ++ (labelled (ascii " path ") counts.by_path
     ++ (labelled (ascii " confirmed ") counts.confirmed
@@ -54,16 +54,16 @@ countsLine counts =
     ++ (labelled (ascii " false ") counts.false_drops ++ ascii "\n")))))
 
 -- the repeats of each side: the left total and the right one
-unfoldable pub repeatsLine : Repeats → List ℕ
-repeatsLine repeats = labelled (ascii "repeats ") repeats.left ++ (labelled (ascii " ") repeats.right ++ ascii "\n")
+unfoldable pub repeats_line : Repeats → List ℕ
+repeats_line repeats = labelled (ascii "repeats ") repeats.left ++ (labelled (ascii " ") repeats.right ++ ascii "\n")
 
 -- a pair of records: the left one's number and the right one's
-unfoldable pub pairLine : ℕ → ℕ → List ℕ
-pairLine left right = decimal left ++ (labelled (ascii " ") right ++ ascii "\n")
+unfoldable pub pair_line : ℕ → ℕ → List ℕ
+pair_line left right = decimal left ++ (labelled (ascii " ") right ++ ascii "\n")
 
 -- a line for each pair of places, by the record numbers at these places
-unfoldable pub pairLines : List ℕ → List ℕ → List ℕ → List ℕ
-pairLines leftNumbers rightNumbers [] = []
-pairLines leftNumbers rightNumbers (l ∷ []) = []
-pairLines leftNumbers rightNumbers (l ∷ r ∷ pairs) =
-    pairLine (get_or leftNumbers l 0) (get_or rightNumbers r 0) ++ pairLines leftNumbers rightNumbers pairs
+unfoldable pub pair_lines : List ℕ → List ℕ → List ℕ → List ℕ
+pair_lines left_numbers right_numbers [] = []
+pair_lines left_numbers right_numbers (l ∷ []) = []
+pair_lines left_numbers right_numbers (l ∷ r ∷ pairs) =
+    pair_line (get_or left_numbers l 0) (get_or right_numbers r 0) ++ pair_lines left_numbers right_numbers pairs

@@ -2,8 +2,8 @@
 // list. It is defined in specs/.
 ghost use Rattle.std.specs.Prelude.{◌≤◌, length};
 ghost use Rattle.lists.specs.Writing.{Put};
-ghost use Rattle.text.specs.answer_text.AnswerText.{answerText};
-ghost use Rattle.text.specs.answer_text.Inner.{foundPairs, AnswerFits};
+ghost use Rattle.text.specs.answer_text.AnswerText.{answer_text};
+ghost use Rattle.text.specs.answer_text.Inner.{found_pairs, AnswerFits};
 
 use crate::counts_line::put_counts;
 use crate::number_lines::{put_refusal, put_repeats};
@@ -22,7 +22,7 @@ pub fn put_answer(
 ) -> usize
     requires { AnswerFits answer pairs.now left_numbers.now right_numbers.now text.old }
     ensures put { Put text.old 0
-        (answerText repeats left_numbers.now right_numbers.now (foundPairs answer pairs.now) answer)
+        (answer_text repeats left_numbers.now right_numbers.now (found_pairs answer pairs.now) answer)
         result text.new }
     ensures upper_bound { result ≤ length text.old }
 {

@@ -4,7 +4,7 @@
 ghost use Rattle.std.specs.Prelude.{◌+◌, ◌≤◌, length};
 ghost use Rattle.lists.specs.Writing.{RoomFor, Put};
 ghost use Rattle.text.specs.Lines.{decimal, labelled};
-ghost use Rattle.text.specs.Room.{twoNumbers, numbersRoom};
+ghost use Rattle.text.specs.Room.{two_numbers, numbers_room};
 
 pub mod answer_text;
 pub mod counts_line;
@@ -47,9 +47,9 @@ pub fn put_labelled(text: &mut [u8], at: usize, word: &[u8], number: u64) -> usi
 
 // A line of two numbers behind a word.
 pub fn put_numbers(text: &mut [u8], at: usize, word: &[u8], first: u64, second: u64) -> usize
-    requires { at + (length word.now + numbersRoom) ≤ length text.old }
-    ensures put { Put text.old at (twoNumbers word.now first second) result text.new }
-    ensures upper_bound { result ≤ at + (length word.now + numbersRoom) }
+    requires { at + (length word.now + numbers_room) ≤ length text.old }
+    ensures put { Put text.old at (two_numbers word.now first second) result text.new }
+    ensures upper_bound { result ≤ at + (length word.now + numbers_room) }
 {
     let n = put_labelled(text, at, word, first);
     let m = put_labelled(text, n, b" ", second);

@@ -2,16 +2,16 @@
 // place after what it wrote.
 ghost use Rattle.std.specs.Prelude.{◌+◌, ◌*◌, ◌≤◌, length};
 ghost use Rattle.lists.specs.Writing.{Put};
-ghost use Rattle.text.specs.Lines.{pairLine, pairLines};
-ghost use Rattle.text.specs.pair_lines.Room.{pairRoom, PairsRoom};
+ghost use Rattle.text.specs.Lines.{pair_line, pair_lines};
+ghost use Rattle.text.specs.pair_lines.Room.{pair_room, PairsRoom};
 
 use crate::{put_labelled, put_number, put_word};
 
 // The line of a pair: the numbers of its two records.
 fn put_pair(text: &mut [u8], at: usize, left: u16, right: u16) -> usize
-    requires { at + pairRoom ≤ length text.old }
-    ensures put { Put text.old at (pairLine left right) result text.new }
-    ensures upper_bound { result ≤ at + pairRoom }
+    requires { at + pair_room ≤ length text.old }
+    ensures put { Put text.old at (pair_line left right) result text.new }
+    ensures upper_bound { result ≤ at + pair_room }
 {
     let n = put_number(text, at, left as u64);
     let m = put_labelled(text, n, b" ", right as u64);
@@ -28,7 +28,7 @@ pub fn put_pairs(
 ) -> usize
     requires { PairsRoom text.old at pairs.now left_numbers.now right_numbers.now }
     ensures put { Put text.old at
-        (pairLines left_numbers.now right_numbers.now pairs.now) result text.new }
+        (pair_lines left_numbers.now right_numbers.now pairs.now) result text.new }
     ensures upper_bound { result ≤ at + 6 * length pairs.now }
 {
     let mut n = at;

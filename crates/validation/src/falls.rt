@@ -2,7 +2,7 @@
 // branch and in 16 bits, so that the compiler compares eight numbers at once.
 ghost use Rattle.std.specs.Prelude.{◌≡◌, ◌≤◌, leb, length};
 ghost use Rattle.lists.specs.Lists.{one, count, slice};
-ghost use Rattle.validation.specs.falls.Falls.{greatest, goodEnds, falls, borderFall, borderFalls};
+ghost use Rattle.validation.specs.falls.Falls.{greatest, good_ends, falls, border_fall, border_falls};
 
 // 1 for true, 0 for false.
 fn number(b: bool) -> u16
@@ -45,7 +45,7 @@ pub fn count_falls(n: usize, list: &[u16]) -> u16
 // 1 if the list falls from the last number of a part to the number after it, else 0.
 fn border_fall(n: usize, start: usize, end: usize, list: &[u16]) -> u16
     requires { n ≤ length list.now }
-    ensures { result ≡ borderFall n start end list.now }
+    ensures { result ≡ border_fall n start end list.now }
 {
     if end <= start {
         return 0;
@@ -61,7 +61,7 @@ fn border_fall(n: usize, start: usize, end: usize, list: &[u16]) -> u16
 // How many of the borders between parts are falls.
 pub fn count_border_falls(n: usize, ends: &[u32], list: &[u16]) -> u16
     requires { (n ≤ length list.now) × (length ends.now ≤ greatest) }
-    ensures { result ≡ borderFalls n 0 ends.now list.now }
+    ensures { result ≡ border_falls n 0 ends.now list.now }
 {
     let mut falls: u16 = 0;
     let mut k: usize = 0;
@@ -77,7 +77,7 @@ pub fn count_border_falls(n: usize, ends: &[u32], list: &[u16]) -> u16
 
 // Whether each end follows the one before it by no more than the longest part may hold.
 pub fn good_ends(longest: usize, ends: &[u32]) -> bool
-    ensures { result ≡ goodEnds longest 0 ends.now }
+    ensures { result ≡ good_ends longest 0 ends.now }
 {
     let mut k: usize = 0;
     let mut before: usize = 0;

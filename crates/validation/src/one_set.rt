@@ -1,7 +1,7 @@
 // The test of one set: its items, and its end beside the end before it.
 ghost use Rattle.std.specs.Prelude.{◌≡◌, ◌&&◌, ◌≤◌, ltb, length};
 ghost use Rattle.lists.specs.Lists.{all, rising};
-ghost use Rattle.sets.specs.Collections.{between, goodItems, goodEnd};
+ghost use Rattle.sets.specs.Collections.{between, good_items, good_end};
 
 use sets::{MAX_ENTRIES, MAX_SET_LENGTH};
 
@@ -30,7 +30,7 @@ fn rises_below(t: u32, start: usize, end: usize, items: &[u16]) -> bool
 // Whether the items of a part can be those of a set: not too many, each below t, strictly rising.
 pub fn good_items(t: u32, start: usize, end: usize, items: &[u16]) -> bool
     requires { (start ≤ end) × (end ≤ length items.now) }
-    ensures { result ≡ goodItems t (between start end items.now) }
+    ensures { result ≡ good_items t (between start end items.now) }
 {
     if MAX_SET_LENGTH < end - start {
         return false;
@@ -40,7 +40,7 @@ pub fn good_items(t: u32, start: usize, end: usize, items: &[u16]) -> bool
 
 // Whether a set is in order, given the end before it and its own.
 pub fn good_set(t: u32, start: usize, end: usize, items: &[u16]) -> bool
-    ensures { result ≡ (goodEnd start end items.now && goodItems t (between start end items.now)) }
+    ensures { result ≡ (good_end start end items.now && good_items t (between start end items.now)) }
 {
     if end < start {
         return false;

@@ -2,8 +2,8 @@
 // one, is tested at the pace of its reads.
 ghost use Rattle.std.specs.Prelude.{◌≡◌, true, ◌≤◌, ltb, length, replicate};
 ghost use Rattle.lists.specs.Lists.{all, distinct};
-ghost use Rattle.sets.specs.Limits.{maxItems};
-ghost use Rattle.sets.specs.Ordered.{isPermutation};
+ghost use Rattle.sets.specs.Limits.{max_items};
+ghost use Rattle.sets.specs.Ordered.{is_permutation};
 
 use crate::falls::count_high;
 
@@ -24,8 +24,8 @@ fn all_distinct(ranks: &[u16], seen: &mut [u8]) -> bool
 
 // Whether a rank table is a permutation of 0 .. t-1. A small table pays for few marks only.
 pub fn is_permutation(t: u32, ranks: &[u16]) -> bool
-    requires { t ≤ maxItems }
-    ensures { result ≡ isPermutation t ranks.now }
+    requires { t ≤ max_items }
+    ensures { result ≡ is_permutation t ranks.now }
 {
     if ranks.len() != t as usize {
         return false;

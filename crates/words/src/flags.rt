@@ -2,7 +2,7 @@
 // the flags away again.
 ghost use Rattle.std.specs.Prelude.{false, length};
 ghost use Rattle.lists.specs.Lists.{memb, slice};
-ghost use Rattle.words.specs.flags.Flags.{Below, Flagged, isFlagged, Clear, Behind, Kept};
+ghost use Rattle.words.specs.flags.Flags.{Below, Flagged, is_flagged, Clear, Behind, Kept};
 
 use crate::word_at;
 
@@ -35,8 +35,8 @@ pub fn flag_words(work: &[u32], a: usize, b: usize, flags: &mut [u8])
 pub fn keep_flagged(work: &mut [u32], c: usize, e: usize, out: usize, flags: &[u8]) -> usize
     requires below { Below (length flags.now) c e work.old }
     requires behind { Behind c e out work.old }
-    requires flagged { Flagged (isFlagged flags.now) flags.now }
-    ensures { Kept (isFlagged flags.now) c e out work.old work.new result }
+    requires flagged { Flagged (is_flagged flags.now) flags.now }
+    ensures { Kept (is_flagged flags.now) c e out work.old work.new result }
 {
     let mut j = c;
     let mut n = out;

@@ -1,7 +1,7 @@
 // The words that two rising parts of a list share, written behind them: by a table of flags, or, if one part is far shorter, by
 // looking for its words. The table is lent all clear and comes back all clear.
 ghost use Rattle.words.specs.Merges.{Rising};
-ghost use Rattle.words.specs.flags.Flags.{flagRoom, Below, Clear};
+ghost use Rattle.words.specs.flags.Flags.{flag_room, Below, Clear};
 ghost use Rattle.words.specs.shared.Sharing.{Apart, Intersected};
 
 use crate::flags::{flag_words, keep_flagged, unflag_words};
@@ -26,8 +26,8 @@ pub fn intersect(
     requires rising { Rising a b work.old }
     requires rising_2 { Rising c e work.old }
     requires apart { Apart b c e out work.old }
-    requires below { Below flagRoom a b work.old }
-    requires below_2 { Below flagRoom c e work.old }
+    requires below { Below flag_room a b work.old }
+    requires below_2 { Below flag_room c e work.old }
     requires clear_2 { Clear flags.old }
     ensures shared { Intersected a b c e out work.old work.new result }
     ensures clear { Clear flags.new }

@@ -3,8 +3,8 @@ use mathlib.Core.Path.{◌≡◌, refl, sym, ap, ◌∙◌}
 use mathlib.Core.Bool.{Bool, true, false}
 use mir.Val.{bool_byte}
 use Rattle.lists.specs.Lists.{one}
-use Rattle.sets.proofs.Words.{refused-words}
-use Rattle.first_search_spec.specs.First.{firstWords}
+use Rattle.sets.proofs.Words.{refused_words_lem}
+use Rattle.first_search_spec.specs.First.{first_words}
 use borrow.Author.Rules.{rules}
 use Rattle.first_search_spec.proofs.first_words.Statement.{statement}
 use Rattle.first_search_spec.proofs.first_words.Tie as tie
@@ -18,13 +18,13 @@ returns : tie.Need-returns
 returns c =
     let a = c.before.before.answer.given in
     let s = a.0.0 in
-    rw (byte_one s.found) (sym (ap firstWords a.1))
+    rw (byte_one s.found) (sym (ap first_words a.1))
 
 returns-2 : tie.Need-returns-2
 returns-2 c =
     let a = c.before.before.answer2.given in
     let e = c.head_of.ensures in
-    refused-words a.0.0 3 e.0 e.1 e.2 ∙ sym (ap firstWords a.1)
+    refused_words_lem a.0.0 3 e.0 e.1 e.2 ∙ sym (ap first_words a.1)
 
 pub first-words-spec : {M : Type 1} → statement M
 first-words-spec =

@@ -3,7 +3,7 @@ use mathlib.Core.Path.{◌≡◌, sym, ◌∙◌}
 use borrow.Author.Rules.{rules}
 use lib.ListN.{length}
 use Rattle.inputs.specs.Input.{Input, input_of}
-use Rattle.item_order_spec.specs.Order.{orderTest}
+use Rattle.item_order_spec.specs.Order.{order_test}
 use Rattle.item_order_spec.proofs.Answers.{call-refused, call-ordered}
 use Rattle.item_order.proofs.Filling.{can-fill}
 use Rattle.item_order.proofs.order.Statement.{statement}
@@ -19,7 +19,7 @@ input s =
 abbrev start : tie.After-test-order → tie.Start
 start p = p.before.before.before.before.before.before
 
-found : (p : tie.After-test-order) → orderTest (input (start p)) (length (start p).args.ranks.now) ≡ p.test-order.result
+found : (p : tie.After-test-order) → order_test (input (start p)) (length (start p).args.ranks.now) ≡ p.test-order.result
 found p = sym p.test-order.ensures
 
 fill-ranks-requires : tie.Need-fill-ranks-requires

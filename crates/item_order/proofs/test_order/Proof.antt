@@ -2,7 +2,7 @@
 use mathlib.Core.Path.{◌≡◌, sym, ◌∙◌}
 use borrow.Author.Rules.{rules}
 use Rattle.inputs.specs.Input.{Input, input_of}
-use Rattle.inputs.specs.Tests.{itemsTest}
+use Rattle.inputs.specs.Tests.{items_test}
 use Rattle.item_order_spec.proofs.Answers.{test-items, test-length, test-sets}
 use Rattle.item_order.proofs.test_order.Statement.{statement}
 use Rattle.item_order.proofs.test_order.Tie as tie
@@ -17,7 +17,7 @@ input s =
 abbrev start : tie.After-test-items → tie.Start
 start p = p.before.before.before.before.before
 
-found : (p : tie.After-test-items) → itemsTest (start p).args.t ≡ p.test-items.result
+found : (p : tie.After-test-items) → items_test (start p).args.t ≡ p.test-items.result
 found p = sym p.test-items.ensures
 
 returns : tie.Need-returns

@@ -1,7 +1,7 @@
 -- `order_words` meets its contract: a case for each variant.
 use mathlib.Core.Path.{sym, ap, ◌∙◌}
-use Rattle.item_order_spec.specs.Order.{orderWords}
-use Rattle.sets.proofs.Words.{refused-words}
+use Rattle.item_order_spec.specs.Order.{order_words}
+use Rattle.sets.proofs.Words.{refused_words_lem}
 use borrow.Author.Rules.{rules}
 use Rattle.item_order_spec.proofs.order_words.Statement.{statement}
 use Rattle.item_order_spec.proofs.order_words.Tie as tie
@@ -10,7 +10,7 @@ returns-2 : tie.Need-returns-2
 returns-2 c =
     let a = c.before.before.answer.given in
     let e = c.head_of.ensures in
-    refused-words a.0.0 0 e.0 e.1 e.2 ∙ sym (ap orderWords a.1)
+    refused_words_lem a.0.0 0 e.0 e.1 e.2 ∙ sym (ap order_words a.1)
 
 pub order-words-spec : {M : Type 1} → statement M
 order-words-spec =

@@ -2,8 +2,8 @@
 use mathlib.Core.Path.{sym, ◌∙◌}
 use lib.ListN.{length}
 use Rattle.inputs.specs.Input.{input_of}
-use Rattle.merge_rows.proofs.MergedAnswer.{merge-sizes}
-use Rattle.join.proofs.RowsChoice.{rows-room, rows-answer}
+use Rattle.merge_rows.proofs.MergedAnswer.{merge_sizes}
+use Rattle.join.proofs.RowsChoice.{rows-room, rows_answer}
 use borrow.Author.Rules.{rules}
 use Rattle.join.proofs.join_ready.Statement.{statement}
 use Rattle.join.proofs.join_ready.Tie as tie
@@ -12,7 +12,7 @@ abbrev start : tie.After-takes-rows → tie.Start
 start c = c.before.before.before.before.before.before.before.before
 
 takes-rows-requires : tie.Need-takes-rows-requires
-takes-rows-requires c κs = merge-sizes c.before.before.before.before.before.before.before.requires
+takes-rows-requires c κs = merge_sizes c.before.before.before.before.before.before.before.requires
 
 merge-sets-requires : tie.Need-merge-sets-requires
 merge-sets-requires c κs =
@@ -25,7 +25,7 @@ returns c =
     let chosen = merged.before.before.before in
     let a = (start chosen.before).args in
     let i = input_of a.t a.left-ends.now a.left-items.now a.right-ends.now a.right-items.now in (
-      rows-answer i a.limit a.ranks.now (length a.work.now) a.rule a.budget (length a.pairs.now)
+      rows_answer i a.limit a.ranks.now (length a.work.now) a.rule a.budget (length a.pairs.now)
           (sym chosen.before.takes-rows.ensures ∙ chosen.if1.true) merged.merge-sets.ensures.0,
       merged.merge-sets.ensures.1,
     )

@@ -1,7 +1,7 @@
 -- `run_numbered` meets its contract: a number above 2 is a bad setting, and else it is the run. The underscores are the join's
 -- inputs, which each goal names.
 use mathlib.Core.Path.{sym, ◌∙◌}
-use Rattle.join.proofs.ByNumber.{number-failed, number_passed}
+use Rattle.join.proofs.ByNumber.{number_failed, number_passed}
 use borrow.Author.Rules.{rules}
 use Rattle.join.proofs.run_numbered.Statement.{statement}
 use Rattle.join.proofs.run_numbered.Tie as tie
@@ -10,7 +10,7 @@ returns : tie.Need-returns
 returns c =
     let told = c.before in
     let tested = told.before.before in
-    number-failed _ _ _ _ _ _ _ _ (sym tested.test-rule.ensures ∙ told.tested.given.1)
+    number_failed _ _ _ _ _ _ _ _ (sym tested.test-rule.ensures ∙ told.tested.given.1)
 
 returns-2 : tie.Need-returns-2
 returns-2 c =

@@ -4,8 +4,8 @@ use native.Mathlib.Omega.{arith}
 use Rattle.inputs.specs.Input.{Input, input_of}
 use Rattle.join_index.specs.Asking.{Index}
 use Rattle.join_walk.specs.Partitions.{WalkDone}
-use Rattle.join.proofs.AnswerLaws.{queryBy, build-room, walk-index, walk-ready, walk-made, sums-fit}
-use Rattle.join.proofs.AnswerLaws.{answer-is, answer-room}
+use Rattle.join.proofs.AnswerLaws.{query_by, build_room, walk_index, walk_ready, walk-made, sums_fit}
+use Rattle.join.proofs.AnswerLaws.{answer_is, answer_room}
 use borrow.Author.Rules.{rules}
 use Rattle.join.proofs.walk_sets.Statement.{statement}
 use Rattle.join.proofs.walk_sets.Tie as tie
@@ -28,18 +28,18 @@ input c =
 -- the index that was built, and what the walk over it found
 index : (c : tie.After-build)
     → let a = (begun c).args in
-    Index c.build.result (queryBy (input (begun c)) a.limit a.ranks.now a.rule) c.build.new.1.1.1.1.1.1.1.1.0
-index c = walk-index (begun c).requires (begun c).args.rule c.build.ensures.0 c.build.ensures.1
+    Index c.build.result (query_by (input (begun c)) a.limit a.ranks.now a.rule) c.build.new.1.1.1.1.1.1.1.1.0
+index c = walk_index (begun c).requires (begun c).args.rule c.build.ensures.0 c.build.ensures.1
 
 done : (c : tie.After-walk)
     → let a = (start c).args in
-    WalkDone (built c).build.result (queryBy (input (start c)) a.limit a.ranks.now a.rule) a.budget
+    WalkDone (built c).build.result (query_by (input (start c)) a.limit a.ranks.now a.rule) a.budget
     (built c).build.new.1.1.1.1.1.1.1.1.0 c.walk.new.0 c.walk.result
 done c =
     walk-made (start c).requires (start c).args.rule (built c).build.ensures.0 (built c).build.ensures.1 c.walk.ensures.0
 
 build-requires : tie.Need-build-requires
-build-requires c κs = build-room c.before.before.before.before.before.before.before.before.requires
+build-requires c κs = build_room c.before.before.before.before.before.before.before.before.requires
 
 walk-requires : tie.Need-walk-requires
 walk-requires c κs =
@@ -47,13 +47,13 @@ walk-requires c κs =
     let a = (begun made).args in (
       record {
         query = _;
-        holds = walk-ready (begun made).requires a.rule made.build.ensures.0 made.build.ensures.1 a.budget;
+        holds = walk_ready (begun made).requires a.rule made.build.ensures.0 made.build.ensures.1 a.budget;
       },
       c.before.before.clear-flags.ensures,
     )
 
 answer-tally-requires : tie.Need-answer-tally-requires
-answer-tally-requires c κs = let walked = c.before.before.before in sums-fit (start walked).requires (done walked)
+answer-tally-requires c κs = let walked = c.before.before.before in sums_fit (start walked).requires (done walked)
 
 write-answer-requires : tie.Need-write-answer-requires
 write-answer-requires c κs =
@@ -61,7 +61,7 @@ write-answer-requires c κs =
     let walked = answered.before.before.before.before in (
       record {
         query = _;
-        holds = answer-room (start walked).requires (done walked) (index (built walked)) _ answered.answer-tally.ensures;
+        holds = answer_room (start walked).requires (done walked) (index (built walked)) _ answered.answer-tally.ensures;
       },
       walked.walk.ensures.1,
     )
@@ -71,8 +71,8 @@ returns c =
     let written = c.before.before.before.before.before in
     let answered = written.before.before.before.before in
     let walked = answered.before.before.before.before in
-    let room = answer-room (start walked).requires (done walked) (index (built walked)) _ answered.answer-tally.ensures in
-    (answer-is (start walked).requires (done walked) _ answered.answer-tally.ensures, written.write-answer.ensures _ room)
+    let room = answer_room (start walked).requires (done walked) (index (built walked)) _ answered.answer-tally.ensures in
+    (answer_is (start walked).requires (done walked) _ answered.answer-tally.ensures, written.write-answer.ensures _ room)
 
 pub walk-sets-spec : {M : Type 1} → statement M
 walk-sets-spec =

@@ -2,8 +2,8 @@
 use mathlib.Core.Path.{sym, ap, ◌∙◌}
 use native.Mathlib.Omega.{arith}
 use Rattle.lists.specs.Lists.{sum}
-use Rattle.join_check.specs.Probes.{outcomeOf, probeOutcome}
-use Rattle.join_check.proofs.Probing.{raise-dropped, raise-confirmed, raise-false}
+use Rattle.join_check.specs.Probes.{outcome_of, probe_outcome}
+use Rattle.join_check.proofs.Probing.{raise_dropped, raise_confirmed, raise_false}
 use borrow.Author.Rules.{rules}
 use Rattle.join_check.proofs.check_one.Statement.{statement}
 use Rattle.join_check.proofs.check_one.Tie as tie
@@ -28,8 +28,8 @@ returns c =
     record {
       grown = omega arith;
       tallied = λ q there.
-          raise-dropped a.tally (probeOutcome q a.work.now a.p a.s)
-          (sym (check.check-probe.ensures q there) ∙ ap outcomeOf c.before.enum_told.given.1);
+          raise_dropped a.tally (probe_outcome q a.work.now a.p a.s)
+          (sym (check.check-probe.ensures q there) ∙ ap outcome_of c.before.enum_told.given.1);
     }
 
 returns-2 : tie.Need-returns-2
@@ -40,8 +40,8 @@ returns-2 c =
     record {
       grown = omega arith;
       tallied = λ q there.
-          raise-false a.tally (probeOutcome q a.work.now a.p a.s)
-          (sym (check.check-probe.ensures q there) ∙ ap outcomeOf c.before.enum-told2.given.1);
+          raise_false a.tally (probe_outcome q a.work.now a.p a.s)
+          (sym (check.check-probe.ensures q there) ∙ ap outcome_of c.before.enum-told2.given.1);
     }
 
 returns-3 : tie.Need-returns-3
@@ -52,8 +52,8 @@ returns-3 c =
     record {
       grown = omega arith;
       tallied = λ q there.
-          raise-confirmed a.tally (probeOutcome q a.work.now a.p a.s)
-          (sym (check.check-probe.ensures q there) ∙ ap outcomeOf c.before.enum-told3.given.1);
+          raise_confirmed a.tally (probe_outcome q a.work.now a.p a.s)
+          (sym (check.check-probe.ensures q there) ∙ ap outcome_of c.before.enum-told3.given.1);
     }
 
 pub check-one-spec : {M : Type 1} → statement M

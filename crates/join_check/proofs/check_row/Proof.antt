@@ -2,9 +2,9 @@
 -- the places still to come, are what they were with all. The measure is how many places are to come.
 use Prim.Native.Nat.{◌-◌}
 use native.Mathlib.Omega.{arith}
-use Rattle.join_index.proofs.Places.{place-right}
-use Rattle.join_check.proofs.Tallying.{probe-rising}
-use Rattle.join_check.proofs.RowChecks.{RowChecking, row-start, row_step, row-end}
+use Rattle.join_index.proofs.Places.{place_right}
+use Rattle.join_check.proofs.Tallying.{probe_rising}
+use Rattle.join_check.proofs.RowChecks.{RowChecking, row_start, row_step, row_end}
 use Rattle.join_check.proofs.check_row.Statement.{statement}
 use Rattle.join_check.proofs.check_row.Tie as tie
 
@@ -21,7 +21,7 @@ probe-left-requires c κs =
     record { query = c.before.requires.0.query; holds = c.before.requires.0.holds.left }
 
 loop-holds : tie.Need-loop-init invariant-loop decreases-loop
-loop-holds c = row-start
+loop-holds c = row_start
 
 word-at-requires : tie.Need-word-at-requires invariant-loop decreases-loop
 word-at-requires c κs =
@@ -36,11 +36,11 @@ check-one-requires c κs =
     let there = start.requires.0.holds in (
       record {
         query = start.requires.0.query;
-        holds = place-right there.places at-loop.loop.i c.word_at.result at-loop.loop.invariant.low
+        holds = place_right there.places at-loop.loop.i c.word_at.result at-loop.loop.invariant.low
             c.before.loop-test.true c.word_at.ensures;
       },
       (
-        probe-rising at-probe-left.probe-left.ensures there.left,
+        probe_rising at-probe-left.probe-left.ensures there.left,
         omega (arith, at-loop.loop.invariant.grown, start.requires.1, c.before.loop-test.true),
       ),
     )
@@ -53,7 +53,7 @@ loop-again c =
     c.check-one.ensures
 
 returns : tie.Need-returns invariant-loop decreases-loop
-returns c = row-end c.before.loop.invariant c.loop-test.false
+returns c = row_end c.before.loop.invariant c.loop-test.false
 
 pub check-row-spec : {M : Type 1} → statement M
 check-row-spec =

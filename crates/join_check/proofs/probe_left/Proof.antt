@@ -1,23 +1,23 @@
 -- `join_check::probe_left` meets its contract: the ranks of a left set lie between two starts.
 use mathlib.Core.Bool.{false}
 use native.Mathlib.Omega.{arith}
-use Rattle.join_index.proofs.Reading.{left-stored, left-low}
-use Rattle.join_check.proofs.Probing.{probe-none, probe-some}
+use Rattle.join_index.proofs.Reading.{left_stored, left_low}
+use Rattle.join_check.proofs.Probing.{probe_none, probe_some}
 use borrow.Author.Rules.{rules}
 use Rattle.join_check.proofs.probe_left.Statement.{statement}
 use Rattle.join_check.proofs.probe_left.Tie as tie
 
 add-from : tie.Need-overflow-add-from
 add-from c =
-    let s = left-stored c.before.before.before.requires.holds in omega arith
+    let s = left_stored c.before.before.before.requires.holds in omega arith
 
 add-to : tie.Need-overflow-add-to
 add-to c =
-    let s = left-stored c.before.before.before.before.requires.holds in omega arith
+    let s = left_stored c.before.before.before.before.requires.holds in omega arith
 
 sub-if1 : tie.Need-overflow-sub-if1
 sub-if1 c =
-    let s = left-stored c.before.before.before.before.requires.holds in omega arith
+    let s = left_stored c.before.before.before.before.requires.holds in omega arith
 
 returns : tie.Need-returns
 returns c =
@@ -27,22 +27,22 @@ returns c =
     record {
       within = omega (
         arith,
-        left-low start.requires.holds,
+        left_low start.requires.holds,
         c.before.word-at2.ensures.is,
       );
       is = λ q there.
-          probe-none start.args.e false at-word-at.word_at.ensures c.before.word-at2.ensures
+          probe_none start.args.e false at-word-at.word_at.ensures c.before.word-at2.ensures
           at-double-at.double-at.ensures there
           c.if1.true;
     }
 
 sub-is-upward : tie.Need-overflow-sub-is-upward
 sub-is-upward c =
-    let s = left-stored c.before.before.before.before.before.requires.holds in omega arith
+    let s = left_stored c.before.before.before.before.before.requires.holds in omega arith
 
 add-t13 : tie.Need-overflow-add-t13
 add-t13 c =
-    let s = left-stored c.before.before.before.before.before.before.requires.holds in omega arith
+    let s = left_stored c.before.before.before.before.before.before.requires.holds in omega arith
 
 returns-2 : tie.Need-returns-2
 returns-2 c =
@@ -53,11 +53,11 @@ returns-2 c =
     record {
       within = omega (
         arith,
-        left-low start.requires.holds,
+        left_low start.requires.holds,
         at-word-at-2.word-at2.ensures.is,
       );
       is = λ q there.
-          probe-some start.args.e c.is-upward.result at-word-at.word_at.ensures at-word-at-2.word-at2.ensures
+          probe_some start.args.e c.is-upward.result at-word-at.word_at.ensures at-word-at-2.word-at2.ensures
           at-double-at.double-at.ensures there;
     }
 

@@ -7,8 +7,8 @@ use Rattle.join_check.specs.declared.keys.Span.{Span}
 -- the borders of the ranges with the same key at depth d, among the left sets at the places lo up to hi: the first place, and where the
 -- range ends that begins at a border
 pub data Border (lay : Layout) (w : List ℕ) (d lo hi : ℕ) : ℕ → Type 0 where
-  firstBorder : Border lay w d lo hi lo
-  nextBorder : {i j : ℕ} → Border lay w d lo hi i → i < hi → RangeEnd lay w d i hi j → Border lay w d lo hi j
+  first_border : Border lay w d lo hi lo
+  next_border : {i j : ℕ} → Border lay w d lo hi i → i < hi → RangeEnd lay w d i hi j → Border lay w d lo hi j
 
 -- one of these ranges
 pub record RangeFound (lay : Layout) (w : List ℕ) (d lo hi : ℕ) (r : Span) : Type 0 where

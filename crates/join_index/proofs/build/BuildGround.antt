@@ -7,94 +7,94 @@ use native.Mathlib.Omega.{arith}
 use lib.Dec.{ltb}
 use lib.ListN.{length, get_or}
 use Rattle.lists.specs.Lists.{all}
-use Rattle.lists.proofs.Throughout.{all-at}
-use Rattle.sets.specs.Collections.{setsOf}
+use Rattle.lists.proofs.Throughout.{all_at}
+use Rattle.sets.specs.Collections.{sets_of}
 use Rattle.sets.specs.Ordered.{ordered}
 use Rattle.join_spec.specs.declared.Rule.{Rule}
-use Rattle.sets.proofs.Ordered.{below, items-below}
-use Rattle.sets.proofs.Containment.{contained-ranks}
+use Rattle.sets.proofs.Ordered.{below, items_below}
+use Rattle.sets.proofs.Containment.{contained_ranks}
 use Rattle.join_spec.specs.Query.{query}
-use Rattle.side_index.proofs.SideReads.{side-inverted, side-bound}
-use Rattle.join_index.specs.Grouping.{left_at, rightAt}
+use Rattle.side_index.proofs.SideReads.{side_inverted, side_bound}
+use Rattle.join_index.specs.Grouping.{left_at, right_at}
 use Rattle.join_index.specs.Ground.{Ground}
 use Rattle.join_index.specs.build.Building.{BuildRoom}
 use Rattle.join_index.specs.declared.Layout.{Layout}
-use Rattle.join_index.proofs.build.BuildPlan.{Planned, items-are, plan-sizes, rows-below, left-long, right-long}
-use Rattle.join_index.proofs.build.BuildPlan.{least-below, signed_above, slots-above}
-use Rattle.join_index.proofs.build.BuildPlan.{right_end, right-ranks, left_end, left-starts, left-ranks}
-use Rattle.join_index.proofs.build.BuildStages.{Built, right-set, left-set}
-use Rattle.join_index.proofs.build.BuildLists.{from-left, from-right, size, least-slots, seen_at, seen_first, in_order}
+use Rattle.join_index.proofs.build.BuildPlan.{Planned, items_are, plan_sizes, rows_below, left_long, right_long}
+use Rattle.join_index.proofs.build.BuildPlan.{least_below, signed_above, slots_above}
+use Rattle.join_index.proofs.build.BuildPlan.{right_end, right_ranks_lem, left_end, left_starts_lem, left_ranks}
+use Rattle.join_index.proofs.build.BuildStages.{Built, right_set, left_set}
+use Rattle.join_index.proofs.build.BuildLists.{from_left, from_right, size, least_slots, seen_at, seen_first, in_order}
 
-module _ {leftEnds leftItems rightEnds rightItems ranks w a b c d f : List ℕ} {nl nr limit : ℕ} {rule : Rule} {lay : Layout}
-    (built : Built leftEnds leftItems rightEnds rightItems ranks nl nr limit rule lay w a b c d f) where
-  plan : Planned leftEnds leftItems rightEnds rightItems ranks nl nr lay w
+module _ {left_ends left_items right_ends right_items ranks w a b c d f : List ℕ} {nl nr limit : ℕ} {rule : Rule} {lay : Layout}
+    (built : Built left_ends left_items right_ends right_items ranks nl nr limit rule lay w a b c d f) where
+  plan : Planned left_ends left_items right_ends right_items ranks nl nr lay w
   plan = built.plan
 
   abbrev T : ℕ
   T = length ranks
 
   abbrev lefts : List (List ℕ)
-  lefts = setsOf leftEnds leftItems
+  lefts = sets_of left_ends left_items
 
   abbrev rights : List (List ℕ)
-  rights = setsOf rightEnds rightItems
+  rights = sets_of right_ends right_items
 
   -- ranks decide containment
-  left-items : (k : ℕ) → k < length lefts → all (λ i. ltb i T) (get_or lefts k []) ≡ true
-  left-items k h = all-at (below T) [] lefts (items-below T leftEnds leftItems plan.room.leftGood) k h
+  left_items_lem : (k : ℕ) → k < length lefts → all (λ i. ltb i T) (get_or lefts k []) ≡ true
+  left_items_lem k h = all_at (below T) [] lefts (items_below T left_ends left_items plan.room.left_good) k h
 
-  right-items : (s : ℕ) → s < length rights → all (λ i. ltb i T) (get_or rights s []) ≡ true
-  right-items s h = all-at (below T) [] rights (items-below T rightEnds rightItems plan.room.rightGood) s h
+  right_items_lem : (s : ℕ) → s < length rights → all (λ i. ltb i T) (get_or rights s []) ≡ true
+  right_items_lem s h = all_at (below T) [] rights (items_below T right_ends right_items plan.room.right_good) s h
 
-  pub ground : Ground lay (query (length ranks) leftEnds leftItems rightEnds rightItems limit ranks rule) f
-  unfolding left_at rightAt
+  pub ground : Ground lay (query (length ranks) left_ends left_items right_ends right_items limit ranks rule) f
+  unfolding left_at right_at
   ground =
       record {
         left =
-            λ k h. left-set plan built.rightBuilt built.leftBuilt f (from-left built) lay.slots (least-slots built) k h;
+            λ k h. left_set plan built.right_built built.left_built f (from_left built) lay.slots (least_slots built) k h;
         right =
-            λ s h. right-set plan built.rightBuilt f (from-right built) lay.slots
-            (omega (arith, least-below plan, least-slots built)) s h;
-        leftSignature = built.signed.left;
-        rightSignature = built.signed.right;
+            λ s h. right_set plan built.right_built f (from_right built) lay.slots
+            (omega (arith, least_below plan, least_slots built)) s h;
+        left_signature = built.signed.left;
+        right_signature = built.signed.right;
         inverted =
-            λ r h. side-inverted built.rightBuilt.held (right_end plan) f (from-right built) lay.index lay.slots
-            plan.out.index (omega (arith, least-below plan, least-slots built)) r h;
-        seenFirst = seen_first built;
+            λ r h. side_inverted built.right_built.held (right_end plan) f (from_right built) lay.index lay.slots
+            plan.out.index (omega (arith, least_below plan, least_slots built)) r h;
+        seen_first = seen_first built;
         ordered = in_order built;
-        leftStartsWithin = omega (arith, left-starts plan, left-ranks plan, left_end plan, least-slots built);
-        rightStartsWithin = omega (arith, plan.out.rightStarts, right-ranks plan, least-below plan, least-slots built);
-        leftSignaturesWithin = omega (arith, plan.out.slots, left-long plan);
-        rightSignaturesWithin = omega (arith, slots-above plan, right-long plan);
-        offsetsWithin = omega (arith, right_end plan, least-below plan, least-slots built);
-        leastOffsetsWithin = omega (arith, plan.out.byLeast, signed_above plan, slots-above plan);
-        seenWithin =
+        left_starts_within = omega (arith, left_starts_lem plan, left_ranks plan, left_end plan, least_slots built);
+        right_starts_within = omega (arith, plan.out.right_starts, right_ranks_lem plan, least_below plan, least_slots built);
+        left_signatures_within = omega (arith, plan.out.slots, left_long plan);
+        right_signatures_within = omega (arith, slots_above plan, right_long plan);
+        offsets_within = omega (arith, right_end plan, least_below plan, least_slots built);
+        least_offsets_within = omega (arith, plan.out.by_least, signed_above plan, slots_above plan);
+        seen_within =
             λ asked r h.
-            omega (arith, seen_at built r h, built.leastBuilt.few asked r h, signed_above plan, slots-above plan);
-        slotsBelow = omega (arith, plan.out.rowStarts);
-        slotWithin =
+            omega (arith, seen_at built r h, built.least_built.few asked r h, signed_above plan, slots_above plan);
+        slots_below = omega (arith, plan.out.row_starts);
+        slot_within =
             λ r h.
-            omega (arith, side-bound built.rightBuilt.held (right_end plan) f (from-right built) r h, plan.out.rowStarts);
-        rowStartsWithin = omega (arith, plan.out.rowEnds, left-long plan);
-        rowEndsWithin = omega (arith, plan.out.rows, left-long plan);
-        rows_above = omega (arith, plan.out.leastOffsets, signed_above plan, slots-above plan, plan.out.rowStarts, plan.out.rowEnds, plan.out.rows);
-        rowsWithin = rows-below plan;
-        endWithin = omega (arith, plan.out.end.within, size built);
-        endSmall = plan.out.end.small;
+            omega (arith, side_bound built.right_built.held (right_end plan) f (from_right built) r h, plan.out.row_starts);
+        row_starts_within = omega (arith, plan.out.row_ends, left_long plan);
+        row_ends_within = omega (arith, plan.out.rows, left_long plan);
+        rows_above = omega (arith, plan.out.least_offsets, signed_above plan, slots_above plan, plan.out.row_starts, plan.out.row_ends, plan.out.rows);
+        rows_within = rows_below plan;
+        end_within = omega (arith, plan.out.end.within, size built);
+        end_small = plan.out.end.small;
         faithful =
             λ k s hk hs.
             sym
-            (contained-ranks T ranks plan.room.permutation (get_or lefts k []) (get_or rights s []) (left-items k hk)
-            (right-items s hs));
-        leftFew = omega (arith, (plan-sizes plan).leftSets, left-long plan);
-        rightFew = omega (arith, (plan-sizes plan).rightSets, right-long plan);
-        itemsFew = plan.room.items;
+            (contained_ranks T ranks plan.room.permutation (get_or lefts k []) (get_or rights s []) (left_items_lem k hk)
+            (right_items_lem s hs));
+        left_few = omega (arith, (plan_sizes plan).left_sets, left_long plan);
+        right_few = omega (arith, (plan_sizes plan).right_sets, right_long plan);
+        items_few = plan.room.items;
       }
 
 -- the same under the count of items that was given
-pub ground-items : {T : ℕ} {leftEnds leftItems rightEnds rightItems ranks w f : List ℕ} {lay : Layout} (limit : ℕ) (rule : Rule)
-    → BuildRoom T leftEnds leftItems rightEnds rightItems ranks w
-    → Ground lay (query (length ranks) leftEnds leftItems rightEnds rightItems limit ranks rule) f
-    → Ground lay (query T leftEnds leftItems rightEnds rightItems limit ranks rule) f
-ground-items {T} {leftEnds} {leftItems} {rightEnds} {rightItems} {ranks} {w} {f} {lay} limit rule room g =
-    subst (λ (n : ℕ). Ground lay (query n leftEnds leftItems rightEnds rightItems limit ranks rule) f) (items-are room) g
+pub ground_items : {T : ℕ} {left_ends left_items right_ends right_items ranks w f : List ℕ} {lay : Layout} (limit : ℕ) (rule : Rule)
+    → BuildRoom T left_ends left_items right_ends right_items ranks w
+    → Ground lay (query (length ranks) left_ends left_items right_ends right_items limit ranks rule) f
+    → Ground lay (query T left_ends left_items right_ends right_items limit ranks rule) f
+ground_items {T} {left_ends} {left_items} {right_ends} {right_items} {ranks} {w} {f} {lay} limit rule room g =
+    subst (λ (n : ℕ). Ground lay (query n left_ends left_items right_ends right_items limit ranks rule) f) (items_are room) g

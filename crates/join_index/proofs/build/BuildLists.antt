@@ -8,144 +8,144 @@ use native.Mathlib.Omega.{arith}
 use borrow.Author.Tests.{ltb-true}
 use lib.ListN.{length, get_or, take}
 use Rattle.lists.specs.Lists.{count, upto, slice}
-use Rattle.lists.proofs.Counting.{count-agree}
+use Rattle.lists.proofs.Counting.{count_agree}
 use Rattle.lists.proofs.Ranges.{memb-upto}
-use Rattle.lists.proofs.Slices.{frame_at, frame-less, frame-slice}
-use Rattle.sets.specs.Collections.{setsOf}
+use Rattle.lists.proofs.Slices.{frame_at, frame_less, frame-slice}
+use Rattle.sets.specs.Collections.{sets_of}
 use Rattle.sets.specs.Ordered.{ordered}
 use Rattle.join_spec.specs.declared.Rule.{Rule}
 use Rattle.join_spec.specs.Query.{Query, query}
 use Rattle.join_spec.specs.Node.{seen}
 use Rattle.counting_sort.specs.Groups.{grouped}
 use Rattle.counting_sort.specs.Holding.{RegionHolds}
-use Rattle.counting_sort.specs.Sorting.{sortedAt}
-use Rattle.side_index.specs.keys.SetKeys.{set_at, keyIn}
-use Rattle.join_index.specs.Grouping.{left_at, rightAt, key_at, orderedBy, orderFrom, order_of}
-use Rattle.join_index.specs.Ground.{Listing, seen_count, asksSeen}
-use Rattle.join_index.specs.stages.Stages.{heldKey}
+use Rattle.counting_sort.specs.Sorting.{sorted_at}
+use Rattle.side_index.specs.keys.SetKeys.{set_at, key_in}
+use Rattle.join_index.specs.Grouping.{left_at, right_at, key_at, ordered_by, order_from, order_of}
+use Rattle.join_index.specs.Ground.{Listing, seen_count, asks_seen}
+use Rattle.join_index.specs.stages.Stages.{held_key}
 use Rattle.join_index.specs.declared.Layout.{Layout}
-use Rattle.join_index.proofs.Ordering.{key-is}
-use Rattle.join_index.proofs.GroupLaws.{upto-place, ordered-agree}
+use Rattle.join_index.proofs.Ordering.{key_is}
+use Rattle.join_index.proofs.GroupLaws.{upto_place, ordered_agree}
 use Rattle.join_index.proofs.stages.HeldSets.{range-set}
-use Rattle.join_index.proofs.build.BuildPlan.{Planned, left-long, right-long}
-use Rattle.join_index.proofs.build.BuildPlan.{least-below, order-above, signed_above, slots-above}
-use Rattle.join_index.proofs.build.BuildStages.{Built, least-ranges, order-ranges}
+use Rattle.join_index.proofs.build.BuildPlan.{Planned, left_long, right_long}
+use Rattle.join_index.proofs.build.BuildPlan.{least_below, order_above, signed_above, slots_above}
+use Rattle.join_index.proofs.build.BuildStages.{Built, least_ranges, order_ranges}
 
 -- the order by the keys of the left sets
-order_from : (q : Query) (n d : ℕ) → orderedBy (key_at q) q.T (upto (length q.lefts)) n d ≡ orderFrom q n d
-unfolding orderedBy orderFrom
+order_from : (q : Query) (n d : ℕ) → ordered_by (key_at q) q.T (upto (length q.lefts)) n d ≡ order_from q n d
+unfolding ordered_by order_from
 order_from q zero d = refl
 order_from q (suc n) d = ap (λ (l : List ℕ). grouped (key_at q d) (suc q.T) l) (order_from q n (suc d))
 
-module _ {leftEnds leftItems rightEnds rightItems ranks w a b c d f : List ℕ} {nl nr limit : ℕ} {rule : Rule} {lay : Layout}
-    (built : Built leftEnds leftItems rightEnds rightItems ranks nl nr limit rule lay w a b c d f) where
-  plan : Planned leftEnds leftItems rightEnds rightItems ranks nl nr lay w
+module _ {left_ends left_items right_ends right_items ranks w a b c d f : List ℕ} {nl nr limit : ℕ} {rule : Rule} {lay : Layout}
+    (built : Built left_ends left_items right_ends right_items ranks nl nr limit rule lay w a b c d f) where
+  plan : Planned left_ends left_items right_ends right_items ranks nl nr lay w
   plan = built.plan
 
   abbrev T : ℕ
   T = length ranks
 
   abbrev lefts : List (List ℕ)
-  lefts = setsOf leftEnds leftItems
+  lefts = sets_of left_ends left_items
 
   abbrev rights : List (List ℕ)
-  rights = setsOf rightEnds rightItems
+  rights = sets_of right_ends right_items
 
   -- what each stage left stands at the end
-  from-order : take lay.right_signatures f ≡ take lay.right_signatures d
-  from-order = built.signed.frame
+  from_order : take lay.right_signatures f ≡ take lay.right_signatures d
+  from_order = built.signed.frame
 
-  from-least : take (lay.by_least + length rightEnds) f ≡ take (lay.by_least + length rightEnds) c
-  from-least =
-      frame-less (lay.by_least + length rightEnds) lay.right_signatures d f
-      (omega (arith, signed_above plan)) from-order
-      ∙ built.orderBuilt.frame
+  from_least : take (lay.by_least + length right_ends) f ≡ take (lay.by_least + length right_ends) c
+  from_least =
+      frame_less (lay.by_least + length right_ends) lay.right_signatures d f
+      (omega (arith, signed_above plan)) from_order
+      ∙ built.order_built.frame
 
-  pub from-left : take lay.least_offsets f ≡ take lay.least_offsets b
-  from-left =
-      frame-less lay.least_offsets (lay.by_least + length rightEnds) c f (order-above plan) from-least
-      ∙ built.leastBuilt.frame
+  pub from_left : take lay.least_offsets f ≡ take lay.least_offsets b
+  from_left =
+      frame_less lay.least_offsets (lay.by_least + length right_ends) c f (order_above plan) from_least
+      ∙ built.least_built.frame
 
-  pub from-right : take (lay.right_ranks + nr) f ≡ take (lay.right_ranks + nr) a
-  from-right =
-      frame-less (lay.right_ranks + nr) lay.least_offsets b f (least-below plan) from-left ∙ built.leftBuilt.frame
+  pub from_right : take (lay.right_ranks + nr) f ≡ take (lay.right_ranks + nr) a
+  from_right =
+      frame_less (lay.right_ranks + nr) lay.least_offsets b f (least_below plan) from_left ∙ built.left_built.frame
 
   pub size : length f ≡ length w
   size =
-      built.signed.size ∙ built.orderBuilt.size ∙ built.leastBuilt.size ∙ built.leftBuilt.size ∙ built.rightBuilt.size
+      built.signed.size ∙ built.order_built.size ∙ built.least_built.size ∙ built.left_built.size ∙ built.right_built.size
 
-  pub least-slots : lay.least_offsets ≤ lay.slots
-  least-slots = omega (arith, order-above plan, signed_above plan, slots-above plan)
+  pub least_slots : lay.least_offsets ≤ lay.slots
+  least_slots = omega (arith, order_above plan, signed_above plan, slots_above plan)
 
   -- the right sets by least rank
   pub seen_at : (r : ℕ) → r < T → get_or f (lay.least_offsets + suc r) 0 ≡ get_or c (lay.least_offsets + suc r) 0
   seen_at r h =
-      frame_at 0 (lay.least_offsets + suc r) (lay.by_least + length rightEnds) c f
-      (omega (arith, plan.out.byLeast)) from-least
+      frame_at 0 (lay.least_offsets + suc r) (lay.by_least + length right_ends) c f
+      (omega (arith, plan.out.by_least)) from_least
 
-  seen-range : asksSeen rule ≡ true → (r : ℕ) → r < T
+  seen-range : asks_seen rule ≡ true → (r : ℕ) → r < T
       → slice lay.by_least (lay.by_least + seen_count lay f r) f
-      ≡ slice (sortedAt lay.least_offsets (T + 1))
-      (sortedAt lay.least_offsets (T + 1) + get_or c (lay.least_offsets + suc r) 0) c
+      ≡ slice (sorted_at lay.least_offsets (T + 1))
+      (sorted_at lay.least_offsets (T + 1) + get_or c (lay.least_offsets + suc r) 0) c
   seen-range asked r h =
-      ap₂ (λ (s n : ℕ). slice s (s + n) f) plan.out.byLeast (seen_at r h)
-      ∙ frame-slice (sortedAt lay.least_offsets (T + 1))
-      (sortedAt lay.least_offsets (T + 1) + get_or c (lay.least_offsets + suc r) 0)
-      (lay.by_least + length rightEnds) c f (omega (arith, plan.out.byLeast, built.leastBuilt.few asked r h)) from-least
+      ap₂ (λ (s n : ℕ). slice s (s + n) f) plan.out.by_least (seen_at r h)
+      ∙ frame-slice (sorted_at lay.least_offsets (T + 1))
+      (sorted_at lay.least_offsets (T + 1) + get_or c (lay.least_offsets + suc r) 0)
+      (lay.by_least + length right_ends) c f (omega (arith, plan.out.by_least, built.least_built.few asked r h)) from_least
 
   abbrev q : Query
-  q = query (length ranks) leftEnds leftItems rightEnds rightItems limit ranks rule
+  q = query (length ranks) left_ends left_items right_ends right_items limit ranks rule
 
-  seen_same : (r s : ℕ) → s < length rightEnds
-      → seen r (set_at b lay.right_starts lay.right_ranks s) ≡ seen r (rightAt q s)
-  unfolding rightAt
+  seen_same : (r s : ℕ) → s < length right_ends
+      → seen r (set_at b lay.right_starts lay.right_ranks s) ≡ seen r (right_at q s)
+  unfolding right_at
   seen_same r s h =
       ap (λ (l : List ℕ). seen r l)
-      (range-set lay.right_starts lay.right_ranks lay.least_offsets (length rightEnds) T b
-      (λ s. ordered T ranks (get_or rights s [])) (least-ranges plan built.rightBuilt built.leftBuilt) s h)
+      (range-set lay.right_starts lay.right_ranks lay.least_offsets (length right_ends) T b
+      (λ s. ordered T ranks (get_or rights s [])) (least_ranges plan built.right_built built.left_built) s h)
 
-  pub seen_first : asksSeen rule ≡ true → (r : ℕ) → r < T
-      → Listing (length rights) (λ s. seen r (rightAt q s))
+  pub seen_first : asks_seen rule ≡ true → (r : ℕ) → r < T
+      → Listing (length rights) (λ s. seen r (right_at q s))
       (slice lay.by_least (lay.by_least + seen_count lay f r) f)
   seen_first asked r h p =
       ap (λ (l : List ℕ). count p l) (seen-range asked r h)
-      ∙ built.leastBuilt.seenFirst asked r h p
-      ∙ count-agree (λ s. seen r (set_at b lay.right_starts lay.right_ranks s) && p s)
-      (λ s. seen r (rightAt q s) && p s)
-      (upto (length rightEnds))
+      ∙ built.least_built.seen_first asked r h p
+      ∙ count_agree (λ s. seen r (set_at b lay.right_starts lay.right_ranks s) && p s)
+      (λ s. seen r (right_at q s) && p s)
+      (upto (length right_ends))
       (λ s there.
       ap (λ (t : Bool). t && p s)
-      (seen_same r s (ltb-true s (length rightEnds) (sym (memb-upto (length rightEnds) s) ∙ there))))
-      ∙ ap (λ (n : ℕ). count (λ s. seen r (rightAt q s) && p s) (upto n)) (sym (right-long plan))
+      (seen_same r s (ltb-true s (length right_ends) (sym (memb-upto (length right_ends) s) ∙ there))))
+      ∙ ap (λ (n : ℕ). count (λ s. seen r (right_at q s) && p s) (upto n)) (sym (right_long plan))
 
   -- the left sets in order
-  order-keys : (e k : ℕ) → k < length leftEnds → heldKey c lay.left_starts lay.left_ranks e k ≡ key_at q e k
+  order_keys_lem : (e k : ℕ) → k < length left_ends → held_key c lay.left_starts lay.left_ranks e k ≡ key_at q e k
   unfolding left_at
-  order-keys e k h =
-      ap (λ (l : List ℕ). keyIn e l)
-      (range-set lay.left_starts lay.left_ranks (lay.by_least + length rightEnds) (length leftEnds) T c
-      (λ k. ordered T ranks (get_or lefts k [])) (order-ranges plan built.rightBuilt built.leftBuilt built.leastBuilt) k h)
-      ∙ sym (key-is q e k)
+  order_keys_lem e k h =
+      ap (λ (l : List ℕ). key_in e l)
+      (range-set lay.left_starts lay.left_ranks (lay.by_least + length right_ends) (length left_ends) T c
+      (λ k. ordered T ranks (get_or lefts k [])) (order_ranges plan built.right_built built.left_built built.least_built) k h)
+      ∙ sym (key_is q e k)
 
-  order_is : orderedBy (heldKey c lay.left_starts lay.left_ranks) T (upto (length leftEnds)) limit 0 ≡ order_of q
+  order_is : ordered_by (held_key c lay.left_starts lay.left_ranks) T (upto (length left_ends)) limit 0 ≡ order_of q
   order_is =
-      ordered-agree (heldKey c lay.left_starts lay.left_ranks) (key_at q) T
-      (upto (length leftEnds)) limit 0 (λ e k there. order-keys e k (upto-place (length leftEnds) k there))
-      ∙ ap (λ (n : ℕ). orderedBy (key_at q) T (upto n) limit 0) (sym (left-long plan))
+      ordered_agree (held_key c lay.left_starts lay.left_ranks) (key_at q) T
+      (upto (length left_ends)) limit 0 (λ e k there. order_keys_lem e k (upto_place (length left_ends) k there))
+      ∙ ap (λ (n : ℕ). ordered_by (key_at q) T (upto n) limit 0) (sym (left_long plan))
       ∙ order_from q limit 0
 
-  order-end : lay.left_order + length lefts ≡ lay.right_signatures
-  order-end = omega (arith, plan.out.rightSignatures, left-long plan)
+  order_end : lay.left_order + length lefts ≡ lay.right_signatures
+  order_end = omega (arith, plan.out.right_signatures, left_long plan)
 
   pub in_order : RegionHolds f lay.slots lay.left_order (lay.left_order + length lefts) (order_of q)
   in_order =
       record {
         rise = omega arith;
-        within = omega (arith, order-end, slots-above plan);
+        within = omega (arith, order_end, slots_above plan);
         is =
             frame-slice lay.left_order (lay.left_order + length lefts) lay.right_signatures d f
-            (omega (arith, order-end)) from-order
-            ∙ ap₂ (λ (s n : ℕ). slice s (s + n) d) plan.out.order (left-long plan)
-            ∙ built.orderBuilt.is
+            (omega (arith, order_end)) from_order
+            ∙ ap₂ (λ (s n : ℕ). slice s (s + n) d) plan.out.order (left_long plan)
+            ∙ built.order_built.is
             ∙ order_is;
       }

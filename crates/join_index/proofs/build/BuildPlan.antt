@@ -4,137 +4,137 @@ use mathlib.Core.Path.{◌≡◌, sym, ap, subst}
 use mathlib.Core.List.{List}
 use native.Mathlib.Omega.{arith}
 use lib.ListN.{length}
-use Rattle.sets.specs.Limits.{fullWords}
-use Rattle.sets.specs.Collections.{setsOf, entries}
-use Rattle.sets.proofs.Good.{good-places, good-entries}
+use Rattle.sets.specs.Limits.{full_words}
+use Rattle.sets.specs.Collections.{sets_of, entries}
+use Rattle.sets.proofs.Good.{good_places, good_entries}
 use Rattle.sets.proofs.Between.{length-sets}
-use Rattle.sets.proofs.Permutation.{permutation-length}
-use Rattle.counting_sort.specs.Sorting.{sortedAt}
-use Rattle.side_index.specs.Side.{startsAt, ranksAt, sideEnd}
-use Rattle.join_index.specs.regions.Regions.{Sizes, LaidOut, leftBase}
+use Rattle.sets.proofs.Permutation.{permutation_length}
+use Rattle.counting_sort.specs.Sorting.{sorted_at}
+use Rattle.side_index.specs.Side.{starts_at, ranks_at, side_end}
+use Rattle.join_index.specs.regions.Regions.{Sizes, LaidOut, left_base}
 use Rattle.join_index.specs.build.Building.{BuildRoom}
 use Rattle.join_index.specs.declared.Layout.{Layout}
 
 -- a rank table has as many ranks as there are items
-pub items-are : {T : ℕ} {leftEnds leftItems rightEnds rightItems ranks w : List ℕ}
-    → BuildRoom T leftEnds leftItems rightEnds rightItems ranks w → length ranks ≡ T
-items-are {T} {leftEnds} {leftItems} {rightEnds} {rightItems} {ranks} room = permutation-length T ranks room.permutation
+pub items_are : {T : ℕ} {left_ends left_items right_ends right_items ranks w : List ℕ}
+    → BuildRoom T left_ends left_items right_ends right_items ranks w → length ranks ≡ T
+items_are {T} {left_ends} {left_items} {right_ends} {right_items} {ranks} room = permutation_length T ranks room.permutation
 
-pub by_length : {T : ℕ} {leftEnds leftItems rightEnds rightItems ranks w : List ℕ}
-    → BuildRoom T leftEnds leftItems rightEnds rightItems ranks w
-    → BuildRoom (length ranks) leftEnds leftItems rightEnds rightItems ranks w
-by_length {T} {leftEnds} {leftItems} {rightEnds} {rightItems} {ranks} {w} room =
-    subst (λ (n : ℕ). BuildRoom n leftEnds leftItems rightEnds rightItems ranks w) (sym (items-are room)) room
+pub by_length : {T : ℕ} {left_ends left_items right_ends right_items ranks w : List ℕ}
+    → BuildRoom T left_ends left_items right_ends right_items ranks w
+    → BuildRoom (length ranks) left_ends left_items right_ends right_items ranks w
+by_length {T} {left_ends} {left_items} {right_ends} {right_items} {ranks} {w} room =
+    subst (λ (n : ℕ). BuildRoom n left_ends left_items right_ends right_items ranks w) (sym (items_are room)) room
 
-pub sizes : {leftEnds leftItems rightEnds rightItems ranks w : List ℕ} {nl nr : ℕ}
-    → BuildRoom (length ranks) leftEnds leftItems rightEnds rightItems ranks w → nl ≡ entries leftEnds → nr ≡ entries rightEnds
-    → Sizes (length ranks) (length leftEnds) (length rightEnds) nl nr
-sizes {leftEnds} {leftItems} {rightEnds} {rightItems} {ranks} room left-entries right-entries =
+pub sizes : {left_ends left_items right_ends right_items ranks w : List ℕ} {nl nr : ℕ}
+    → BuildRoom (length ranks) left_ends left_items right_ends right_items ranks w → nl ≡ entries left_ends → nr ≡ entries right_ends
+    → Sizes (length ranks) (length left_ends) (length right_ends) nl nr
+sizes {left_ends} {left_items} {right_ends} {right_items} {ranks} room left_entries right_entries =
     record {
       items = room.items;
-      leftSets = good-places (length ranks) leftEnds leftItems room.leftGood;
-      rightSets = good-places (length ranks) rightEnds rightItems room.rightGood;
-      leftFew = omega (arith, left-entries, (good-entries (length ranks) leftEnds leftItems room.leftGood).few);
-      rightFew = omega (arith, right-entries, (good-entries (length ranks) rightEnds rightItems room.rightGood).few);
+      left_sets = good_places (length ranks) left_ends left_items room.left_good;
+      right_sets = good_places (length ranks) right_ends right_items room.right_good;
+      left_few = omega (arith, left_entries, (good_entries (length ranks) left_ends left_items room.left_good).few);
+      right_few = omega (arith, right_entries, (good_entries (length ranks) right_ends right_items room.right_good).few);
     }
 
 -- what is known once the regions are laid out
-pub record Planned (leftEnds leftItems rightEnds rightItems ranks : List ℕ) (nl nr : ℕ) (lay : Layout) (w : List ℕ) : Type 0 where
-  pub room : BuildRoom (length ranks) leftEnds leftItems rightEnds rightItems ranks w
-  pub leftEntries : nl ≡ entries leftEnds
-  pub rightEntries : nr ≡ entries rightEnds
-  pub out : LaidOut (length ranks) (length leftEnds) (length rightEnds) nl nr (length w) lay
+pub record Planned (left_ends left_items right_ends right_items ranks : List ℕ) (nl nr : ℕ) (lay : Layout) (w : List ℕ) : Type 0 where
+  pub room : BuildRoom (length ranks) left_ends left_items right_ends right_items ranks w
+  pub left_entries : nl ≡ entries left_ends
+  pub right_entries : nr ≡ entries right_ends
+  pub out : LaidOut (length ranks) (length left_ends) (length right_ends) nl nr (length w) lay
 
-module _ {leftEnds leftItems rightEnds rightItems ranks w : List ℕ} {nl nr : ℕ} {lay : Layout}
-    (p : Planned leftEnds leftItems rightEnds rightItems ranks nl nr lay w) where
+module _ {left_ends left_items right_ends right_items ranks w : List ℕ} {nl nr : ℕ} {lay : Layout}
+    (p : Planned left_ends left_items right_ends right_items ranks nl nr lay w) where
   abbrev T : ℕ
   T = length ranks
 
   abbrev lefts : List (List ℕ)
-  lefts = setsOf leftEnds leftItems
+  lefts = sets_of left_ends left_items
 
   abbrev rights : List (List ℕ)
-  rights = setsOf rightEnds rightItems
+  rights = sets_of right_ends right_items
 
-  out : LaidOut T (length leftEnds) (length rightEnds) nl nr (length w) lay
+  out : LaidOut T (length left_ends) (length right_ends) nl nr (length w) lay
   out = p.out
 
-  pub left-long : length lefts ≡ length leftEnds
-  left-long = length-sets 0 leftEnds leftItems
+  pub left_long : length lefts ≡ length left_ends
+  left_long = length-sets 0 left_ends left_items
 
-  pub right-long : length rights ≡ length rightEnds
-  right-long = length-sets 0 rightEnds rightItems
+  pub right_long : length rights ≡ length right_ends
+  right_long = length-sets 0 right_ends right_items
 
-  pub plan-sizes : Sizes (length ranks) (length leftEnds) (length rightEnds) nl nr
-  plan-sizes = sizes p.room p.leftEntries p.rightEntries
+  pub plan_sizes : Sizes (length ranks) (length left_ends) (length right_ends) nl nr
+  plan_sizes = sizes p.room p.left_entries p.right_entries
 
   -- the scratch words above the regions
-  pub wide : lay.slots + (nl + nl) + (nr + nr) + (length leftEnds + length leftEnds) +
-      (length rightEnds + length rightEnds) ≤ length w
+  pub wide : lay.slots + (nl + nl) + (nr + nr) + (length left_ends + length left_ends) +
+      (length right_ends + length right_ends) ≤ length w
   wide =
       omega (
         arith,
         p.room.room,
-        p.leftEntries,
-        p.rightEntries,
+        p.left_entries,
+        p.right_entries,
         out.offsets,
-        out.leastOffsets,
-        out.byLeast,
+        out.least_offsets,
+        out.by_least,
         out.order,
-        out.rightSignatures,
-        out.leftSignatures,
+        out.right_signatures,
+        out.left_signatures,
         out.slots,
       )
 
   -- the rows begin within the work list, at a place that fits a word
-  pub rows-below : lay.rows ≤ lay.end
-  rows-below =
-      let words : lay.rows ≤ length w = omega (arith, wide, out.rowStarts, out.rowEnds, out.rows) in
-      let small : lay.rows < fullWords =
+  pub rows_below : lay.rows ≤ lay.end
+  rows_below =
+      let words : lay.rows ≤ length w = omega (arith, wide, out.row_starts, out.row_ends, out.rows) in
+      let small : lay.rows < full_words =
       omega (
         arith,
-        plan-sizes,
+        plan_sizes,
         out.offsets,
-        out.leastOffsets,
-        out.byLeast,
+        out.least_offsets,
+        out.by_least,
         out.order,
-        out.rightSignatures,
-        out.leftSignatures,
+        out.right_signatures,
+        out.left_signatures,
         out.slots,
-        out.rowStarts,
-        out.rowEnds,
+        out.row_starts,
+        out.row_ends,
         out.rows,
       ) in
       out.end.greatest lay.rows words small
 
   -- the regions rise
-  pub left-above : lay.right_ranks + nr ≡ leftBase lay T (length rightEnds) nr
-  left-above = ap (λ (n : ℕ). n + nr) out.rightRanks
+  pub left_above : lay.right_ranks + nr ≡ left_base lay T (length right_ends) nr
+  left_above = ap (λ (n : ℕ). n + nr) out.right_ranks
 
-  pub least-below : lay.right_ranks + nr ≤ lay.least_offsets
-  least-below = omega (arith, left-above, out.leastOffsets)
+  pub least_below : lay.right_ranks + nr ≤ lay.least_offsets
+  least_below = omega (arith, left_above, out.least_offsets)
 
-  pub order-above : lay.least_offsets ≤ lay.by_least + length rightEnds
-  order-above = omega (arith, out.byLeast)
+  pub order_above : lay.least_offsets ≤ lay.by_least + length right_ends
+  order_above = omega (arith, out.by_least)
 
-  pub signed_above : sortedAt (lay.by_least + length rightEnds) (T + 1) + length leftEnds ≡ lay.right_signatures
-  signed_above = omega (arith, out.order, out.rightSignatures)
+  pub signed_above : sorted_at (lay.by_least + length right_ends) (T + 1) + length left_ends ≡ lay.right_signatures
+  signed_above = omega (arith, out.order, out.right_signatures)
 
-  pub slots-above : lay.right_signatures + 2 * length rightEnds + 2 * length leftEnds ≡ lay.slots
-  slots-above = omega (arith, out.leftSignatures, out.slots)
+  pub slots_above : lay.right_signatures + 2 * length right_ends + 2 * length left_ends ≡ lay.slots
+  slots_above = omega (arith, out.left_signatures, out.slots)
 
   -- where the sides lie
-  pub right_end : lay.right_ranks + nr ≡ sideEnd lay.offsets T nr (length rights)
-  right_end = omega (arith, out.rightRanks, right-long)
+  pub right_end : lay.right_ranks + nr ≡ side_end lay.offsets T nr (length rights)
+  right_end = omega (arith, out.right_ranks, right_long)
 
-  pub right-ranks : lay.right_ranks ≡ ranksAt lay.offsets T nr (length rights)
-  right-ranks = omega (arith, out.rightRanks, right-long)
+  pub right_ranks_lem : lay.right_ranks ≡ ranks_at lay.offsets T nr (length rights)
+  right_ranks_lem = omega (arith, out.right_ranks, right_long)
 
-  pub left_end : lay.least_offsets ≡ sideEnd (lay.right_ranks + nr) T nl (length lefts)
-  left_end = omega (arith, left-above, out.leastOffsets, left-long)
+  pub left_end : lay.least_offsets ≡ side_end (lay.right_ranks + nr) T nl (length lefts)
+  left_end = omega (arith, left_above, out.least_offsets, left_long)
 
-  pub left-starts : lay.left_starts ≡ startsAt (lay.right_ranks + nr) T nl
-  left-starts = omega (arith, left-above, out.leftStarts)
+  pub left_starts_lem : lay.left_starts ≡ starts_at (lay.right_ranks + nr) T nl
+  left_starts_lem = omega (arith, left_above, out.left_starts)
 
-  pub left-ranks : lay.left_ranks ≡ ranksAt (lay.right_ranks + nr) T nl (length lefts)
-  left-ranks = omega (arith, left-above, out.leftRanks, left-long)
+  pub left_ranks : lay.left_ranks ≡ ranks_at (lay.right_ranks + nr) T nl (length lefts)
+  left_ranks = omega (arith, left_above, out.left_ranks, left_long)

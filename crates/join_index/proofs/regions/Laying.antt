@@ -9,20 +9,20 @@ module _ (T lefts rights nl nr words end : ℕ) where
   abbrev index : ℕ
   index = T + 1
 
-  abbrev right-ranks : ℕ
-  right-ranks = index + nr + rights + 1
+  abbrev right_ranks_lem : ℕ
+  right_ranks_lem = index + nr + rights + 1
 
-  abbrev left-starts : ℕ
-  left-starts = right-ranks + nr + T + 1 + nl
+  abbrev left_starts_lem : ℕ
+  left_starts_lem = right_ranks_lem + nr + T + 1 + nl
 
-  abbrev least-offsets : ℕ
-  least-offsets = left-starts + lefts + 1 + nl
+  abbrev least_offsets_lem : ℕ
+  least_offsets_lem = left_starts_lem + lefts + 1 + nl
 
-  abbrev by-least : ℕ
-  by-least = least-offsets + T + 2
+  abbrev by_least_lem : ℕ
+  by_least_lem = least_offsets_lem + T + 2
 
   abbrev order : ℕ
-  order = by-least + rights + T + 2
+  order = by_least_lem + rights + T + 2
 
   abbrev slots : ℕ
   slots = order + lefts + 2 * rights + 2 * lefts
@@ -33,11 +33,11 @@ module _ (T lefts rights nl nr words end : ℕ) where
         offsets = 0;
         index = index;
         right_starts = index + nr;
-        right_ranks = right-ranks;
-        left_starts = left-starts;
-        left_ranks = left-starts + lefts + 1;
-        least_offsets = least-offsets;
-        by_least = by-least;
+        right_ranks = right_ranks_lem;
+        left_starts = left_starts_lem;
+        left_ranks = left_starts_lem + lefts + 1;
+        least_offsets = least_offsets_lem;
+        by_least = by_least_lem;
         left_order = order;
         right_signatures = order + lefts;
         left_signatures = order + lefts + 2 * rights;
@@ -53,18 +53,18 @@ module _ (T lefts rights nl nr words end : ℕ) where
       record {
         offsets = refl;
         index = omega arith;
-        rightStarts = omega arith;
-        rightRanks = omega arith;
-        leftStarts = omega arith;
-        leftRanks = omega arith;
-        leastOffsets = omega arith;
-        byLeast = omega arith;
+        right_starts = omega arith;
+        right_ranks = omega arith;
+        left_starts = omega arith;
+        left_ranks = omega arith;
+        least_offsets = omega arith;
+        by_least = omega arith;
         order = omega arith;
-        rightSignatures = refl;
-        leftSignatures = refl;
+        right_signatures = refl;
+        left_signatures = refl;
         slots = refl;
-        rowStarts = refl;
-        rowEnds = refl;
+        row_starts = refl;
+        row_ends = refl;
         rows = refl;
         end = placed;
       }

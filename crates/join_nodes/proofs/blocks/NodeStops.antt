@@ -8,17 +8,17 @@ use native.Mathlib.Omega.{arith}
 use borrow.Author.Tests.{not-true, not-false}
 use lib.ListN.{length}
 use Rattle.lists.specs.Lists.{prefix, slice}
-use Rattle.lists.proofs.Filtering.{all-kept}
+use Rattle.lists.proofs.Filtering.{all_kept}
 use Rattle.lists.proofs.Slices.{length-slice}
-use Rattle.sets.specs.Limits.{maxSets}
+use Rattle.sets.specs.Limits.{max_sets}
 use Rattle.join_spec.specs.Query.{Query}
 use Rattle.join_spec.specs.Node.{last_of}
 use Rattle.join_spec.specs.Walk.{goes}
-use Rattle.join_index.specs.Grouping.{left_at, orderFrom}
+use Rattle.join_index.specs.Grouping.{left_at, order_from}
 use Rattle.join_index.specs.declared.Layout.{Layout}
-use Rattle.join_index.proofs.GroundLaws.{slot-bound}
+use Rattle.join_index.proofs.GroundLaws.{slot_bound}
 use Rattle.join_index.specs.Asking.{Index}
-use Rattle.join_index.specs.Ranges.{leftsIn}
+use Rattle.join_index.specs.Ranges.{lefts_in}
 use Rattle.join_check.specs.Checks.{RangesThere}
 use Rattle.kept_rows.specs.Kept.{RowsKept}
 use Rattle.join_nodes.specs.Narrowing.{Candidates, slot_of}
@@ -27,11 +27,11 @@ use Rattle.join_nodes.specs.declared.Progress.{Progress}
 use Rattle.join_nodes.specs.declared.WalkSettings.{WalkSettings}
 use Rattle.join_nodes.specs.declared.Walked.{Walked}
 use Rattle.join_nodes.proofs.RangeLaws.{range_length}
-use Rattle.join_nodes.proofs.NodeFacts.{stop-asks}
-use Rattle.join_nodes.proofs.FrameLaws.{framed-none}
+use Rattle.join_nodes.proofs.NodeFacts.{stop_asks}
+use Rattle.join_nodes.proofs.FrameLaws.{framed_none}
 use Rattle.join_nodes.specs.block_checks.BlockChecks.{Small, Blocked}
-use Rattle.join_nodes.proofs.blocks.BlockLaws.{Begin, Rooted, ranges-there, rows-stop}
-use Rattle.join_nodes.proofs.blocks.BlockVisits.{block-visited}
+use Rattle.join_nodes.proofs.blocks.BlockLaws.{Begin, Rooted, ranges_there, rows_stop}
+use Rattle.join_nodes.proofs.blocks.BlockVisits.{block_visited}
 
 module _ {lay : Layout} {st : WalkSettings} {q : Query} {path w : List ℕ} {d lo hi from to : ℕ} {p : Progress}
     (node : Node lay st q path w d lo hi from to p) where
@@ -41,27 +41,27 @@ module _ {lay : Layout} {st : WalkSettings} {q : Query} {path w : List ℕ} {d l
   index : Index lay q w
   index = cands.index
 
-  pub node-rooted : Rooted q path d (leftsIn lay w lo hi)
-  node-rooted =
+  pub node_rooted : Rooted q path d (lefts_in lay w lo hi)
+  node_rooted =
       record {
         depth = cands.depth;
         deep = cands.deep;
         begin =
             subst (λ (l : List ℕ). Begin q path l) (sym node.at.lefts)
-            (all-kept (λ k. prefix path (left_at q k)) (orderFrom q (q.limit - d) d));
+            (all_kept (λ k. prefix path (left_at q k)) (order_from q (q.limit - d) d));
       }
 
-  part-within : to ≤ length w
-  part-within =
+  part_within : to ≤ length w
+  part_within =
       omega (
         arith,
         cands.below,
-        slot-bound index.ground (last_of path) cands.last,
+        slot_bound index.ground (last_of path) cands.last,
         (index.ground.inverted (last_of path) cands.last).rise,
       )
 
-  lefts-few : hi - lo ≤ maxSets
-  lefts-few = omega (arith, node.at.few, index.ground.leftFew)
+  lefts_few : hi - lo ≤ max_sets
+  lefts_few = omega (arith, node.at.few, index.ground.left_few)
 
   -- the decision as it was answered, its outcome tested
   module _ {b : Bool} (decided : (q : Query) (path : List ℕ) → NodeAt lay q path w d lo hi from to → q.rule ≡ st.rule
@@ -72,30 +72,30 @@ module _ {lay : Layout} {st : WalkSettings} {q : Query} {path w : List ℕ} {d l
     pub goes_on : not b ≡ false → true ≡ goes q path
     goes_on test = sym (not-false b test) ∙ decision
 
-    pub goes-not : not b ≡ true → false ≡ goes q path
-    goes-not test = sym (not-true b test) ∙ decision
+    pub goes_not : not b ≡ true → false ≡ goes q path
+    goes_not test = sym (not-true b test) ∙ decision
 
   -- not going on
-  pub stop-there : false ≡ goes q path → RangesThere lay q w (d - 1) lo hi from to
-  stop-there stop =
-      ranges-there node-rooted index part-within node.at.few (cands.listing (stop-asks q path stop)) (omega arith)
+  pub stop_there : false ≡ goes q path → RangesThere lay q w (d - 1) lo hi from to
+  stop_there stop =
+      ranges_there node_rooted index part_within node.at.few (cands.listing (stop_asks q path stop)) (omega arith)
 
-  pub stop-small : Small st.budget lo hi from to p.tally
-  stop-small =
+  pub stop_small : Small st.budget lo hi from to p.tally
+  stop_small =
       record {
-        lefts = lefts-few;
-        rights = omega (arith, cands.few, index.ground.rightFew);
+        lefts = lefts_few;
+        rights = omega (arith, cands.few, index.ground.right_few);
         rise = omega (arith, node.at.some);
         part = cands.rise;
         covered = node.underway.budget;
       }
 
-  pub stop-visited : {r : Walked} → false ≡ goes q path → Blocked lay w st.budget (d - 1) lo hi from to p r
+  pub stop_visited : {r : Walked} → false ≡ goes q path → Blocked lay w st.budget (d - 1) lo hi from to p r
       → NodeVisited lay st q path w w d lo hi p.tally r
-  stop-visited {r} stop block =
+  stop_visited {r} stop block =
       record {
-        framed = framed-none (slot_of lay w (last_of path)) w;
-        visited = block-visited (stop-there stop) (range_length lay q w lo hi index node.at.few) (length-slice from to w part-within)
-            (λ is met. rows-stop node-rooted (slice from to w) is met (sym stop) (cands.listing (stop-asks q path stop))) block;
+        framed = framed_none (slot_of lay w (last_of path)) w;
+        visited = block_visited (stop_there stop) (range_length lay q w lo hi index node.at.few) (length-slice from to w part_within)
+            (λ is met. rows_stop node_rooted (slice from to w) is met (sym stop) (cands.listing (stop_asks q path stop))) block;
         rows = λ calm. subst (RowsKept lay q w) (sym block.top) node.rows;
       }

@@ -10,45 +10,45 @@ use lib.Dec.{leb}
 use lib.ListN.{length, take}
 use lib.Seq.{take-take}
 use Rattle.lists.specs.Lists.{count, memb, subset, prefix, sum, upto}
-use Rattle.lists.proofs.Bools.{by-test, and_left, and_right, and_both, true-false}
+use Rattle.lists.proofs.Bools.{by_test, and_left, and_right, and_both, true-false}
 use Rattle.lists.proofs.Throughout.{all_take}
-use Rattle.lists.proofs.Counting.{count-le}
-use Rattle.lists.proofs.Summing.{sum-same-where}
-use Rattle.lists.proofs.Slices.{slice-past}
+use Rattle.lists.proofs.Counting.{count_le}
+use Rattle.lists.proofs.Summing.{sum_same_where}
+use Rattle.lists.proofs.Slices.{slice_past}
 use Rattle.join_spec.specs.Query.{Query}
 use Rattle.join_spec.specs.Node.{seen}
-use Rattle.join_spec.specs.Walk.{Outcome, isCandidate, goes}
+use Rattle.join_spec.specs.Walk.{Outcome, is_candidate, goes}
 use Rattle.join_spec.specs.Kinds.{is_of}
-use Rattle.join_spec.proofs.KindLaws.{kind-met, sum-zero}
-use Rattle.join_index.specs.Grouping.{left_at, rightAt}
+use Rattle.join_spec.proofs.KindLaws.{kind_met, sum-zero}
+use Rattle.join_index.specs.Grouping.{left_at, right_at}
 use Rattle.join_index.specs.Ground.{Listing}
 use Rattle.join_index.specs.declared.Layout.{Layout}
-use Rattle.join_index.specs.Ranges.{leftsIn}
+use Rattle.join_index.specs.Ranges.{lefts_in}
 use Rattle.kept_rows.specs.Keeping.{ListKept}
 use Rattle.join_nodes.specs.Rows.{row}
-use Rattle.join_nodes.specs.Narrowing.{candidateList}
+use Rattle.join_nodes.specs.Narrowing.{candidate_list}
 use Rattle.join_nodes.specs.Visiting.{RangeVisited}
 use Rattle.join_nodes.specs.declared.narrow.Part.{Part}
 use Rattle.join_nodes.specs.declared.Progress.{Progress}
 use Rattle.join_nodes.specs.declared.WalkSettings.{WalkSettings}
-use Rattle.join_nodes.proofs.Narrowing.{listing-kept}
+use Rattle.join_nodes.proofs.Narrowing.{listing_kept}
 use Rattle.join_nodes.proofs.Prefixes.{prefix-length}
-use Rattle.join_nodes.proofs.RowLaws.{MetOnly, row-stops, row-limit, row-merges, row-deeper}
-use Rattle.join_nodes.proofs.PathLaws.{paths-one}
-use Rattle.join_nodes.proofs.blocks.BlockLaws.{Rooted, listing-left, left-goes}
-use Rattle.join_nodes.proofs.blocks.GoingLaws.{going-rooted}
-use Rattle.join_nodes.proofs.blocks.NodeRows.{empty-list}
-use Rattle.join_nodes.proofs.enter.NodeSteps.{Onward, onward-going}
+use Rattle.join_nodes.proofs.RowLaws.{MetOnly, row_stops, row_limit, row_merges, row_deeper}
+use Rattle.join_nodes.proofs.PathLaws.{paths_one}
+use Rattle.join_nodes.proofs.blocks.BlockLaws.{Rooted, listing_left, left_goes}
+use Rattle.join_nodes.proofs.blocks.GoingLaws.{going_rooted}
+use Rattle.join_nodes.proofs.blocks.NodeRows.{empty_list}
+use Rattle.join_nodes.proofs.enter.NodeSteps.{Onward, onward_going}
 
 -- no right set is a candidate after the first d ranks of the left set k
 abbrev Unmet : Query → ℕ → ℕ → Type 0
-Unmet q d k = Listing (length q.rights) (λ s. isCandidate d (left_at q k) (rightAt q s)) []
+Unmet q d k = Listing (length q.rights) (λ s. is_candidate d (left_at q k) (right_at q s)) []
 
 -- a candidate after one rank more is one before
-candidate-before : (d : ℕ) (left right : List ℕ) → isCandidate (suc d) left right ≡ true → isCandidate d left right ≡ true
-unfolding isCandidate
-candidate-before d [] right is = is
-candidate-before d (r ∷ ranks) right is =
+candidate_before : (d : ℕ) (left right : List ℕ) → is_candidate (suc d) left right ≡ true → is_candidate d left right ≡ true
+unfolding is_candidate
+candidate_before d [] right is = is
+candidate_before d (r ∷ ranks) right is =
     let left = r ∷ ranks in
     and_both (and_left (seen r right) (subset (take (suc d) left) right) is)
     (subst (λ (l : List ℕ). subset l right ≡ true) (take-take d (suc d) left (omega arith))
@@ -59,14 +59,14 @@ module _ (q : Query) (k : ℕ) where
   unmet-further : (d : ℕ) → Unmet q d k → Unmet q (suc d) k
   unfolding count
   unmet-further d none p =
-      let fewer : count (λ s. isCandidate (suc d) (left_at q k) (rightAt q s) && p s) (upto (length q.rights))
-      ≤ count (λ s. isCandidate d (left_at q k) (rightAt q s) && p s) (upto (length q.rights)) =
-      count-le (λ s. isCandidate (suc d) (left_at q k) (rightAt q s) && p s)
-      (λ s. isCandidate d (left_at q k) (rightAt q s) && p s) (upto (length q.rights))
+      let fewer : count (λ s. is_candidate (suc d) (left_at q k) (right_at q s) && p s) (upto (length q.rights))
+      ≤ count (λ s. is_candidate d (left_at q k) (right_at q s) && p s) (upto (length q.rights)) =
+      count_le (λ s. is_candidate (suc d) (left_at q k) (right_at q s) && p s)
+      (λ s. is_candidate d (left_at q k) (right_at q s) && p s) (upto (length q.rights))
       (λ s both.
       and_both
-      (candidate-before d (left_at q k) (rightAt q s) (and_left (isCandidate (suc d) (left_at q k) (rightAt q s)) (p s) both))
-      (and_right (isCandidate (suc d) (left_at q k) (rightAt q s)) (p s) both))
+      (candidate_before d (left_at q k) (right_at q s) (and_left (is_candidate (suc d) (left_at q k) (right_at q s)) (p s) both))
+      (and_right (is_candidate (suc d) (left_at q k) (right_at q s)) (p s) both))
       in
       omega (arith, fewer, none p)
 
@@ -76,58 +76,58 @@ module _ (q : Query) (k : ℕ) where
         → Unmet q d k → row is q d k ≡ 0
     unfolding count
     row_ends d short long on none =
-        row-merges q d k is met [] on (omega (arith, leb-true (length (left_at q k)) d short)) none ∙ sym (paths-one is [])
+        row_merges q d k is met [] on (omega (arith, leb-true (length (left_at q k)) d short)) none ∙ sym (paths_one is [])
 
-    row-empty : (n d : ℕ) → n + d ≡ q.limit → d ≤ length (left_at q k) → goes q (take d (left_at q k)) ≡ true → Unmet q d k
+    row_empty : (n d : ℕ) → n + d ≡ q.limit → d ≤ length (left_at q k) → goes q (take d (left_at q k)) ≡ true → Unmet q d k
         → row is q d k ≡ 0
     unfolding count
-    row-empty zero d levels long on none =
-        by-test (leb (length (left_at q k)) d)
+    row_empty zero d levels long on none =
+        by_test (leb (length (left_at q k)) d)
         (λ short. row_ends d short long on none)
-        (λ e. row-limit q d k is met [] on (leb-false (length (left_at q k)) d e) (omega arith) none)
-    row-empty (suc n) d levels long on none =
-        by-test (leb (length (left_at q k)) d)
+        (λ e. row_limit q d k is met [] on (leb-false (length (left_at q k)) d e) (omega arith) none)
+    row_empty (suc n) d levels long on none =
+        by_test (leb (length (left_at q k)) d)
         (λ short. row_ends d short long on none)
         (λ e.
         let longer : d < length (left_at q k) = leb-false (length (left_at q k)) d e in
-        row-deeper q d k is on longer (omega arith)
-        ∙ by-test (goes q (take (suc d) (left_at q k)))
-        (λ further. row-empty n (suc d) (omega arith) (omega arith) further (unmet-further d none))
-        (λ stops. row-stops q (suc d) k is met [] stops (subst (λ (n : ℕ). Unmet q n k) (omega arith) none)))
+        row_deeper q d k is on longer (omega arith)
+        ∙ by_test (goes q (take (suc d) (left_at q k)))
+        (λ further. row_empty n (suc d) (omega arith) (omega arith) further (unmet-further d none))
+        (λ stops. row_stops q (suc d) k is met [] stops (subst (λ (n : ℕ). Unmet q n k) (omega arith) none)))
 
 -- the rows of left sets that begin with a path after which no candidate is left
 rows_empty : {q : Query} {path : List ℕ} {d : ℕ} {lefts : List ℕ} → Rooted q path d lefts → d ≤ q.limit → goes q path ≡ true
-    → candidateList q path d ≡ [] → (is : Outcome → Bool) → MetOnly is → sum (row is q d) lefts ≡ 0
+    → candidate_list q path d ≡ [] → (is : Outcome → Bool) → MetOnly is → sum (row is q d) lefts ≡ 0
 rows_empty {q} {path} {d} {lefts} rooted within on none is met =
-    sum-same-where (λ k. prefix path (left_at q k)) (row is q d) (λ k. 0) lefts rooted.begin
+    sum_same_where (λ k. prefix path (left_at q k)) (row is q d) (λ k. 0) lefts rooted.begin
     (λ k begins.
-    row-empty q k is met (q.limit - d) d (omega arith)
+    row_empty q k is met (q.limit - d) d (omega arith)
     (omega (arith, prefix-length path (left_at q k) begins, rooted.depth))
-    (left-goes rooted k true begins on)
-    (listing-left rooted d k [] begins (omega arith)
-    (subst (λ (l : List ℕ). Listing (length q.rights) (λ s. isCandidate d path (rightAt q s)) l) none
-    (listing-kept (length q.rights) (λ s. isCandidate d path (rightAt q s))))))
+    (left_goes rooted k true begins on)
+    (listing_left rooted d k [] begins (omega arith)
+    (subst (λ (l : List ℕ). Listing (length q.rights) (λ s. is_candidate d path (right_at q s)) l) none
+    (listing_kept (length q.rights) (λ s. is_candidate d path (right_at q s))))))
     ∙ sum-zero lefts
 
 -- so the visit of a node where the part is empty is over, and the rows of its left sets are kept
-pub empty-kept : {lay : Layout} {st : WalkSettings} {q : Query} {path w w' w'' : List ℕ} {d lo hi from to top : ℕ} {p : Progress}
+pub empty_kept : {lay : Layout} {st : WalkSettings} {q : Query} {path w w' w'' : List ℕ} {d lo hi from to top : ℕ} {p : Progress}
     {part : Part} → Onward lay st q path w w' d lo hi from to p part p.top → part.to ≤ part.«from»
     → ListKept lay w' lo hi part.«from» part.to p.top w'' top
     → RangeVisited lay q st.budget lay.row_starts d w' w'' lo hi p.tally
     (record { at = record { tally = p.tally; top = top }; spent = false })
-empty-kept {lay} {q = q} {path} {w' = w'} {d = d} {lo} {hi} {part = part} so empty kept =
+empty_kept {lay} {q = q} {path} {w' = w'} {d = d} {lo} {hi} {part = part} so empty kept =
     record {
       framed = record { size = kept.size; frame = kept.frame };
       visited = record {
         added = λ calm.
-            record { tallied = record { grows = λ kind. omega (arith, nothing (is_of kind) (kind-met kind)) } };
+            record { tallied = record { grows = λ kind. omega (arith, nothing (is_of kind) (kind_met kind)) } };
         within = λ calm. so.node.underway.budget;
         beyond = λ spent. true-false spent refl;
       };
-      rows = λ calm. kept.rows q (empty-list (onward-going so) empty);
+      rows = λ calm. kept.rows q (empty_list (onward_going so) empty);
     }
   where
-    nothing : (is : Outcome → Bool) → MetOnly is → sum (row is q d) (leftsIn lay w' lo hi) ≡ 0
+    nothing : (is : Outcome → Bool) → MetOnly is → sum (row is q d) (lefts_in lay w' lo hi) ≡ 0
     nothing =
-        rows_empty (going-rooted (onward-going so)) so.node.at.within (sym so.on)
-        (sym so.holds ∙ slice-past part.«from» part.to w' empty)
+        rows_empty (going_rooted (onward_going so)) so.node.at.within (sym so.on)
+        (sym so.holds ∙ slice_past part.«from» part.to w' empty)

@@ -1,34 +1,34 @@
 -- Inner: the checks of a block of left sets against a list of candidates, made only if the budget covers them all.
 use Rattle.std.specs.Prelude.{ℕ, ◌+◌, ◌-◌, ◌*◌, ◌≤◌, ◌<◌, ◌≡◌, List, Bool, true, false}
 use Rattle.lists.specs.Lists.{slice}
-use Rattle.sets.specs.Limits.{maxSets}
+use Rattle.sets.specs.Limits.{max_sets}
 use Rattle.join_spec.specs.Query.{Query}
 use Rattle.join_index.specs.declared.Layout.{Layout}
-use Rattle.join_index.specs.Ranges.{leftsIn}
-use Rattle.join_check.specs.Counters.{checksIn, Tallied}
-use Rattle.join_check.specs.Checks.{rangeCount, RangesThere}
+use Rattle.join_index.specs.Ranges.{lefts_in}
+use Rattle.join_check.specs.Counters.{checks_in, Tallied}
+use Rattle.join_check.specs.Checks.{range_count, RangesThere}
 use Rattle.join_check.specs.declared.Tally.{Tally}
 use Rattle.join_nodes.specs.declared.Progress.{Progress}
 use Rattle.join_nodes.specs.declared.Walked.{Walked}
 
 -- whether a budget covers so many checks after those that were made
 pub record Covered (budget : ℕ) (tally : Tally) (checks : ℕ) (r : Bool) : Type 0 where
-  pub within : r ≡ true → checksIn tally + checks ≤ budget
-  pub beyond : r ≡ false → budget < checksIn tally + checks
+  pub within : r ≡ true → checks_in tally + checks ≤ budget
+  pub beyond : r ≡ false → budget < checks_in tally + checks
 
 -- a block that is small, with a budget that covers the checks so far
 pub record Small (budget lo hi from to : ℕ) (tally : Tally) : Type 0 where
-  pub lefts : hi - lo ≤ maxSets
-  pub rights : to - from ≤ maxSets
+  pub lefts : hi - lo ≤ max_sets
+  pub rights : to - from ≤ max_sets
   pub rise : lo ≤ hi
   pub part : from ≤ to
-  pub covered : checksIn tally ≤ budget
+  pub covered : checks_in tally ≤ budget
 
 -- every left set was checked against every candidate, or that would have exceeded the budget; no row is kept
 pub record Blocked (lay : Layout) (w : List ℕ) (budget e lo hi from to : ℕ) (p : Progress) (r : Walked) : Type 0 where
   pub tallied :
       r.spent ≡ false → (q : Query) → RangesThere lay q w e lo hi from to
-      → Tallied (λ is. rangeCount q is (slice from to w) (leftsIn lay w lo hi)) p.tally r.at.tally
-  pub within : r.spent ≡ false → checksIn r.at.tally ≤ budget
-  pub beyond : r.spent ≡ true → budget < checksIn p.tally + (hi - lo) * (to - from)
+      → Tallied (λ is. range_count q is (slice from to w) (lefts_in lay w lo hi)) p.tally r.at.tally
+  pub within : r.spent ≡ false → checks_in r.at.tally ≤ budget
+  pub beyond : r.spent ≡ true → budget < checks_in p.tally + (hi - lo) * (to - from)
   pub top : r.at.top ≡ p.top

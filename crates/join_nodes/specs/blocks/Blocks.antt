@@ -7,13 +7,13 @@ use Rattle.join_spec.specs.Walk.{goes}
 use Rattle.join_index.specs.Grouping.{left_at, key_at}
 use Rattle.join_index.specs.declared.Layout.{Layout}
 use Rattle.join_index.specs.Asking.{Index, RangeThere}
-use Rattle.join_index.specs.Ranges.{leftsIn, lead}
-use Rattle.join_check.specs.Counters.{checksIn, Tallied}
-use Rattle.join_check.specs.Checks.{rowCount}
+use Rattle.join_index.specs.Ranges.{lefts_in, lead}
+use Rattle.join_check.specs.Counters.{checks_in, Tallied}
+use Rattle.join_check.specs.Checks.{row_count}
 use Rattle.kept_rows.specs.Kept.{RowsKept}
 use Rattle.kept_rows.specs.Keeping.{ListKept}
 use Rattle.kept_rows.specs.checked.Recording.{RowRecordable}
-use Rattle.join_nodes.specs.Narrowing.{candidateList}
+use Rattle.join_nodes.specs.Narrowing.{candidate_list}
 use Rattle.join_nodes.specs.Visiting.{Underway, Merged, Framed}
 use Rattle.join_nodes.specs.declared.Progress.{Progress}
 use Rattle.join_nodes.specs.declared.WalkSettings.{WalkSettings}
@@ -24,7 +24,7 @@ use Rattle.join_nodes.specs.declared.blocks.Settled.{Settled}
 pub record MergedEnd (lay : Layout) (w : List ℕ) (d lo hi r : ℕ) : Type 0 where
   pub low : lo ≤ r
   pub high : r ≤ hi
-  pub maximal : (q : Query) → RangeThere lay q w lo hi → r ≡ lo + lead (λ k. eqb (key_at q d k) 0) (leftsIn lay w lo hi)
+  pub maximal : (q : Query) → RangeThere lay q w lo hi → r ≡ lo + lead (λ k. eqb (key_at q d k) 0) (lefts_in lay w lo hi)
 
 -- the left sets in left_order[lo..hi] were paired by path with the right sets listed in work[from..to], which are kept as their row
 pub record PairsKept (lay : Layout) (w : List ℕ) (lo hi from to : ℕ) (p : Progress) (w' : List ℕ) (r : Progress) : Type 0 where
@@ -38,9 +38,9 @@ pub record RowFinished (lay : Layout) (w : List ℕ) (budget k e from to : ℕ) 
   pub rows : r.spent ≡ false → (q : Query) → RowRecordable lay q w k e from to p.top → RowsKept lay q w' r.at.top
   pub tallied :
       r.spent ≡ false → (q : Query) → RowRecordable lay q w k e from to p.top
-      → Tallied (λ is. rowCount q is (slice from to w) k) p.tally r.at.tally
-  pub within : r.spent ≡ false → checksIn r.at.tally ≤ budget
-  pub beyond : r.spent ≡ true → budget < checksIn p.tally + (to - from)
+      → Tallied (λ is. row_count q is (slice from to w) k) p.tally r.at.tally
+  pub within : r.spent ≡ false → checks_in r.at.tally ≤ budget
+  pub beyond : r.spent ≡ true → budget < checks_in p.tally + (to - from)
 
 -- a node where the walk goes on: the left sets in left_order[lo..hi] begin with the path, and work[from..to] lists the candidates
 -- after it
@@ -53,10 +53,10 @@ pub record Going (lay : Layout) (st : WalkSettings) (q : Query) (path w : List �
   pub on : goes q path ≡ true
   pub upto : lo ≤ hi
   pub few : hi ≤ length q.lefts
-  pub begins : all (λ k. prefix path (left_at q k)) (leftsIn lay w lo hi) ≡ true
+  pub begins : all (λ k. prefix path (left_at q k)) (lefts_in lay w lo hi) ≡ true
   pub rise : from ≤ to
   pub below : to ≤ lay.row_starts
-  pub holds : slice from to w ≡ candidateList q path d
+  pub holds : slice from to w ≡ candidate_list q path d
 
 -- and the path is as long as the limit
 pub record AtLimit (lay : Layout) (st : WalkSettings) (q : Query) (path w : List ℕ) (d lo hi from to : ℕ) (p : Progress) : Type 0 where

@@ -5,33 +5,33 @@ use mathlib.Core.List.{List, [], ◌∷◌, ◌++◌}
 use mathlib.Core.Bool.{Bool, true, false}
 use lib.ListN.{length}
 use Rattle.lists.specs.Lists.{onto, keep, slice}
-use Rattle.lists.proofs.Slices.{slice-next, slice-past}
-use Rattle.join_spec.specs.PairList.{ontoPair}
+use Rattle.lists.proofs.Slices.{slice_next, slice_past}
+use Rattle.join_spec.specs.PairList.{onto_pair}
 use Rattle.words.specs.Words.{Word}
-use Rattle.join_pairs.specs.row_pairs.Containing.{pairsWith}
+use Rattle.join_pairs.specs.row_pairs.Containing.{pairs_with}
 
 -- one place after the other
 pub row_next : (p : ℕ → Bool) (k s : ℕ) (places : List ℕ)
-    → pairsWith k (keep p (s ∷ places)) ≡ ontoPair (p s) k s [] ++ pairsWith k (keep p places)
-unfolding pairsWith keep
+    → pairs_with k (keep p (s ∷ places)) ≡ onto_pair (p s) k s [] ++ pairs_with k (keep p places)
+unfolding pairs_with keep
 row_next p k s places = made (p s)
   where
-    made : (b : Bool) → pairsWith k (onto b s (keep p places)) ≡ ontoPair b k s [] ++ pairsWith k (keep p places)
+    made : (b : Bool) → pairs_with k (onto b s (keep p places)) ≡ onto_pair b k s [] ++ pairs_with k (keep p places)
     made true = refl
     made false = refl
 
-pub row-none : (p : ℕ → Bool) (k : ℕ) → pairsWith k (keep p []) ≡ []
-unfolding pairsWith keep
-row-none p k = refl
+pub row_none : (p : ℕ → Bool) (k : ℕ) → pairs_with k (keep p []) ≡ []
+unfolding pairs_with keep
+row_none p k = refl
 
 -- the places of a part of the work list
 pub kept_next : {w : List ℕ} {i s : ℕ} (k : ℕ) → Word w i s → {to : ℕ} → i < to → to ≤ length w
-    → pairsWith k (slice i to w) ≡ ontoPair true k s [] ++ pairsWith k (slice (i + 1) to w)
-unfolding pairsWith
+    → pairs_with k (slice i to w) ≡ onto_pair true k s [] ++ pairs_with k (slice (i + 1) to w)
+unfolding pairs_with
 kept_next {w} {i} {s} k word {to} more within =
-    ap (pairsWith k) (slice-next i to w more within)
-    ∙ ap (λ (x : ℕ). k ∷ x ∷ pairsWith k (slice (i + 1) to w)) (sym word.is)
+    ap (pairs_with k) (slice_next i to w more within)
+    ∙ ap (λ (x : ℕ). k ∷ x ∷ pairs_with k (slice (i + 1) to w)) (sym word.is)
 
-pub kept-none : (k : ℕ) (w : List ℕ) (i to : ℕ) → to ≤ i → pairsWith k (slice i to w) ≡ []
-unfolding pairsWith
-kept-none k w i to past = ap (pairsWith k) (slice-past i to w past)
+pub kept_none : (k : ℕ) (w : List ℕ) (i to : ℕ) → to ≤ i → pairs_with k (slice i to w) ≡ []
+unfolding pairs_with
+kept_none k w i to past = ap (pairs_with k) (slice_past i to w past)

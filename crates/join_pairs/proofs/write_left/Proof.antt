@@ -1,7 +1,7 @@
 -- `join_pairs::write_left` meets its contract: a row that is kept has all right sets that contain the left set.
 use native.Mathlib.Omega.{arith}
-use Rattle.lists.proofs.Slices.{changed-none}
-use Rattle.join_pairs.proofs.Copying.{row_words, kept-room, kept_put}
+use Rattle.lists.proofs.Slices.{changed_none}
+use Rattle.join_pairs.proofs.Copying.{row_words, kept_room, kept_put}
 use borrow.Author.Rules.{rules}
 use Rattle.join_pairs.proofs.write_left.Statement.{statement}
 use Rattle.join_pairs.proofs.write_left.Tie as tie
@@ -29,7 +29,7 @@ write-kept-requires c κs =
     let second = c.before.before in
     let test = second.before.before in
     let there = test.before.before.before.before.before.before.requires.0.holds in
-    kept-room there test.before.word_at.ensures second.word-at2.ensures (omega (arith, test.if1.false))
+    kept_room there test.before.word_at.ensures second.word-at2.ensures (omega (arith, test.if1.false))
 
 returns-2 : tie.Need-returns-2
 returns-2 c =
@@ -39,7 +39,7 @@ returns-2 c =
     let start = test.before.before.before.before.before.before in
     let a = start.args in (
       record {
-        changed = changed-none a.lay.slots a.lay.row_starts a.work.now;
+        changed = changed_none a.lay.slots a.lay.row_starts a.work.now;
         wrote = λ q there.
             kept_put there test.before.word_at.ensures second.word-at2.ensures (omega (arith, test.if1.false))
             wrote.write-Kept.ensures;

@@ -6,20 +6,20 @@ use mathlib.Core.List.{List, ◌++◌}
 use native.Mathlib.Omega.{arith}
 use lib.ListN.{length, drop}
 use Rattle.lists.specs.Parts.{Changed}
-use Rattle.lists.proofs.Slices.{changed-none}
-use Rattle.lists.proofs.Writing.{Writing, writing_start, writing_step, writing-end, writing-room, written-whole}
+use Rattle.lists.proofs.Slices.{changed_none}
+use Rattle.lists.proofs.Writing.{Writing, writing_start, writing_step, writing_end, writing-room, written-whole}
 use Rattle.join_spec.specs.Query.{Query}
 use Rattle.sets.specs.Collections.{contained}
-use Rattle.join_spec.specs.PairList.{pairsFrom, pairList}
-use Rattle.join_spec.proofs.PairListLaws.{length-pairList}
+use Rattle.join_spec.specs.PairList.{pairs_from, pair_list}
+use Rattle.join_spec.proofs.PairListLaws.{length-pair_list}
 use Rattle.join_index.specs.declared.Layout.{Layout}
 use Rattle.words.specs.flags.Flags.{Clear}
-use Rattle.join_index.proofs.Reading.{index-frame}
-use Rattle.kept_rows.proofs.RowLaws.{rows-framed}
+use Rattle.join_index.proofs.Reading.{index_frame}
+use Rattle.kept_rows.proofs.RowLaws.{rows_framed}
 use Rattle.join_pairs.proofs.shortlists.Meeting.{changed_then}
 use Rattle.join_pairs.specs.left_search.LeftRows.{row_at, LeftRoom, LeftWritten}
 use Rattle.join_pairs.specs.Writing.{PairsRoom}
-use Rattle.join_pairs.proofs.PairRows.{pairs_next, pairs-none}
+use Rattle.join_pairs.proofs.PairRows.{pairs_next, pairs_none}
 use Rattle.join_pairs.proofs.write_pairs.Statement.{statement}
 use Rattle.join_pairs.proofs.write_pairs.Tie as tie
 
@@ -27,11 +27,11 @@ record PairsWriting (lay : Layout) (w : List ℕ) (lefts : ℕ) (was v pairs : L
   changed : Changed lay.slots lay.row_starts w v
   written :
       (q : Query) → PairsRoom lay q w lefts was
-      → Writing was 0 (pairList q.lefts q.rights) pairs n (pairsFrom contained k (drop k q.lefts) q.rights)
+      → Writing was 0 (pair_list q.lefts q.rights) pairs n (pairs_from contained k (drop k q.lefts) q.rights)
 
 list-room : {lay : Layout} {q : Query} {w : List ℕ} {lefts : ℕ} {was : List ℕ} → PairsRoom lay q w lefts was
-    → length (pairList q.lefts q.rights) ≤ length was
-list-room {lay} {q} there = omega (arith, there.room, length-pairList q.lefts q.rights)
+    → length (pair_list q.lefts q.rights) ≤ length was
+list-room {lay} {q} there = omega (arith, there.room, length-pair_list q.lefts q.rights)
 
 module _ {lay : Layout} {w : List ℕ} {lefts : ℕ} {was v pairs : List ℕ} {n k : ℕ}
     (writing : PairsWriting lay w lefts was v pairs n k)
@@ -41,14 +41,14 @@ module _ {lay : Layout} {w : List ℕ} {lefts : ℕ} {was v pairs : List ℕ} {n
         record {
           left =
               record {
-                index = index-frame writing.changed.low writing.changed.size there.index;
-                below = omega (arith, there.leftCount);
+                index = index_frame writing.changed.low writing.changed.size there.index;
+                below = omega (arith, there.left_count);
               };
           top = there.top;
-          rows = rows-framed there.index.ground writing.changed.high there.rows;
+          rows = rows_framed there.index.ground writing.changed.high there.rows;
           room =
-              writing-room (writing.written q there) (row_at q k) (pairsFrom contained (k + 1) (drop (k + 1) q.lefts) q.rights)
-              (pairs_next q k (omega (arith, there.leftCount)));
+              writing-room (writing.written q there) (row_at q k) (pairs_from contained (k + 1) (drop (k + 1) q.lefts) q.rights)
+              (pairs_next q k (omega (arith, there.left_count)));
         }
 
     pairs-step : k < lefts → {u out : List ℕ} {r : ℕ} → LeftWritten lay v k n pairs u out r
@@ -57,14 +57,14 @@ module _ {lay : Layout} {w : List ℕ} {lefts : ℕ} {was v pairs : List ℕ} {n
         record {
           changed = changed_then writing.changed wrote.changed;
           written = λ q there.
-              writing_step (writing.written q there) (pairs_next q k (omega (arith, there.leftCount)))
+              writing_step (writing.written q there) (pairs_next q k (omega (arith, there.left_count)))
               (wrote.wrote q (left-room more there));
         }
 
     pairs_end : lefts ≤ k → (q : Query) → PairsRoom lay q w lefts was
-        → pairs ≡ pairList q.lefts q.rights ++ drop (length (pairList q.lefts q.rights)) was
+        → pairs ≡ pair_list q.lefts q.rights ++ drop (length (pair_list q.lefts q.rights)) was
     pairs_end past q there =
-        written-whole (writing-end (writing.written q there) (pairs-none q k (omega (arith, there.leftCount)))) (list-room there)
+        written-whole (writing_end (writing.written q there) (pairs_none q k (omega (arith, there.left_count)))) (list-room there)
 
 abbrev invariant-loop : tie.invariant-loop
 invariant-loop work₀ flags₀ lay lefts pairs₀ n₀ k₀ work flags pairs n k = PairsWriting lay work₀ lefts pairs₀ work pairs n k × Clear flags
@@ -77,8 +77,8 @@ loop-holds c =
     let start = c.before.before.before in
     let a = start.args in (
       record {
-        changed = changed-none a.lay.slots a.lay.row_starts a.work.now;
-        written = λ q there. writing_start a.pairs.now 0 (pairList q.lefts q.rights)
+        changed = changed_none a.lay.slots a.lay.row_starts a.work.now;
+        written = λ q there. writing_start a.pairs.now 0 (pair_list q.lefts q.rights)
             (omega (arith, list-room there));
       },
       start.requires.1,

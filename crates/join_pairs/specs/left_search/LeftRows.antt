@@ -4,14 +4,14 @@ use Rattle.lists.specs.Parts.{Changed}
 use Rattle.lists.specs.Writing.{Put}
 use Rattle.sets.specs.Collections.{contained}
 use Rattle.join_spec.specs.Query.{Query}
-use Rattle.join_spec.specs.PairList.{rowFrom}
+use Rattle.join_spec.specs.PairList.{row_from}
 use Rattle.join_index.specs.declared.Layout.{Layout}
 use Rattle.join_index.specs.Asking.{LeftThere}
 use Rattle.kept_rows.specs.Kept.{RowsKept}
 
 -- the pairs of the left set k with all right sets that contain it: its part of the pair list
 abbrev pub row_at : Query → ℕ → List ℕ
-row_at q k = rowFrom (contained (get_or q.lefts k [])) k 0 q.rights
+row_at q k = row_from (contained (get_or q.lefts k [])) k 0 q.rights
 
 -- rows are kept, and there is room for the pairs of the left set k
 pub record LeftRoom (lay : Layout) (q : Query) (w : List ℕ) (k at : ℕ) (pairs : List ℕ) : Type 0 where

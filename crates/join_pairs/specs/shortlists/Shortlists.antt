@@ -4,7 +4,7 @@ use Rattle.std.specs.Prelude.{ℕ, ◌+◌, ◌≤◌, ◌<◌, ◌≡◌, List,
 use Rattle.lists.specs.Lists.{all, keep, memb, subset, rising, slice, upto}
 use Rattle.lists.specs.Parts.{Changed}
 use Rattle.join_spec.specs.Query.{Query}
-use Rattle.join_index.specs.Grouping.{rightAt}
+use Rattle.join_index.specs.Grouping.{right_at}
 use Rattle.join_index.specs.declared.Layout.{Layout}
 use Rattle.join_index.specs.Asking.{Index, RankThere, PlacesThere}
 use Rattle.join_pairs.specs.declared.shortlists.Span.{Span}
@@ -21,7 +21,7 @@ pub record SpanThere (lay : Layout) (q : Query) (w : List ℕ) (r pivot from to 
   pub places : PlacesThere lay q w from to
   pub order : from ≤ to
   pub rise : rising (slice from to w) ≡ true
-  pub holding : all (λ s. memb pivot (rightAt q s)) (slice from to w) ≡ true
+  pub holding : all (λ s. memb pivot (right_at q s)) (slice from to w) ≡ true
   pub high : to ≤ lay.slots + get_or w (lay.offsets + r) 0
 
 -- w became w': the span has those of the places whose right sets hold the rank; it ends with the slot at the latest
@@ -31,7 +31,7 @@ pub record RankMet (lay : Layout) (w : List ℕ) (r pivot from to : ℕ) (w' : L
   pub high : s.to ≤ lay.slots + get_or w (lay.offsets + r + 1) 0
   pub is :
       (q : Query) → SpanThere lay q w r pivot from to
-      → slice s.from s.to w' ≡ keep (λ x. memb r (rightAt q x)) (slice from to w)
+      → slice s.from s.to w' ≡ keep (λ x. memb r (right_at q x)) (slice from to w)
 
 -- work[from..to] are ranks, and not none
 pub record RanksThere (lay : Layout) (q : Query) (w : List ℕ) (from to : ℕ) : Type 0 where
@@ -52,11 +52,11 @@ pub record FindThere (lay : Layout) (q : Query) (w : List ℕ) (from to pivot : 
 pub record ShortlistOf (lay : Layout) (q : Query) (w : List ℕ) (from to : ℕ) (w' : List ℕ) (c : Shortlist) : Type 0 where
   pub places : PlacesThere lay q w' c.from c.to
   pub complete :
-      keep (λ s. subset (slice from to w) (rightAt q s)) (slice c.from c.to w')
-      ≡ keep (λ s. subset (slice from to w) (rightAt q s)) (upto (length q.rights))
+      keep (λ s. subset (slice from to w) (right_at q s)) (slice c.from c.to w')
+      ≡ keep (λ s. subset (slice from to w) (right_at q s)) (upto (length q.rights))
   pub decides :
       (s : ℕ) → memb s (slice c.from c.to w') ≡ true
-      → subset (slice c.rest to w) (rightAt q s) ≡ subset (slice from to w) (rightAt q s)
+      → subset (slice c.rest to w) (right_at q s) ≡ subset (slice from to w) (right_at q s)
 
 -- and so for every query, with all words but the slots as they were
 pub record Shortlisted (lay : Layout) (w : List ℕ) (from to pivot : ℕ) (w' : List ℕ) (c : Shortlist) : Type 0 where

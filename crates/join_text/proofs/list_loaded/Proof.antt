@@ -5,9 +5,9 @@ use Prim.Native.Nat.{ℕ}
 use mathlib.Core.List.{List}
 use native.Mathlib.Omega.{arith}
 use Rattle.inputs.specs.Input.{Input, input_of}
-use Rattle.join_text.specs.JoinText.{settingsUnder, joinText}
-use Rattle.join_text.proofs.Texts.{put-fills, fills_same}
-use Rattle.join_text.proofs.OrderTexts.{ordered-ranks, refused-order}
+use Rattle.join_text.specs.JoinText.{settings_under, join_text}
+use Rattle.join_text.proofs.Texts.{put_fills, fills_same}
+use Rattle.join_text.proofs.OrderTexts.{ordered_ranks, refused_order}
 use borrow.Author.Rules.{rules}
 use Rattle.join_text.proofs.list_loaded.Statement.{statement}
 use Rattle.join_text.proofs.list_loaded.Tie as tie
@@ -26,8 +26,8 @@ returns c =
     let p = c.before.before.before.before.before.before.before.before.before in
     let a = (start p).args in
     fills_same
-    (ap (λ (ranks : List ℕ). joinText a.repeats a.left-numbers.now a.right-numbers.now (input p) (settingsUnder ranks))
-    (ordered-ranks (input p) p.order.ensures c.before.before.before.before.before.enum_told.given.1))
+    (ap (λ (ranks : List ℕ). join_text a.repeats a.left-numbers.now a.right-numbers.now (input p) (settings_under ranks))
+    (ordered_ranks (input p) p.order.ensures c.before.before.before.before.before.enum_told.given.1))
     c.before.before.list-ordered.ensures
 
 returns-2 : tie.Need-returns-2
@@ -36,9 +36,9 @@ returns-2 c =
     let a = (start p).args in
     let line = c.before.before.put-refusal in
     fills_same
-    (refused-order (input p) p.order.ensures c.before.before.before.before.before.answer.given.1 (start p).requires.1
+    (refused_order (input p) p.order.ensures c.before.before.before.before.before.answer.given.1 (start p).requires.1
     a.repeats a.left-numbers.now a.right-numbers.now)
-    (put-fills line.ensures.0 (omega (arith, line.ensures.1, (start p).requires.0.room)))
+    (put_fills line.ensures.0 (omega (arith, line.ensures.1, (start p).requires.0.room)))
 
 pub list-loaded-spec : {M : Type 1} → statement M
 list-loaded-spec =

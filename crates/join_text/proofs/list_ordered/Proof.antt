@@ -2,9 +2,9 @@
 use Rattle.inputs.specs.Input.{Input, input_of}
 use Rattle.join_spec.specs.Query.{Settings}
 use Rattle.join_spec.specs.Answer.{RunCall}
-use Rattle.join_text.specs.JoinText.{settingsUnder}
-use Rattle.join_text.proofs.Texts.{put-fills, fills_same}
-use Rattle.join_text.proofs.JoinTexts.{call-text, answer-fits}
+use Rattle.join_text.specs.JoinText.{settings_under}
+use Rattle.join_text.proofs.Texts.{put_fills, fills_same}
+use Rattle.join_text.proofs.JoinTexts.{call_text, answer-fits}
 use borrow.Author.Rules.{rules}
 use Rattle.join_text.proofs.list_ordered.Statement.{statement}
 use Rattle.join_text.proofs.list_ordered.Tie as tie
@@ -19,7 +19,7 @@ input p =
     input_of a.t a.left-ends.now a.left-items.now a.right-ends.now a.right-items.now
 
 abbrev asked : tie.After-run → Settings
-asked p = settingsUnder (start p).args.ranks.now
+asked p = settings_under (start p).args.ranks.now
 
 ran : (p : tie.After-run)
     → RunCall (input p) (asked p) p.before.before.before.before.new-work.result p.before.before.before.new-pairs.result
@@ -39,9 +39,9 @@ returns c =
     let text = c.before.before.put-answer in
     let p = c.before.before.before.before.before.before.before in
     let a = (start p).args in
-    fills_same (call-text (input p) (asked p) a.repeats a.left-numbers.now a.right-numbers.now (ran p)
+    fills_same (call_text (input p) (asked p) a.repeats a.left-numbers.now a.right-numbers.now (ran p)
     p.before.before.before.new-pairs.ensures p.before.before.before.before.new-work.ensures)
-    (put-fills text.ensures.0 text.ensures.1)
+    (put_fills text.ensures.0 text.ensures.1)
 
 pub list-ordered-spec : {M : Type 1} → statement M
 list-ordered-spec =

@@ -12,11 +12,11 @@ use lib.Seq.{get_or_at}
 use Rattle.lists.specs.Lists.{keep}
 use Rattle.join_spec.specs.Query.{Query}
 use Rattle.join_spec.specs.Node.{last_of}
-use Rattle.counting_sort.specs.Groups.{groupsFrom}
-use Rattle.join_index.specs.Grouping.{key_at, orderFrom}
+use Rattle.counting_sort.specs.Groups.{groups_from}
+use Rattle.join_index.specs.Grouping.{key_at, order_from}
 use Rattle.join_index.specs.declared.Layout.{Layout}
 use Rattle.join_index.specs.Asking.{RangeThere}
-use Rattle.join_index.specs.Ranges.{leftIn, RangeEnd}
+use Rattle.join_index.specs.Ranges.{left_in, RangeEnd}
 use Rattle.join_check.specs.declared.Tally.{Tally}
 use Rattle.join_nodes.specs.Visiting.{Underway, Children, beginners}
 use Rattle.join_nodes.specs.Visiting.{RangeVisited}
@@ -26,21 +26,21 @@ use Rattle.join_nodes.specs.declared.Walked.{Walked}
 use Rattle.join_nodes.proofs.Groups.{FirstGroup}
 use Rattle.join_nodes.proofs.Prefixes.{keep-further}
 use Rattle.join_nodes.proofs.RangeLaws.{Cut}
-use Rattle.join_nodes.proofs.VisitLaws.{underway-next}
-use Rattle.join_nodes.proofs.FrameLaws.{index-framed, range-framed}
-use Rattle.join_nodes.proofs.blocks.GroupSteps.{group-first, group-cut}
+use Rattle.join_nodes.proofs.VisitLaws.{underway_next}
+use Rattle.join_nodes.proofs.FrameLaws.{index_framed, range_framed}
+use Rattle.join_nodes.proofs.blocks.GroupSteps.{group_first, group_cut}
 use Rattle.join_walk.specs.visit.Child.{Child}
 
 -- the last rank of a longer path is the one put behind it
-pub last-longer : (path : List ℕ) (r : ℕ) → last_of (path ++ (r ∷ [])) ≡ r
-last-longer path r =
+pub last_longer : (path : List ℕ) (r : ℕ) → last_of (path ++ (r ∷ [])) ≡ r
+last_longer path r =
     let end : length (path ++ (r ∷ [])) - 1 ≡ length path = omega (arith, length-append path (r ∷ [])) in
     ap (λ (n : ℕ). get_or (path ++ (r ∷ [])) n 0) end ∙ get_or_at path r [] 0 (length path) refl
 
 -- fewer left sets need less room
-pub underway-less : {st : WalkSettings} {q : Query} {tally : Tally} {n : ℕ} (m : ℕ) → m ≤ n → Underway st q tally n
+pub underway_less : {st : WalkSettings} {q : Query} {tally : Tally} {n : ℕ} (m : ℕ) → m ≤ n → Underway st q tally n
     → Underway st q tally m
-underway-less {st} {q} {tally} {n} m less before =
+underway_less {st} {q} {tally} {n} m less before =
     record {
       limit = before.limit;
       shallow = before.shallow;
@@ -55,59 +55,59 @@ module _ {lay : Layout} {st : WalkSettings} {q : Query} {path w : List ℕ} {d i
   rest = beginners q path (suc d)
 
   abbrev key : ℕ
-  key = key_at q d (leftIn lay w i)
+  key = key_at q d (left_in lay w i)
 
-  pub kids-range : RangeThere lay q w i hi
-  kids-range = record { index = kids.index; some = more; within = kids.few }
+  pub kids_range : RangeThere lay q w i hi
+  kids_range = record { index = kids.index; some = more; within = kids.few }
 
-  first : FirstGroup (key_at q d) kids.least kids.span rest (leftIn lay w i)
-  first = group-first d kids.least kids.span rest kids-range kids.lefts
+  first : FirstGroup (key_at q d) kids.least kids.span rest (left_in lay w i)
+  first = group_first d kids.least kids.span rest kids_range kids.lefts
 
   -- the child's own rank, and its path
-  abbrev pub childRank : ℕ
-  childRank = key - 1
+  abbrev pub child_rank : ℕ
+  child_rank = key - 1
 
-  abbrev pub childPath : List ℕ
-  childPath = path ++ (childRank ∷ [])
+  abbrev pub child_path : List ℕ
+  child_path = path ++ (child_rank ∷ [])
 
-  key-is : key ≡ suc childRank
-  key-is = omega (arith, first.low, kids.further)
+  key_is : key ≡ suc child_rank
+  key_is = omega (arith, first.low, kids.further)
 
-  rank-low : childRank < q.T
-  rank-low = omega (arith, first.high, kids.keys, key-is)
+  rank_low : child_rank < q.T
+  rank_low = omega (arith, first.high, kids.keys, key_is)
 
   module _ {j : ℕ} (end : RangeEnd lay w d i hi j) where
     parted : Cut lay w i j hi (keep (λ k. eqb (key_at q d k) key) rest)
-        (groupsFrom (key_at q d) (suc key) (kids.least + kids.span - suc key) rest)
-    parted = group-cut d kids.least kids.span rest kids-range kids.lefts end
+        (groups_from (key_at q d) (suc key) (kids.least + kids.span - suc key) rest)
+    parted = group_cut d kids.least kids.span rest kids_range kids.lefts end
 
     -- the first child
-    pub first-child : Child lay st q childPath w (suc d) i j p
-    first-child =
+    pub first_child : Child lay st q child_path w (suc d) i j p
+    first_child =
         record {
           index = kids.index;
-          underway = underway-less (j - i) (omega (arith, end.within)) kids.underway;
+          underway = underway_less (j - i) (omega (arith, end.within)) kids.underway;
           rows = kids.rows;
-          depth = omega (arith, length-append path (childRank ∷ []), kids.depth);
+          depth = omega (arith, length-append path (child_rank ∷ []), kids.depth);
           within = kids.within;
-          last = rw (last-longer path childRank) rank-low;
+          last = rw (last_longer path child_rank) rank_low;
           some = end.more;
           few = omega (arith, end.within, kids.few);
           lefts =
               parted.front
-              ∙ subst (λ (y : ℕ). keep (λ k. eqb (key_at q d k) key) rest ≡ keep (λ k. eqb (key_at q d k) y) rest) key-is refl
-              ∙ subst (λ (e : ℕ). keep (λ k. eqb (key_at q e k) (suc childRank)) rest ≡ beginners q childPath (suc d))
-              kids.depth (keep-further q path childRank (orderFrom q (q.limit - suc d) (suc d)));
+              ∙ subst (λ (y : ℕ). keep (λ k. eqb (key_at q d k) key) rest ≡ keep (λ k. eqb (key_at q d k) y) rest) key_is refl
+              ∙ subst (λ (e : ℕ). keep (λ k. eqb (key_at q e k) (suc child_rank)) rest ≡ beginners q child_path (suc d))
+              kids.depth (keep-further q path child_rank (order_from q (q.limit - suc d) (suc d)));
         }
 
     -- the children after it
-    pub kids-next : {w' : List ℕ} {slot : ℕ} {one : Walked} → lay.slots ≤ slot
+    pub kids_next : {w' : List ℕ} {slot : ℕ} {one : Walked} → lay.slots ≤ slot
         → RangeVisited lay q st.budget slot (suc d) w w' i j p.tally one → one.spent ≡ false
         → Children lay st q path w' d j hi one.at
-    kids-next low visit calm =
+    kids_next low visit calm =
         record {
-          index = index-framed kids.index visit.framed low;
-          underway = underway-next kids.underway (visit.visited.added calm)
+          index = index_framed kids.index visit.framed low;
+          underway = underway_next kids.underway (visit.visited.added calm)
               (omega (arith, ap length parted.front, parted.size, end.more, end.within)) (visit.visited.within calm);
           rows = visit.rows calm;
           depth = kids.depth;
@@ -118,5 +118,5 @@ module _ {lay : Layout} {st : WalkSettings} {q : Query} {path w : List ℕ} {d i
           span = kids.least + kids.span - suc key;
           keys = omega (arith, kids.keys, first.high);
           further = omega arith;
-          lefts = range-framed kids.index visit.framed low j hi kids.few ∙ parted.back;
+          lefts = range_framed kids.index visit.framed low j hi kids.few ∙ parted.back;
         }

@@ -14,13 +14,13 @@ use Rattle.join_nodes.specs.Visiting.{Node, ChildrenAt, NodeVisited, ChildrenVis
 use Rattle.join_nodes.specs.declared.Progress.{Progress}
 use Rattle.join_nodes.specs.declared.WalkSettings.{WalkSettings}
 use Rattle.join_nodes.specs.declared.Walked.{Walked}
-use Rattle.join_nodes.proofs.PartLoop.{continuing-start, continuing-end}
+use Rattle.join_nodes.proofs.PartLoop.{continuing_start, continuing_end}
 use Rattle.join_nodes.specs.enter.Entering.{NodeEntered}
 use Rattle.join_nodes.specs.declared.enter.Entered.{Entered}
 use Rattle.join_walk.specs.heaviest.Heaviest.{RangeChosen}
 use Rattle.join_check.specs.declared.keys.Span.{Span}
-use Rattle.join_walk.proofs.visit.HeavyChild.{kids-below, below-spent, kids-above, above-spent, none-chosen}
-use Rattle.join_walk.proofs.visit.HeavyChild.{chosenPath, chosen-node, chosen-visited}
+use Rattle.join_walk.proofs.visit.HeavyChild.{kids_below, below_spent, kids_above, above_spent, none_chosen}
+use Rattle.join_walk.proofs.visit.HeavyChild.{chosen_path, chosen_node, chosen_visited}
 
 module _ (lay : Layout) (st : WalkSettings) where
   -- the node that is left, and what its visit is of
@@ -44,8 +44,8 @@ module _ (lay : Layout) (st : WalkSettings) where
         hi ≤ lo → (q : Query) (path : List ℕ) → Node lay st q path w₀ d₀ lo₀ hi₀ from₀ to₀ p₀
         → NodeVisited lay st q path w₀ w d₀ lo₀ hi₀ p₀.tally (record { at = p; spent = false })
 
-  pub descending-start : (w : List ℕ) (d lo hi from to : ℕ) (p : Progress) → Descending w d lo hi from to p w d lo hi from to p
-  descending-start w d lo hi from to p =
+  pub descending_start : (w : List ℕ) (d lo hi from to : ℕ) (p : Progress) → Descending w d lo hi from to p w d lo hi from to p
+  descending_start w d lo hi from to p =
       record {
         size = refl;
         deeper = omega arith;
@@ -57,28 +57,28 @@ module _ {lay : Layout} {st : WalkSettings} {w₀ : List ℕ} {d₀ lo₀ hi₀ 
     {d lo hi from to : ℕ} {p : Progress} (so : Descending lay st w₀ d₀ lo₀ hi₀ from₀ to₀ p₀ w d lo hi from to p)
     (more : lo < hi) where
   -- there is a query and a path of the node that is left
-  pub node-left : SomePath (λ q path. Node lay st q path w₀ d₀ lo₀ hi₀ from₀ to₀ p₀)
+  pub node_left : SomePath (λ q path. Node lay st q path w₀ d₀ lo₀ hi₀ from₀ to₀ p₀)
       → SomePath (λ q path. Node lay st q path w d lo hi from to p)
-  node-left some =
+  node_left some =
       let left = so.further more some.query some.path some.holds in
       record { query = some.query; path = left.path; holds = left.node }
 
   -- it was visited
-  pub descending-end : {w' : List ℕ} {one : Walked}
+  pub descending_end : {w' : List ℕ} {one : Walked}
       → ((q : Query) (path : List ℕ) → Node lay st q path w d lo hi from to p
       → NodeVisited lay st q path w w' d lo hi p.tally one)
       → (q : Query) (path : List ℕ) → Node lay st q path w₀ d₀ lo₀ hi₀ from₀ to₀ p₀
       → NodeVisited lay st q path w₀ w' d₀ lo₀ hi₀ p₀.tally one
-  descending-end {w'} {one} each q path node =
+  descending_end {w'} {one} each q path node =
       let left = so.further more q path node in left.whole w' one (each q left.path left.node)
 
 -- no children: they were visited, and nothing has changed
-none-visited : {lay : Layout} {st : WalkSettings} {w : List ℕ} {d lo hi from to : ℕ} {p : Progress} → hi ≤ lo → (q : Query)
+none_visited : {lay : Layout} {st : WalkSettings} {w : List ℕ} {d lo hi from to : ℕ} {p : Progress} → hi ≤ lo → (q : Query)
     (path : List ℕ) → ChildrenAt lay st q path w d lo hi from to p
     → ChildrenVisited lay st q path w w d lo hi p.tally (record { at = p; spent = false })
-none-visited {lay} {st} {w} {d} {lo} {hi} {from} {to} {p} none q path at =
-    continuing-end
-    (continuing-start lay st.budget (suc d) hi (λ path w. slot_of lay w (suc (last_of path)))
+none_visited {lay} {st} {w} {d} {lo} {hi} {from} {to} {p} none q path at =
+    continuing_end
+    (continuing_start lay st.budget (suc d) hi (λ path w. slot_of lay w (suc (last_of path)))
     (λ q path w i r. ChildrenAt lay st q path w d i hi from to r)
     (record { query = q; path = path; holds = at }))
     none at.kids.underway.budget (λ q path at. at.kids.rows) q path at
@@ -95,26 +95,26 @@ module _ {lay : Layout} {st : WalkSettings} {w : List ℕ} {d lo hi from to : �
         → ChildrenAt lay st q path v d on.mid hi on.«from» on.to on.at
     kids q path node = (entered q path node).kids left
 
-    pub ask-below : (q : Query) (path : List ℕ) → Here q path
+    pub ask_below : (q : Query) (path : List ℕ) → Here q path
         → ChildrenAt lay st q path v d on.mid r.lo on.«from» on.to on.at
-    ask-below q path node = kids-below (kids q path node) left chosen
+    ask_below q path node = kids_below (kids q path node) left chosen
 
     module _ {u : List ℕ} {one : Walked}
         (first : (q : Query) (path : List ℕ)
         → ChildrenAt lay st q path v d on.mid r.lo on.«from» on.to on.at
         → ChildrenVisited lay st q path v u d on.mid r.lo on.at.tally one) where
       below : (q : Query) (path : List ℕ) → Here q path → ChildrenVisited lay st q path v u d on.mid r.lo on.at.tally one
-      below q path node = first q path (ask-below q path node)
+      below q path node = first q path (ask_below q path node)
 
-      pub spent-below : one.spent ≡ true → (q : Query) (path : List ℕ) → Here q path
+      pub spent_below : one.spent ≡ true → (q : Query) (path : List ℕ) → Here q path
           → NodeVisited lay st q path w u d lo hi p.tally one
-      spent-below spent q path node =
-          (entered q path node).rest left u one (below-spent (kids q path node) left chosen (below q path node) spent)
+      spent_below spent q path node =
+          (entered q path node).rest left u one (below_spent (kids q path node) left chosen (below q path node) spent)
 
       module _ (calm : one.spent ≡ false) where
-        pub ask-above : (q : Query) (path : List ℕ) → Here q path
+        pub ask_above : (q : Query) (path : List ℕ) → Here q path
             → ChildrenAt lay st q path u d r.hi hi on.«from» on.to one.at
-        ask-above q path node = kids-above (kids q path node) left chosen (below q path node) calm
+        ask_above q path node = kids_above (kids q path node) left chosen (below q path node) calm
 
         module _ {x : List ℕ} {two : Walked}
             (second : (q : Query) (path : List ℕ)
@@ -122,19 +122,19 @@ module _ {lay : Layout} {st : WalkSettings} {w : List ℕ} {d lo hi from to : �
             → ChildrenVisited lay st q path u x d r.hi hi one.at.tally two) where
           above : (q : Query) (path : List ℕ) → Here q path
               → ChildrenVisited lay st q path u x d r.hi hi one.at.tally two
-          above q path node = second q path (ask-above q path node)
+          above q path node = second q path (ask_above q path node)
 
-          pub spent-above : two.spent ≡ true → (q : Query) (path : List ℕ) → Here q path
+          pub spent_above : two.spent ≡ true → (q : Query) (path : List ℕ) → Here q path
               → NodeVisited lay st q path w x d lo hi p.tally two
-          spent-above spent q path node =
+          spent_above spent q path node =
               (entered q path node).rest left x two
-              (above-spent (kids q path node) left chosen (below q path node) calm (above q path node) spent)
+              (above_spent (kids q path node) left chosen (below q path node) calm (above q path node) spent)
 
           -- the chosen child is left
-          pub descending-step : {w₀ : List ℕ} {d₀ lo₀ hi₀ from₀ to₀ : ℕ} {p₀ : Progress} → two.spent ≡ false → lo < hi
+          pub descending_step : {w₀ : List ℕ} {d₀ lo₀ hi₀ from₀ to₀ : ℕ} {p₀ : Progress} → two.spent ≡ false → lo < hi
               → Descending lay st w₀ d₀ lo₀ hi₀ from₀ to₀ p₀ w d lo hi from to p → length x ≡ length w
               → Descending lay st w₀ d₀ lo₀ hi₀ from₀ to₀ p₀ x (d + 1) r.lo r.hi on.«from» on.to two.at
-          descending-step quiet some so same =
+          descending_step quiet some so same =
               record {
                 size = same ∙ so.size;
                 deeper = omega (arith, so.deeper);
@@ -144,25 +144,25 @@ module _ {lay : Layout} {st : WalkSettings} {w : List ℕ} {d lo hi from to : �
                     let low = below q f.path f.node in
                     let high = above q f.path f.node in
                     record {
-                      path = chosenPath at left chosen low calm high quiet more;
-                      node = chosen-node at left chosen low calm high quiet more;
+                      path = chosen_path at left chosen low calm high quiet more;
+                      node = chosen_node at left chosen low calm high quiet more;
                       whole = λ w' three done.
                           f.whole w' three
                           ((entered q f.path f.node).rest left w' three
-                          (chosen-visited at left chosen low calm high quiet more done));
+                          (chosen_visited at left chosen low calm high quiet more done));
                     };
                 done = λ none q path₀ node₀.
                     let f = so.further some q path₀ node₀ in
                     f.whole x (record { at = two.at; spent = false })
                     ((entered q f.path f.node).rest left x (record { at = two.at; spent = false })
-                    (none-chosen (kids q f.path f.node) left chosen (below q f.path f.node) calm
+                    (none_chosen (kids q f.path f.node) left chosen (below q f.path f.node) calm
                     (above q f.path f.node) quiet none));
               }
 
     -- the chosen child is left and was the only one: the others, of which there are none, were visited
-    pub descending-only : {w₀ : List ℕ} {d₀ lo₀ hi₀ from₀ to₀ : ℕ} {p₀ : Progress} → hi - on.mid ≤ r.hi - r.lo → lo < hi
+    pub descending_only : {w₀ : List ℕ} {d₀ lo₀ hi₀ from₀ to₀ : ℕ} {p₀ : Progress} → hi - on.mid ≤ r.hi - r.lo → lo < hi
         → Descending lay st w₀ d₀ lo₀ hi₀ from₀ to₀ p₀ w d lo hi from to p → length v ≡ length w
         → Descending lay st w₀ d₀ lo₀ hi₀ from₀ to₀ p₀ v (d + 1) r.lo r.hi on.«from» on.to on.at
-    descending-only all =
-        descending-step (none-visited (omega (arith, all, left, chosen.within))) refl
-        (none-visited (omega (arith, all, left, chosen.begins.low))) refl
+    descending_only all =
+        descending_step (none_visited (omega (arith, all, left, chosen.within))) refl
+        (none_visited (omega (arith, all, left, chosen.begins.low))) refl

@@ -12,12 +12,12 @@ use Rattle.lists.proofs.Bools.{true-false}
 use Rattle.lists.proofs.Slices.{frame-slice}
 use Rattle.join_spec.specs.Query.{Query}
 use Rattle.join_spec.specs.Node.{last_of}
-use Rattle.join_spec.specs.Walk.{isCandidate}
-use Rattle.join_index.specs.Grouping.{rightAt, key_at}
+use Rattle.join_spec.specs.Walk.{is_candidate}
+use Rattle.join_index.specs.Grouping.{right_at, key_at}
 use Rattle.join_index.specs.Ground.{Listing}
 use Rattle.join_index.specs.declared.Layout.{Layout}
 use Rattle.join_index.specs.Asking.{RangeThere}
-use Rattle.join_index.specs.Ranges.{leftsIn, leftIn}
+use Rattle.join_index.specs.Ranges.{lefts_in, left_in}
 use Rattle.join_index.proofs.Orders.{range_none}
 use Rattle.kept_rows.specs.Kept.{RowsKept}
 use Rattle.join_nodes.specs.Narrowing.{slot_of}
@@ -27,13 +27,13 @@ use Rattle.join_nodes.specs.declared.Progress.{Progress}
 use Rattle.join_nodes.specs.declared.WalkSettings.{WalkSettings}
 use Rattle.join_nodes.specs.declared.Walked.{Walked}
 use Rattle.join_nodes.proofs.RangeLaws.{range_length, range_split}
-use Rattle.join_nodes.proofs.VisitLaws.{added_none, underway-next, visited-then, visited-before, visited-early, visited-late}
-use Rattle.join_nodes.proofs.FrameLaws.{index-framed, slot-framed, range-framed, framed_then}
+use Rattle.join_nodes.proofs.VisitLaws.{added_none, underway_next, visited_then, visited_before, visited_early, visited_late}
+use Rattle.join_nodes.proofs.FrameLaws.{index_framed, slot_framed, range_framed, framed_then}
 use Rattle.join_walk.specs.heaviest.Heaviest.{PartedAt, RangeBegins, RangeChosen}
 use Rattle.join_check.specs.declared.keys.Span.{Span}
-use Rattle.join_walk.proofs.heaviest.RangeParts.{chosen-begins}
-use Rattle.join_walk.proofs.visit.ChildSteps.{underway-less}
-use Rattle.join_walk.proofs.visit.ChildNodes.{next-node, slot-beyond}
+use Rattle.join_walk.proofs.heaviest.RangeParts.{chosen_begins}
+use Rattle.join_walk.proofs.visit.ChildSteps.{underway_less}
+use Rattle.join_walk.proofs.visit.ChildNodes.{next_node, slot_beyond}
 
 -- the children before a place where a range begins, and those from there on
 module _ {lay : Layout} {st : WalkSettings} {q : Query} {path w : List ℕ} {d lo hi from to : ℕ} {p : Progress}
@@ -47,12 +47,12 @@ module _ {lay : Layout} {st : WalkSettings} {q : Query} {path w : List ℕ} {d l
   parted : PartedAt lay q w d kids.least kids.span (beginners q path (suc d)) lo i hi
   parted = begins.parted q there kids.least kids.span (beginners q path (suc d)) kids.lefts
 
-  kids-before : ChildrenAt lay st q path w d lo i from to p
-  kids-before =
+  kids_before : ChildrenAt lay st q path w d lo i from to p
+  kids_before =
       record {
         kids = record {
           index = kids.index;
-          underway = underway-less (i - lo) (omega (arith, begins.high)) kids.underway;
+          underway = underway_less (i - lo) (omega (arith, begins.high)) kids.underway;
           rows = kids.rows;
           depth = kids.depth;
           within = kids.within;
@@ -67,12 +67,12 @@ module _ {lay : Layout} {st : WalkSettings} {q : Query} {path w : List ℕ} {d l
         after = at.after;
       }
 
-  kids-from : ChildrenAt lay st q path w d i hi from to p
-  kids-from =
+  kids_from : ChildrenAt lay st q path w d i hi from to p
+  kids_from =
       record {
         kids = record {
           index = kids.index;
-          underway = underway-less (hi - i) (omega (arith, begins.low)) kids.underway;
+          underway = underway_less (hi - i) (omega (arith, begins.low)) kids.underway;
           rows = kids.rows;
           depth = kids.depth;
           within = kids.within;
@@ -91,13 +91,13 @@ module _ {lay : Layout} {st : WalkSettings} {q : Query} {path w : List ℕ} {d l
 module _ {lay : Layout} {st : WalkSettings} {q : Query} {path w w' : List ℕ} {slot d lo hi from to : ℕ} {p u : Progress}
     (low : lay.slots ≤ slot) (below : to ≤ slot) (framed : Framed slot w w') (left : Underway st q u.tally (hi - lo))
     (kept : RowsKept lay q w' u.top) where
-  kids-framed : ChildrenAt lay st q path w d lo hi from to p → ChildrenAt lay st q path w' d lo hi from to u
-  kids-framed at =
+  kids_framed : ChildrenAt lay st q path w d lo hi from to p → ChildrenAt lay st q path w' d lo hi from to u
+  kids_framed at =
       let kids = at.kids in
       let after = at.after in
       record {
         kids = record {
-          index = index-framed kids.index framed low;
+          index = index_framed kids.index framed low;
           underway = left;
           rows = kept;
           depth = kids.depth;
@@ -108,41 +108,41 @@ module _ {lay : Layout} {st : WalkSettings} {q : Query} {path w w' : List ℕ} {
           span = kids.span;
           keys = kids.keys;
           further = kids.further;
-          lefts = range-framed kids.index framed low lo hi kids.few ∙ kids.lefts;
+          lefts = range_framed kids.index framed low lo hi kids.few ∙ kids.lefts;
         };
         after = record {
           deep = after.deep;
           last = after.last;
           rise = after.rise;
-          below = omega (arith, after.below, slot-framed kids.index framed low (suc (last_of path)) after.last);
+          below = omega (arith, after.below, slot_framed kids.index framed low (suc (last_of path)) after.last);
           holds = frame-slice from to slot w w' below framed.frame ∙ after.holds;
         };
       }
 
-  node-framed : Node lay st q path w d lo hi from to p → Node lay st q path w' d lo hi from to u
-  node-framed node =
+  node_framed : Node lay st q path w d lo hi from to p → Node lay st q path w' d lo hi from to u
+  node_framed node =
       let c = node.at.candidates in
       let same : slice from to w' ≡ slice from to w = frame-slice from to slot w w' below framed.frame in
       record {
         at = record {
           candidates = record {
-            index = index-framed c.index framed low;
+            index = index_framed c.index framed low;
             depth = c.depth;
             deep = c.deep;
             last = c.last;
             rise = c.rise;
-            below = omega (arith, c.below, slot-framed c.index framed low (last_of path) (omega (arith, c.last)));
+            below = omega (arith, c.below, slot_framed c.index framed low (last_of path) (omega (arith, c.last)));
             few = c.few;
             listing =
                 λ asked.
-                subst (λ (l : List ℕ). Listing (length q.rights) (λ s. isCandidate (d - 1) path (rightAt q s)) l) (sym same)
+                subst (λ (l : List ℕ). Listing (length q.rights) (λ s. is_candidate (d - 1) path (right_at q s)) l) (sym same)
                 (c.listing asked);
             sorted = λ deeper. same ∙ c.sorted deeper;
           };
           within = node.at.within;
           some = node.at.some;
           few = node.at.few;
-          lefts = range-framed c.index framed low lo hi node.at.few ∙ node.at.lefts;
+          lefts = range_framed c.index framed low lo hi node.at.few ∙ node.at.lefts;
         };
         underway = left;
         rows = kept;
@@ -155,32 +155,32 @@ module _ {lay : Layout} {st : WalkSettings} {q : Query} {path w : List ℕ} {d l
   slot = slot_of lay w (suc (last_of path))
 
   abbrev Before : List ℕ
-  Before = leftsIn lay w lo r.lo
+  Before = lefts_in lay w lo r.lo
 
   abbrev Own : List ℕ
-  Own = leftsIn lay w r.lo r.hi
+  Own = lefts_in lay w r.lo r.hi
 
   abbrev Behind : List ℕ
-  Behind = leftsIn lay w r.hi hi
+  Behind = lefts_in lay w r.hi hi
 
-  whole : leftsIn lay w lo hi ≡ Before ++ (Own ++ Behind)
+  whole : lefts_in lay w lo hi ≡ Before ++ (Own ++ Behind)
   whole =
       let few = at.kids.few in
       range_split lay q w lo r.lo hi at.kids.index chosen.begins.low chosen.begins.high few
       ∙ ap (λ (l : List ℕ). Before ++ l)
       (range_split lay q w r.lo r.hi hi at.kids.index chosen.rise chosen.within few)
 
-  pub kids-below : ChildrenAt lay st q path w d lo r.lo from to p
-  kids-below = kids-before at some chosen.begins
+  pub kids_below : ChildrenAt lay st q path w d lo r.lo from to p
+  kids_below = kids_before at some chosen.begins
 
   module _ {v : List ℕ} {one : Walked} (first : ChildrenVisited lay st q path w v d lo r.lo p.tally one) where
-    pub below-spent : one.spent ≡ true → ChildrenVisited lay st q path w v d lo hi p.tally one
-    below-spent spent =
+    pub below_spent : one.spent ≡ true → ChildrenVisited lay st q path w v d lo hi p.tally one
+    below_spent spent =
         record {
           framed = first.framed;
           visited =
               subst (λ (l : List ℕ). Visited q st.budget (suc d) l p.tally one) (sym whole)
-              (visited-early (Own ++ Behind) spent first.visited);
+              (visited_early (Own ++ Behind) spent first.visited);
           rows = first.rows;
         }
 
@@ -191,7 +191,7 @@ module _ {lay : Layout} {st : WalkSettings} {q : Query} {path w : List ℕ} {d l
 
       left_behind : Underway st q one.at.tally (hi - r.lo)
       left_behind =
-          underway-next at.kids.underway (first.visited.added calm)
+          underway_next at.kids.underway (first.visited.added calm)
           (omega (
             arith,
             range_length lay q w lo r.lo at.kids.index (omega (arith, chosen.begins.high, at.kids.few)),
@@ -200,45 +200,45 @@ module _ {lay : Layout} {st : WalkSettings} {q : Query} {path w : List ℕ} {d l
           ))
           (first.visited.within calm)
 
-      pub kids-above : ChildrenAt lay st q path v d r.hi hi from to one.at
-      kids-above =
-          kids-framed under at.after.below first.framed (underway-less (hi - r.hi) (omega (arith, chosen.rise)) left_behind) (first.rows calm)
-          (kids-from at some (chosen-begins chosen))
+      pub kids_above : ChildrenAt lay st q path v d r.hi hi from to one.at
+      kids_above =
+          kids_framed under at.after.below first.framed (underway_less (hi - r.hi) (omega (arith, chosen.rise)) left_behind) (first.rows calm)
+          (kids_from at some (chosen_begins chosen))
 
       module _ {u : List ℕ} {two : Walked} (second : ChildrenVisited lay st q path v u d r.hi hi one.at.tally two) where
-        same-slot : slot_of lay v (suc (last_of path)) ≡ slot
-        same-slot = slot-framed at.kids.index first.framed under (suc (last_of path)) at.after.last
+        same_slot : slot_of lay v (suc (last_of path)) ≡ slot
+        same_slot = slot_framed at.kids.index first.framed under (suc (last_of path)) at.after.last
 
         framed : Framed slot w u
-        framed = framed_then (omega (arith, same-slot)) first.framed second.framed
+        framed = framed_then (omega (arith, same_slot)) first.framed second.framed
 
         behind : Visited q st.budget (suc d) Behind one.at.tally two
         behind =
             subst (λ (l : List ℕ). Visited q st.budget (suc d) l one.at.tally two)
-            (range-framed at.kids.index first.framed under r.hi hi at.kids.few) second.visited
+            (range_framed at.kids.index first.framed under r.hi hi at.kids.few) second.visited
 
         -- whatever the own range and those behind it are, those before it were added
-        all-visited : {x : List ℕ} {three : Walked} → Framed slot w x
+        all_visited : {x : List ℕ} {three : Walked} → Framed slot w x
             → Visited q st.budget (suc d) (Own ++ Behind) one.at.tally three
             → (three.spent ≡ false → RowsKept lay q x three.at.top)
             → ChildrenVisited lay st q path w x d lo hi p.tally three
-        all-visited {x} {three} changed done kept =
+        all_visited {x} {three} changed done kept =
             record {
               framed = changed;
               visited =
                   subst (λ (l : List ℕ). Visited q st.budget (suc d) l p.tally three) (sym whole)
-                  (visited-then (first.visited.added calm) done);
+                  (visited_then (first.visited.added calm) done);
               rows = kept;
             }
 
-        pub above-spent : two.spent ≡ true → ChildrenVisited lay st q path w u d lo hi p.tally two
-        above-spent spent = all-visited framed (visited-late Own spent behind) second.rows
+        pub above_spent : two.spent ≡ true → ChildrenVisited lay st q path w u d lo hi p.tally two
+        above_spent spent = all_visited framed (visited_late Own spent behind) second.rows
 
         -- last the chosen one
         module _ (quiet : two.spent ≡ false) where
-          left-own : Underway st q two.at.tally (r.hi - r.lo)
-          left-own =
-              underway-next left_behind (behind.added quiet)
+          left_own : Underway st q two.at.tally (r.hi - r.lo)
+          left_own =
+              underway_next left_behind (behind.added quiet)
               (omega (
                 arith,
                 range_length lay q w r.hi hi at.kids.index at.kids.few,
@@ -247,11 +247,11 @@ module _ {lay : Layout} {st : WalkSettings} {q : Query} {path w : List ℕ} {d l
               ))
               (behind.within quiet)
 
-          pub none-chosen : r.hi ≤ r.lo
+          pub none_chosen : r.hi ≤ r.lo
               → ChildrenVisited lay st q path w u d lo hi p.tally (record { at = two.at; spent = false })
-          none-chosen none =
-              all-visited framed
-              (visited-before (behind.added quiet)
+          none_chosen none =
+              all_visited framed
+              (visited_before (behind.added quiet)
               (record {
                 added = λ calm. added_none q (suc d) (range_none lay w r.lo r.hi none);
                 within = λ calm. behind.within quiet;
@@ -264,29 +264,29 @@ module _ {lay : Layout} {st : WalkSettings} {q : Query} {path w : List ℕ} {d l
             beyond = omega (arith, more, chosen.within)
 
             own : ChildrenAt lay st q path w d r.lo hi from to p
-            own = kids-from at some chosen.begins
+            own = kids_from at some chosen.begins
 
-            abbrev pub chosenPath : List ℕ
-            chosenPath = path ++ ((key_at q d (leftIn lay w r.lo) - 1) ∷ [])
+            abbrev pub chosen_path : List ℕ
+            chosen_path = path ++ ((key_at q d (left_in lay w r.lo) - 1) ∷ [])
 
-            pub chosen-node : Node lay st q chosenPath u (d + 1) r.lo r.hi from to two.at
-            chosen-node =
-                node-framed under at.after.below framed left-own (second.rows quiet) (next-node own beyond (chosen.end more))
+            pub chosen_node : Node lay st q chosen_path u (d + 1) r.lo r.hi from to two.at
+            chosen_node =
+                node_framed under at.after.below framed left_own (second.rows quiet) (next_node own beyond (chosen.end more))
 
-            pub chosen-visited : {x : List ℕ} {three : Walked}
-                → NodeVisited lay st q chosenPath u x (d + 1) r.lo r.hi two.at.tally three
+            pub chosen_visited : {x : List ℕ} {three : Walked}
+                → NodeVisited lay st q chosen_path u x (d + 1) r.lo r.hi two.at.tally three
                 → ChildrenVisited lay st q path w x d lo hi p.tally three
-            chosen-visited {x} {three} done =
-                all-visited
+            chosen_visited {x} {three} done =
+                all_visited
                 (framed_then (omega (
                   arith,
-                  slot-framed at.kids.index framed under (last_of chosenPath)
-                      (omega (arith, chosen-node.at.candidates.last)),
-                  slot-beyond own beyond (chosen.end more),
+                  slot_framed at.kids.index framed under (last_of chosen_path)
+                      (omega (arith, chosen_node.at.candidates.last)),
+                  slot_beyond own beyond (chosen.end more),
                 )) framed done.framed)
-                (visited-before (behind.added quiet)
+                (visited_before (behind.added quiet)
                 (subst (λ (l : List ℕ). Visited q st.budget (suc d) l two.at.tally three)
-                (range-framed at.kids.index framed under r.lo r.hi (omega (arith, chosen.within, at.kids.few)))
-                (subst (λ (e : ℕ). Visited q st.budget e (leftsIn lay u r.lo r.hi) two.at.tally three) (add-one d)
+                (range_framed at.kids.index framed under r.lo r.hi (omega (arith, chosen.within, at.kids.few)))
+                (subst (λ (e : ℕ). Visited q st.budget e (lefts_in lay u r.lo r.hi) two.at.tally three) (add-one d)
                 done.visited)))
                 done.rows

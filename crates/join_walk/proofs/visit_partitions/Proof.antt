@@ -4,10 +4,10 @@ use mathlib.Core.List.{[]}
 use mathlib.Core.Path.{sym, ◌∙◌}
 use Prim.Native.Nat.{◌-◌}
 use Rattle.words.specs.flags.Flags.{Clear}
-use Rattle.join_nodes.proofs.PartLoop.{Continuing, continuing-start, continuing-step, continuing-spent, continuing-end}
-use Rattle.join_walk.proofs.visit.ChildSteps.{kids-range, childRank, first-child}
+use Rattle.join_nodes.proofs.PartLoop.{Continuing, continuing_start, continuing_step, continuing_spent, continuing_end}
+use Rattle.join_walk.proofs.visit.ChildSteps.{kids_range, child_rank, first_child}
 use Rattle.join_walk.specs.Partitions.{Partitions}
-use Rattle.join_walk.proofs.PartitionRanges.{partitions-done}
+use Rattle.join_walk.proofs.PartitionRanges.{partitions_done}
 use Rattle.join_walk.proofs.visit_partitions.Statement.{statement}
 use Rattle.join_walk.proofs.visit_partitions.Tie as tie
 
@@ -23,13 +23,13 @@ loop-holds : tie.Need-loop-init invariant-loop decreases-loop
 loop-holds c =
     let asked = c.before.before.requires in
     let some = asked.0 in
-    (continuing-start _ _ _ _ _ _ (record { query = some.query; path = []; holds = some.holds }), asked.1)
+    (continuing_start _ _ _ _ _ _ (record { query = some.query; path = []; holds = some.holds }), asked.1)
 
 range-end-requires : tie.Need-range-end-requires invariant-loop decreases-loop
 range-end-requires c κs =
     let test = c.before in
     let some = test.before.loop.invariant.0.some in
-    record { query = some.query; holds = kids-range some.holds test.loop-test.true }
+    record { query = some.query; holds = kids_range some.holds test.loop-test.true }
 
 visit-partition-requires : tie.Need-visit-partition-requires invariant-loop decreases-loop
 visit-partition-requires c κs =
@@ -39,8 +39,8 @@ visit-partition-requires c κs =
     let some = inv.0.some in (
       record {
         query = some.query;
-        rank = childRank some.holds test.loop-test.true;
-        holds = first-child some.holds test.loop-test.true end.range-end.ensures;
+        rank = child_rank some.holds test.loop-test.true;
+        holds = first_child some.holds test.loop-test.true end.range-end.ensures;
       },
       inv.1,
     )
@@ -62,8 +62,8 @@ returns c =
     let end = visit.before.before.before in
     let test = end.before.before in (
       λ q first.
-          continuing-spent test.before.loop.invariant.0 (omega (arith, end.range-end.ensures.more)) end.range-end.ensures.within
-          (partitions-done test.loop-test.true end.range-end.ensures visit.visit-partition.ensures.0)
+          continuing_spent test.before.loop.invariant.0 (omega (arith, end.range-end.ensures.more)) end.range-end.ensures.within
+          (partitions_done test.loop-test.true end.range-end.ensures visit.visit-partition.ensures.0)
           c.if1.true q [] first,
       visit.visit-partition.ensures.1,
     )
@@ -80,8 +80,8 @@ loop-again c =
     let visit = calm.before.before.before.before.before in
     let end = visit.before.before.before in
     let test = end.before.before in (
-      continuing-step test.before.loop.invariant.0 (omega (arith, end.range-end.ensures.more)) end.range-end.ensures.within
-          (partitions-done test.loop-test.true end.range-end.ensures visit.visit-partition.ensures.0)
+      continuing_step test.before.loop.invariant.0 (omega (arith, end.range-end.ensures.more)) end.range-end.ensures.within
+          (partitions_done test.loop-test.true end.range-end.ensures visit.visit-partition.ensures.0)
           visit.visit-partition.auto.0 calm.if1.false,
       visit.visit-partition.ensures.1,
     )
@@ -96,7 +96,7 @@ returns-2 : tie.Need-returns-2 invariant-loop decreases-loop
 returns-2 c =
     let inv = c.before.loop.invariant in (
       λ q first.
-          continuing-end inv.0 c.loop-test.false inv.0.some.holds.underway.budget (λ q path at. at.rows) q [] first,
+          continuing_end inv.0 c.loop-test.false inv.0.some.holds.underway.budget (λ q path at. at.rows) q [] first,
       inv.1,
     )
 

@@ -3,24 +3,24 @@
 use mathlib.Core.Path.{◌≡◌, refl, ◌∙◌}
 use native.Mathlib.Omega.{arith}
 use borrow.Author.Rules.{rules}
-use Rattle.join_spec.specs.Kinds.{Kind, pathPair, confirmedCheck, droppedCheck, falseCheck}
+use Rattle.join_spec.specs.Kinds.{Kind, path_pair, confirmed_check, dropped_check, false_check}
 use Rattle.join_check.specs.Counters.{counter}
-use Rattle.join_walk.proofs.WalkSteps.{walk_none, walk-range, walk-partitions, walk-done}
-use Rattle.join_walk.proofs.WalkSteps.{ready-cleared, rows-cleared, done-cleared}
+use Rattle.join_walk.proofs.WalkSteps.{walk_none, walk_range, walk-partitions, walk_done}
+use Rattle.join_walk.proofs.WalkSteps.{ready_cleared, rows_cleared, done_cleared}
 use Rattle.join_walk.proofs.walk.Statement.{statement}
 use Rattle.join_walk.proofs.walk.Tie as tie
 
 -- no counter has anything at first
 none-zero : (kind : Kind) → counter kind (record { by_path = 0; confirmed = 0; dropped = 0; false_drops = 0 }) ≡ 0
-none-zero pathPair = refl
-none-zero confirmedCheck = refl
-none-zero droppedCheck = refl
-none-zero falseCheck = refl
+none-zero path_pair = refl
+none-zero confirmed_check = refl
+none-zero dropped_check = refl
+none-zero false_check = refl
 
 clear-rows-requires : tie.Need-clear-rows-requires
 clear-rows-requires c κs =
     let some = c.before.before.before.requires.0 in
-    record { query = some.query; holds = record { index = some.holds.index; leftCount = some.holds.leftCount } }
+    record { query = some.query; holds = record { index = some.holds.index; left_count = some.holds.left_count } }
 
 same_length : tie.Need-same-length
 same_length c = c.before.before.before.clear-rows.auto.0
@@ -34,7 +34,7 @@ returns c =
     let cleared = c.before.before.before in
     let rows = cleared.clear-rows.ensures in (
       λ q ready.
-          done-cleared ready rows (walk_none (ready-cleared ready rows) c.if1.true none-zero (rows-cleared ready rows)),
+          done_cleared ready rows (walk_none (ready_cleared ready rows) c.if1.true none-zero (rows_cleared ready rows)),
       (begun cleared).requires.1,
     )
 
@@ -45,7 +45,7 @@ merged-end-requires c κs =
     let asked = (begun cleared).requires.0 in
     record {
       query = asked.query;
-      holds = walk-range (ready-cleared asked.holds cleared.clear-rows.ensures) (omega (arith, some.if1.false));
+      holds = walk_range (ready_cleared asked.holds cleared.clear-rows.ensures) (omega (arith, some.if1.false));
     }
 
 visit-partitions-requires : tie.Need-visit-partitions-requires
@@ -58,8 +58,8 @@ visit-partitions-requires c κs =
       record {
         query = asked.0.query;
         holds =
-            walk-partitions (ready-cleared asked.0.holds rows) (omega (arith, some.if1.false)) end.merged-end.ensures
-            none-zero (rows-cleared asked.0.holds rows);
+            walk-partitions (ready_cleared asked.0.holds rows) (omega (arith, some.if1.false)) end.merged-end.ensures
+            none-zero (rows_cleared asked.0.holds rows);
       },
       asked.1,
     )
@@ -76,11 +76,11 @@ returns-2 c =
     let some = end.before.before in
     let rows = some.before.before.before.clear-rows.ensures in (
       λ q ready.
-          let so = ready-cleared ready rows in
+          let so = ready_cleared ready rows in
           let parts =
-          walk-partitions so (omega (arith, some.if1.false)) end.merged-end.ensures none-zero (rows-cleared ready rows) in
-          done-cleared ready rows
-          (walk-done so (omega (arith, some.if1.false)) end.merged-end.ensures none-zero
+          walk-partitions so (omega (arith, some.if1.false)) end.merged-end.ensures none-zero (rows_cleared ready rows) in
+          done_cleared ready rows
+          (walk_done so (omega (arith, some.if1.false)) end.merged-end.ensures none-zero
           (visited.visit-partitions.ensures.0 q parts)),
       visited.visit-partitions.ensures.1,
     )

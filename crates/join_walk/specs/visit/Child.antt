@@ -4,7 +4,7 @@ use Rattle.join_spec.specs.Query.{Query}
 use Rattle.join_spec.specs.Node.{last_of}
 use Rattle.join_index.specs.declared.Layout.{Layout}
 use Rattle.join_index.specs.Asking.{Index}
-use Rattle.join_index.specs.Ranges.{leftsIn}
+use Rattle.join_index.specs.Ranges.{lefts_in}
 use Rattle.kept_rows.specs.Kept.{RowsKept}
 use Rattle.join_nodes.specs.Visiting.{Underway, beginners}
 use Rattle.join_nodes.specs.declared.Progress.{Progress}
@@ -20,4 +20,4 @@ pub record Child (lay : Layout) (st : WalkSettings) (q : Query) (path w : List �
   pub last : last_of path < q.T
   pub some : lo < hi
   pub few : hi ≤ length q.lefts
-  pub lefts : leftsIn lay w lo hi ≡ beginners q path d
+  pub lefts : lefts_in lay w lo hi ≡ beginners q path d

@@ -3,7 +3,7 @@
 use Prim.Native.Nat.{◌+◌, ◌-◌, ◌<◌}
 use native.Mathlib.Omega.{arith}
 use lib.ListN.{length}
-use Rattle.kept_rows.proofs.Clearing.{Clearing, clearing-start, clearing-room, clearing-step, clearing-end}
+use Rattle.kept_rows.proofs.Clearing.{Clearing, clearing_start, clearing_room, clearing_step, clearing_end}
 use Rattle.kept_rows.proofs.clear_rows.Statement.{statement}
 use Rattle.kept_rows.proofs.clear_rows.Tie as tie
 
@@ -14,12 +14,12 @@ abbrev decreases-loop : tie.decreases-loop
 decreases-loop work₀ lefts row-starts k₀ work k = lefts - k
 
 loop-holds : tie.Need-loop-init invariant-loop decreases-loop
-loop-holds c = clearing-start
+loop-holds c = clearing_start
 
 -- there is a word for the left set
 room : (c : tie.In-loop invariant-loop decreases-loop)
     → c.before.before.args.lay.row_starts + c.before.loop.k < length c.before.loop.work
-room c = clearing-room c.before.before.requires c.before.loop.invariant c.loop-test.true
+room c = clearing_room c.before.before.requires c.before.loop.invariant c.loop-test.true
 
 add-work : tie.Need-overflow-add-work invariant-loop decreases-loop
 add-work c = omega (arith, room c)
@@ -37,13 +37,13 @@ loop-less : tie.Need-loop-smaller invariant-loop decreases-loop
 loop-less c = omega (arith, c.loop-test.true)
 
 loop-again : tie.Need-loop-preserved invariant-loop decreases-loop
-loop-again c = clearing-step c.before.loop.invariant c.loop-test.true (room c)
+loop-again c = clearing_step c.before.loop.invariant c.loop-test.true (room c)
 
 same_length : tie.Need-same-length invariant-loop decreases-loop
 same_length c = c.before.loop.invariant.changed.size
 
 returns : tie.Need-returns invariant-loop decreases-loop
-returns c = clearing-end c.before.loop.invariant c.loop-test.false
+returns c = clearing_end c.before.loop.invariant c.loop-test.false
 
 pub clear-rows-spec : {M : Type 1} → statement M
 clear-rows-spec =

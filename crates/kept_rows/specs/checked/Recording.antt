@@ -5,7 +5,7 @@ use Rattle.join_spec.specs.Query.{Query}
 use Rattle.join_index.specs.declared.Layout.{Layout}
 use Rattle.join_check.specs.declared.Tally.{Tally}
 use Rattle.join_check.specs.Checks.{RowThere, RowChecked}
-use Rattle.kept_rows.specs.Kept.{containedAt, containing, RowsKept}
+use Rattle.kept_rows.specs.Kept.{contained_at, containing, RowsKept}
 use Rattle.kept_rows.specs.declared.checked.Recorded.{Recorded}
 
 -- the left set k can be checked so; the places, in their order, miss no right set that contains it; and from top on there is room for
@@ -15,7 +15,7 @@ pub record RowRecordable (lay : Layout) (q : Query) (w : List ℕ) (k e from to 
   pub rows : RowsKept lay q w top
   pub below : to ≤ lay.row_starts
   pub room : top + (to - from) ≤ lay.end
-  pub complete : containing q k ≡ keep (containedAt q k) (slice from to w)
+  pub complete : containing q k ≡ keep (contained_at q k) (slice from to w)
 
 -- w became w': the left set was checked, and its row is kept
 pub record RowRecorded (lay : Layout) (w : List ℕ) (k e from to : ℕ) (tally : Tally) (top : ℕ) (w' : List ℕ) (r : Recorded)

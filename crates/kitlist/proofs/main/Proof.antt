@@ -1,18 +1,18 @@
 -- `kitlist::main` is safe: the text lies within its list.
 use mathlib.Core.Path.{sym}
 use lib.Seq.{length-take-le}
-use Rattle.join_text.proofs.Texts.{fills-within}
+use Rattle.join_text.proofs.Texts.{fills_within}
 use borrow.Author.Rules.{rules}
 use Rattle.kitlist.proofs.main.Statement.{statement}
 use Rattle.kitlist.proofs.main.Tie as tie
 
 array-share-prefix-text : tie.Need-array-share-prefix-text
 array-share-prefix-text c =
-    fills-within c.list-file.ensures
+    fills_within c.list-file.ensures
 
 slice-aggregate-write-all : tie.Need-slice-aggregate-write-all
 slice-aggregate-write-all c =
-    sym (length-take-le _ _ (fills-within c.before.list-file.ensures))
+    sym (length-take-le _ _ (fills_within c.before.list-file.ensures))
 
 pub main_spec : {M : Type 1} → statement M
 main_spec =

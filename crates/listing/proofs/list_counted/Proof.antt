@@ -7,7 +7,7 @@ use Rattle.listing.proofs.list_counted.Tie as tie
 
 slice-aggregate-list-loaded : tie.Need-slice-aggregate-list-loaded
 slice-aggregate-list-loaded c =
-    sym (length-take-le _ _ c.before.before.before.before.before.before.before.before.before.requires.left-numbered)
+    sym (length-take-le _ _ c.before.before.before.before.before.before.before.before.before.requires.left_numbered)
 
 slice-aggregate-list-loaded-2 : tie.Need-slice-aggregate-list-loaded-2
 slice-aggregate-list-loaded-2 c =
@@ -15,19 +15,19 @@ slice-aggregate-list-loaded-2 c =
 
 slice-aggregate-list-loaded-3 : tie.Need-slice-aggregate-list-loaded-3
 slice-aggregate-list-loaded-3 c =
-    sym (length-take-le _ _ c.before.before.before.before.before.before.before.before.before.before.before.requires.left-filled)
+    sym (length-take-le _ _ c.before.before.before.before.before.before.before.before.before.before.before.requires.left_filled)
 
 slice-aggregate-list-loaded-4 : tie.Need-slice-aggregate-list-loaded-4
 slice-aggregate-list-loaded-4 c =
-    sym (length-take-le _ _ c.before.before.before.before.before.before.before.before.before.before.before.before.requires.right-numbered)
+    sym (length-take-le _ _ c.before.before.before.before.before.before.before.before.before.before.before.before.requires.right_numbered)
 
 slice-aggregate-list-loaded-5 : tie.Need-slice-aggregate-list-loaded-5
 slice-aggregate-list-loaded-5 c =
-    sym (length-take-le _ _ c.before.before.before.before.before.before.before.before.before.before.before.before.before.requires.right-ended)
+    sym (length-take-le _ _ c.before.before.before.before.before.before.before.before.before.before.before.before.before.requires.right_ended)
 
 slice-aggregate-list-loaded-6 : tie.Need-slice-aggregate-list-loaded-6
 slice-aggregate-list-loaded-6 c =
-    sym (length-take-le _ _ c.before.before.before.before.before.before.before.before.before.before.before.before.before.before.requires.right-filled)
+    sym (length-take-le _ _ c.before.before.before.before.before.before.before.before.before.before.before.before.before.before.requires.right_filled)
 
 slice-aggregate-list-loaded-7 : tie.Need-slice-aggregate-list-loaded-7
 slice-aggregate-list-loaded-7 c =
@@ -37,8 +37,8 @@ list-loaded-requires : tie.Need-list-loaded-requires
 list-loaded-requires c κs =
     let within = c.before.before.before.before.before.before.before.before.before.before.before.before.before.before.before.before.requires in (
       record {
-        lefts = length-take-le _ _ within.left_ended ∙ sym (length-take-le _ _ within.left-numbered);
-        rights = length-take-le _ _ within.right-ended ∙ sym (length-take-le _ _ within.right-numbered);
+        lefts = length-take-le _ _ within.left_ended ∙ sym (length-take-le _ _ within.left_numbered);
+        rights = length-take-le _ _ within.right_ended ∙ sym (length-take-le _ _ within.right_numbered);
         room = within.room;
       },
       length-take-le _ _ within.ranked,

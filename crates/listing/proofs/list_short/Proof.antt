@@ -2,9 +2,9 @@
 -- is refused for a record at fault alone.
 use native.Mathlib.Omega.{arith}
 use Rattle.tag_file.specs.Loading.{Lists, lists_of}
-use Rattle.join_text.proofs.Texts.{put-fills, fills_same}
+use Rattle.join_text.proofs.Texts.{put_fills, fills_same}
 use Rattle.listing_spec.proofs.LoadRoom.{ProgramLists}
-use Rattle.listing_spec.proofs.LoadTexts.{loaded-text, loaded-within, refused-load}
+use Rattle.listing_spec.proofs.LoadTexts.{loaded_text, loaded-within, refused_load}
 use borrow.Author.Rules.{rules}
 use Rattle.listing.proofs.list_short.Statement.{statement}
 use Rattle.listing.proofs.list_short.Tie as tie
@@ -32,12 +32,12 @@ program-lists p =
     let made = p.before.before.before.before.before.before.before.before in
     record {
       tags = made.before.before.before.before.before.before.before.new-tags.ensures;
-      leftNumbers = made.before.before.before.before.before.before.new-places.ensures;
-      leftEnds = made.before.before.before.before.before.new-ends.ensures;
-      leftItems = made.before.before.before.before.new_items.ensures;
-      rightNumbers = made.before.before.before.new-places2.ensures;
-      rightEnds = made.before.before.new-ends2.ensures;
-      rightItems = made.before.new-items2.ensures;
+      left_numbers = made.before.before.before.before.before.before.new-places.ensures;
+      left_ends = made.before.before.before.before.before.new-ends.ensures;
+      left_items = made.before.before.before.before.new_items.ensures;
+      right_numbers = made.before.before.before.new-places2.ensures;
+      right_ends = made.before.before.new-ends2.ensures;
+      right_items = made.before.new-items2.ensures;
     }
 
 list-counted-requires : tie.Need-list-counted-requires
@@ -53,7 +53,7 @@ returns : tie.Need-returns
 returns c =
     let told = c.before.before.before.before.before.before.before.before.before.before.before.before.before in
     let p = told.before.before.before.before.before.before.before.before.before in
-    fills_same (loaded-text (start p).args.file.now {lent = lent p} {got = got p} p.load.ensures told.answer.given.1)
+    fills_same (loaded_text (start p).args.file.now {lent = lent p} {got = got p} p.load.ensures told.answer.given.1)
     c.before.before.before.list_counted.ensures
 
 returns-2 : tie.Need-returns-2
@@ -62,8 +62,8 @@ returns-2 c =
     let p = told.before.before.before.before.before.before.before.before.before in
     let line = c.before.before.put-refusal in
     fills_same
-    (refused-load (start p).args.file.now {lent = lent p} {got = got p} p.load.ensures told.answer2.given.1 (program-lists p) (start p).requires.0)
-    (put-fills line.ensures.0 (omega (arith, line.ensures.1, (start p).requires.1)))
+    (refused_load (start p).args.file.now {lent = lent p} {got = got p} p.load.ensures told.answer2.given.1 (program-lists p) (start p).requires.0)
+    (put_fills line.ensures.0 (omega (arith, line.ensures.1, (start p).requires.1)))
 
 pub list-short-spec : {M : Type 1} → statement M
 list-short-spec =

@@ -1,7 +1,7 @@
 -- `lists::zero_u16` meets its contract. The invariant: i numbers are zeros, the others as they were. The measure is what is left.
 use Prim.Native.Nat.{◌-◌}
 use native.Mathlib.Omega.{arith}
-use Rattle.lists.proofs.Zeros.{Zeroed, zeroed_start, zeroed_step, zeroed-end}
+use Rattle.lists.proofs.Zeros.{Zeroed, zeroed_start, zeroed_step, zeroed_end}
 use Rattle.lists.proofs.zero_u16.Statement.{statement}
 use Rattle.lists.proofs.zero_u16.Tie as tie
 
@@ -21,7 +21,7 @@ same_length : tie.Need-same-length invariant-loop decreases-loop
 same_length c = c.before.loop.invariant.same
 
 returns : tie.Need-returns invariant-loop decreases-loop
-returns c = zeroed-end c.before.loop.invariant c.loop-test.false
+returns c = zeroed_end c.before.loop.invariant c.loop-test.false
 
 pub zero-u16-spec : {M : Type 1} → statement M
 zero-u16-spec =

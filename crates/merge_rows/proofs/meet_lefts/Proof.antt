@@ -5,19 +5,19 @@ use mathlib.Core.Path.{◌∙◌}
 use mathlib.Core.List.{[]}
 use native.Mathlib.Omega.{arith}
 use lib.ListN.{length, get_or}
-use Rattle.sets.specs.Collections.{setsOf}
+use Rattle.sets.specs.Collections.{sets_of}
 use Rattle.side_index.proofs.inverted.Collected.{SetAt}
-use Rattle.merge_rows.proofs.AllLefts.{LeftsMet, lefts-start, lefts-end, this-set, counters-room, set_there, lefts-fit}
-use Rattle.merge_rows.proofs.AllLefts.{lefts-spent, lefts-step}
+use Rattle.merge_rows.proofs.AllLefts.{LeftsMet, lefts_start, lefts_end, this_set, counters_room, set_there, lefts_fit}
+use Rattle.merge_rows.proofs.AllLefts.{lefts_spent, lefts_step}
 use Rattle.merge_rows.proofs.meet_lefts.Statement.{statement}
 use Rattle.merge_rows.proofs.meet_lefts.Tie as tie
 
 abbrev invariant-loop : tie.invariant-loop
-invariant-loop work₀ r table left-ends left-items ends items limit ranks budget path₀ pairs₀ met₀ counters start₀ k₀ work path pairs met start k =
-    LeftsMet r left-ends left-items ends items limit ranks budget work₀ path₀ pairs₀ work path pairs met start k
+invariant-loop work₀ r table left-ends left_items_lem ends items limit ranks budget path₀ pairs₀ met₀ counters start₀ k₀ work path pairs met start k =
+    LeftsMet r left-ends left_items_lem ends items limit ranks budget work₀ path₀ pairs₀ work path pairs met start k
 
 abbrev decreases-loop : tie.decreases-loop
-decreases-loop work₀ r table left-ends left-items ends items limit ranks budget path₀ pairs₀ met₀ counters start₀ k₀ work path pairs met start k =
+decreases-loop work₀ r table left-ends left_items_lem ends items limit ranks budget path₀ pairs₀ met₀ counters start₀ k₀ work path pairs met start k =
     length left-ends - k
 
 abbrev entry : tie.At-loop invariant-loop decreases-loop → tie.Start invariant-loop decreases-loop
@@ -28,20 +28,20 @@ set_here : (c : tie.In-loop invariant-loop decreases-loop)
     → let at-loop = c.before in
     let a = (entry at-loop).args in
     let l = at-loop.loop in
-    SetAt a.r.t l.k l.start (get_or a.left-ends.now l.k 0) (get_or (setsOf a.left-ends.now a.left-items.now) l.k [])
+    SetAt a.r.t l.k l.start (get_or a.left-ends.now l.k 0) (get_or (sets_of a.left-ends.now a.left-items.now) l.k [])
     a.left-items.now
-set_here c = this-set c.before.loop.invariant c.loop-test.true
+set_here c = this_set c.before.loop.invariant c.loop-test.true
 
 loop-holds : tie.Need-loop-init invariant-loop decreases-loop
 loop-holds c =
-    let s = c.before.before.before.before.before.before.before.before in lefts-start s.args.pairs.now s.requires.0
+    let s = c.before.before.before.before.before.before.before.before in lefts_start s.args.pairs.now s.requires.0
 
 cast-end : tie.Need-overflow-cast-end invariant-loop decreases-loop
 cast-end c = omega (arith, c.shared-slice-known6.given c.before.before.loop.k)
 
 store-counters-requires : tie.Need-store-counters-requires invariant-loop decreases-loop
 store-counters-requires c κs =
-    let in-loop = c.before.before in counters-room in-loop.before.loop.invariant in-loop.loop-test.true
+    let in-loop = c.before.before in counters_room in-loop.before.loop.invariant in-loop.loop-test.true
 
 mul-meet-left : tie.Need-overflow-mul-meet-left invariant-loop decreases-loop
 mul-meet-left c =
@@ -68,7 +68,7 @@ checks-of-requires c κs =
     let met = c.before.before.before.before.before.before in
     let stored = met.before.before.before.before.before.before.before in
     let in-loop = stored.before.before.before in
-    lefts-fit in-loop.before.loop.invariant in-loop.loop-test.true stored.store-counters.ensures met.meet_left.ensures.0
+    lefts_fit in-loop.before.loop.invariant in-loop.loop-test.true stored.store-counters.ensures met.meet_left.ensures.0
     met.meet_left.ensures.1
 
 same_length : tie.Need-same-length invariant-loop decreases-loop
@@ -78,7 +78,7 @@ same_length c =
     met.meet_left.ensures.1.size ∙ stored.store-counters.ensures.changed.size ∙ stored.before.before.before.before.loop.invariant.size
 
 same-length-2 : tie.Need-same-length-2 invariant-loop decreases-loop
-same-length-2 c = c.before.before.before.before.before.before.before.before.meet_left.auto.1.1.1.1.1.1.1.1.1.1.1.0 ∙ c.before.before.before.before.before.before.before.before.before.before.before.before.before.before.before.before.before.before.before.loop.invariant.pathSize
+same-length-2 c = c.before.before.before.before.before.before.before.before.meet_left.auto.1.1.1.1.1.1.1.1.1.1.1.0 ∙ c.before.before.before.before.before.before.before.before.before.before.before.before.before.before.before.before.before.before.before.loop.invariant.path_size
 
 same-length-3 : tie.Need-same-length-3 invariant-loop decreases-loop
 same-length-3 c = c.before.before.before.before.before.before.before.before.meet_left.ensures.0.listed.size ∙ c.before.before.before.before.before.before.before.before.before.before.before.before.before.before.before.before.before.before.before.loop.invariant.listed.size
@@ -88,7 +88,7 @@ returns c =
     let met = c.before.before.before.before.before.before.before.before in
     let stored = met.before.before.before.before.before.before.before in
     let in-loop = stored.before.before.before in
-    lefts-spent in-loop.before.loop.invariant in-loop.loop-test.true stored.store-counters.ensures met.meet_left.ensures.0
+    lefts_spent in-loop.before.loop.invariant in-loop.loop-test.true stored.store-counters.ensures met.meet_left.ensures.0
     met.meet_left.ensures.1 (omega (arith, c.if1.true, c.before.checks-of.ensures))
 
 add-k : tie.Need-overflow-add-k invariant-loop decreases-loop
@@ -99,7 +99,7 @@ loop-again c =
     let met = c.before.before.before.before.before.before.before.before in
     let stored = met.before.before.before.before.before.before.before in
     let in-loop = stored.before.before.before in
-    lefts-step in-loop.before.loop.invariant in-loop.loop-test.true stored.store-counters.ensures met.meet_left.ensures.0
+    lefts_step in-loop.before.loop.invariant in-loop.loop-test.true stored.store-counters.ensures met.meet_left.ensures.0
     met.meet_left.ensures.1 _ (omega (arith, c.if1.false, c.before.checks-of.ensures))
     met.meet_left.auto.1.1.1.1.1.1.1.1.1.1.1.0
 
@@ -107,13 +107,13 @@ same-length-4 : tie.Need-same-length-4 invariant-loop decreases-loop
 same-length-4 c = c.before.loop.invariant.size
 
 same-length-5 : tie.Need-same-length-5 invariant-loop decreases-loop
-same-length-5 c = c.before.loop.invariant.pathSize
+same-length-5 c = c.before.loop.invariant.path_size
 
 same-length-6 : tie.Need-same-length-6 invariant-loop decreases-loop
 same-length-6 c = c.before.loop.invariant.listed.size
 
 returns-2 : tie.Need-returns-2 invariant-loop decreases-loop
-returns-2 c = lefts-end c.before.loop.invariant (omega (arith, c.loop-test.false))
+returns-2 c = lefts_end c.before.loop.invariant (omega (arith, c.loop-test.false))
 
 pub meet-lefts-spec : {M : Type 1} → statement M
 meet-lefts-spec =

@@ -2,9 +2,9 @@
 use mathlib.Core.Path.{sym, subst, ◌∙◌}
 use native.Mathlib.Omega.{arith}
 use Rattle.join_check.specs.tally_answer.Answering.{SumsFit}
-use Rattle.merge_rows.specs.Merging.{mergeQuery, AllMet}
-use Rattle.merge_rows.proofs.MergedAnswer.{merge-sizes, merge-ready, merge-room, merge-met}
-use Rattle.merge_rows.proofs.MergedAnswer.{merged-fits, merged-tally, merged-answer, merged-pairs}
+use Rattle.merge_rows.specs.Merging.{merge_query, AllMet}
+use Rattle.merge_rows.proofs.MergedAnswer.{merge_sizes, merge_ready, merge_room, merge_met}
+use Rattle.merge_rows.proofs.MergedAnswer.{merged-fits, merged_tally, merged_answer, merged_pairs}
 use borrow.Author.Rules.{rules}
 use Rattle.merge_rows.proofs.merge_sets.Statement.{statement}
 use Rattle.merge_rows.proofs.merge_sets.Tie as tie
@@ -16,20 +16,20 @@ start c = c.before.before.before.before.before.before.before.before.before.befor
 done : (c : tie.After-meet-lefts)
     → let a = (start c).args in
     AllMet
-    (mergeQuery a.t a.left-ends.now a.left-items.now a.right-ends.now a.right-items.now a.limit a.ranks.now)
+    (merge_query a.t a.left-ends.now a.left-items.now a.right-ends.now a.right-items.now a.limit a.ranks.now)
     a.budget c.meet-lefts.result a.pairs.now c.meet-lefts.new.1.1.1.1.1.1.1.1.1.1.1.0
-done c = merge-met (start c).requires c.before.before.before.before.before.before.before.before.before.before.lay-rows.ensures c.meet-lefts.ensures
+done c = merge_met (start c).requires c.before.before.before.before.before.before.before.before.before.before.lay-rows.ensures c.meet-lefts.ensures
 
 lay-rows-requires : tie.Need-lay-rows-requires
-lay-rows-requires c κs = merge-sizes c.before.before.before.before.before.before.before.requires.tests
+lay-rows-requires c κs = merge_sizes c.before.before.before.before.before.before.before.requires.tests
 
 ready-rows-requires : tie.Need-ready-rows-requires
-ready-rows-requires c κs = merge-ready c.before.before.before.before.before.before.before.before.before.requires c.before.lay-rows.ensures
+ready-rows-requires c κs = merge_ready c.before.before.before.before.before.before.before.before.before.requires c.before.lay-rows.ensures
 
 meet-lefts-requires : tie.Need-meet-lefts-requires
 meet-lefts-requires c κs =
     let ready = c.before.before.before.before.before.before.before in (
-      merge-room c.before.before.before.before.before.before.before.before.before.before.before.before.before.before.before.before.before.requires c.before.before.before.before.before.before.before.before.before.lay-rows.ensures ready.ready-rows.auto.0 ready.ready-rows.ensures (omega arith),
+      merge_room c.before.before.before.before.before.before.before.before.before.before.before.before.before.before.before.before.before.requires c.before.before.before.before.before.before.before.before.before.lay-rows.ensures ready.ready-rows.auto.0 ready.ready-rows.ensures (omega arith),
       c.before.before.before.before.position-table.ensures,
     )
 
@@ -44,8 +44,8 @@ returns c =
     let answered = c.before.before.before.before in
     let met = c.before.before.before.before.before.before.before.before.before.before.before in
     let ok = (start met).requires.tests in
-    let is = merged-tally ok (done met) c.before.before.before.before.before.tally-of.ensures answered.answer-tally.ensures in
-    (merged-answer ok (done met) _ is, settled.settle.ensures ∙ merged-pairs ok (done met) answered.answer-tally.result is)
+    let is = merged_tally ok (done met) c.before.before.before.before.before.tally-of.ensures answered.answer-tally.ensures in
+    (merged_answer ok (done met) _ is, settled.settle.ensures ∙ merged_pairs ok (done met) answered.answer-tally.result is)
 
 pub merge-sets-spec : {M : Type 1} → statement M
 merge-sets-spec =

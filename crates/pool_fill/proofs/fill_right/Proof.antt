@@ -8,25 +8,25 @@ use Prim.Native.Nat.{ℕ, ◌-◌, ◌<◌}
 use native.Mathlib.Omega.{arith}
 use borrow.Author.Tests.{not-true, not-false}
 use lib.ListN.{length, get_or}
-use Rattle.sets.specs.Limits.{maxSets}
+use Rattle.sets.specs.Limits.{max_sets}
 use Rattle.sets.specs.declared.Side.TheVariants.{Right}
 use Rattle.lists.proofs.Bools.{by-test}
 use Rattle.bit_sets.specs.BitSets.{member}
-use Rattle.tag_file.specs.Reading.{readAt, tagsAt}
-use Rattle.tag_file.specs.Records.{sameSide}
+use Rattle.tag_file.specs.Reading.{readAt, tags_at}
+use Rattle.tag_file.specs.Records.{same_side}
 use Rattle.tag_file.specs.declared.ReadAnswer.TheVariants.{Record}
-use Rattle.tag_file.proofs.Ended.{no-records}
-use Rattle.tag_file.proofs.RecordLaws.{read-less}
+use Rattle.tag_file.proofs.Ended.{no_records}
+use Rattle.tag_file.proofs.RecordLaws.{read_less}
 use Rattle.tag_index.specs.Index.{table_of}
 use Rattle.tag_loader.specs.record_items.Marks.{TagsKnown}
-use Rattle.tag_loader.proofs.record_items.Marks.{unmarked-marked, more-fresh}
-use Rattle.pool_fill.proofs.Fresh.{fresh-wide, fresh-items}
-use Rattle.pool_fill.proofs.FirstWalk.{FirstWalk, first-walk-start, first-walk-skip}
-use Rattle.pool_fill.proofs.OwnSets.{own-known, own-slot, own_room, first-walk-own}
-use Rattle.pool_fill.proofs.SecondWalk.{SecondWalk, RightHere, second-walk-start, second-walk-skip, right-here}
-use Rattle.pool_fill.proofs.SecondWalk.{walked-numbers, walked-ends, walked-items}
-use Rattle.pool_fill.proofs.NewSets.{new-known, new-room, second-walk-new}
-use Rattle.pool_fill.proofs.MetSets.{met-known, met-slot, met-standing, second-walk-met}
+use Rattle.tag_loader.proofs.record_items.Marks.{unmarked_marked, more_fresh}
+use Rattle.pool_fill.proofs.Fresh.{fresh-wide, fresh_items}
+use Rattle.pool_fill.proofs.FirstWalk.{FirstWalk, first_walk_start, first-walk-skip}
+use Rattle.pool_fill.proofs.OwnSets.{own-known, own_slot, own_room, first-walk-own}
+use Rattle.pool_fill.proofs.SecondWalk.{SecondWalk, RightHere, second_walk_start, second-walk-skip, right-here}
+use Rattle.pool_fill.proofs.SecondWalk.{walked_numbers, walked_ends, walked_items}
+use Rattle.pool_fill.proofs.NewSets.{new_known, new_room, second_walk_new}
+use Rattle.pool_fill.proofs.MetSets.{met_known, met_slot, met_standing, second_walk_met}
 use borrow.Author.Rules.{rules}
 use Rattle.pool_fill.proofs.fill_right.Statement.{statement}
 use Rattle.pool_fill.proofs.fill_right.Tie as tie
@@ -70,7 +70,7 @@ read : (a : tie.After-answer invariant-loop decreases-loop invariant-loop2 decre
 read a = sym a.before.before.read-record.ensures ∙ a.answer.given.1
 
 right_side : (o : tie.Else1 invariant-loop decreases-loop invariant-loop2 decreases-loop2)
-    → sameSide Right o.before.before.before.answer.given.0.0 ≡ true
+    → same_side Right o.before.before.before.answer.given.0.0 ≡ true
 right_side o =
     let side = o.before.is-side in
     sym side.ensures ∙ not-false side.result o.if1.false
@@ -90,8 +90,8 @@ second_walk a =
     let exit = a.before.before.before in
     let got = a.before.before.read-record in
     a.loop2.invariant s.numbers.now s.ends.now s.items.now
-    (second-walk-start exit.loop.invariant
-    (no-records s.first.now exit.loop.at got.result (sym got.ensures) a.before.match.keys2))
+    (second_walk_start exit.loop.invariant
+    (no_records s.first.now exit.loop.at got.result (sym got.ensures) a.before.match.keys2))
 
 -- the same of the second file
 read-second : (a : tie.After-answer2 invariant-loop decreases-loop invariant-loop2 decreases-loop2)
@@ -102,7 +102,7 @@ read-second : (a : tie.After-answer2 invariant-loop decreases-loop invariant-loo
 read-second a = sym a.before.before.read-record2.ensures ∙ a.answer2.given.1
 
 second-right-side : (o : tie.Else2 invariant-loop decreases-loop invariant-loop2 decreases-loop2)
-    → sameSide Right o.before.before.before.answer2.given.0.0 ≡ true
+    → same_side Right o.before.before.before.answer2.given.0.0 ≡ true
 second-right-side o =
     let side = o.before.is-side2 in
     sym side.ensures ∙ not-false side.result o.if2.false
@@ -131,7 +131,7 @@ right_there : (own : tie.Else2 invariant-loop decreases-loop invariant-loop2 dec
     let r = own.before.before.before.answer2.given.0 in
     let second = (second-start-of a).args.second.now in
     RightHere second (second_walk a).seen a.loop2.on r.1.1.0 r.1.1.1.0 r.1.1.1.1.0
-    (record { side = r.0; number = r.1.0; tags = tagsAt r.1.1.0 second r.1.1.1.0 })
+    (record { side = r.0; number = r.1.0; tags = tags_at r.1.1.0 second r.1.1.1.0 })
 right_there own =
     let told = own.before.before.before in
     let at-loop = told.before.before.before in
@@ -146,7 +146,7 @@ second-known own =
     let ready = (second-start-of at-loop).requires in
     let w = second_walk at-loop in
     by-test (member (second-start-of at-loop).args.used.now own.before.before.before.answer2.given.0.1.0)
-    (met-known ready w (right_there own)) (new-known ready w (right_there own))
+    (met_known ready w (right_there own)) (new_known ready w (right_there own))
 
 -- whether the first file has its number
 there : (met : tie.Then3 invariant-loop decreases-loop invariant-loop2 decreases-loop2)
@@ -158,17 +158,17 @@ absent : (missed : tie.Else3 invariant-loop decreases-loop invariant-loop2 decre
 absent missed = sym missed.before.contains.ensures ∙ missed.if3.false
 
 -- where it has, its slot is one
-slot-below : (found : tie.After-number-slot2 invariant-loop decreases-loop invariant-loop2 decreases-loop2) → found.number-slot2.result < maxSets
+slot-below : (found : tie.After-number-slot2 invariant-loop decreases-loop invariant-loop2 decreases-loop2) → found.number-slot2.result < max_sets
 slot-below found =
     let met = found.before in
     let own = met.before.before.before.before.before in
     let at-loop = own.before.before.before.before.before.before in
     let w = second_walk at-loop in
-    let slot = met-slot (second-start-of at-loop).requires w (right_there own) (there met) in
+    let slot = met_slot (second-start-of at-loop).requires w (right_there own) (there met) in
     omega (arith, found.number-slot2.ensures, slot.within, w.long)
 
 loop-holds : tie.Need-loop-init invariant-loop decreases-loop invariant-loop2 decreases-loop2
-loop-holds c = first-walk-start c.before.before.before.before.before.before.before.before.requires
+loop-holds c = first_walk_start c.before.before.before.before.before.before.before.before.requires
 
 read-record-requires : tie.Need-read-record-requires invariant-loop decreases-loop invariant-loop2 decreases-loop2
 read-record-requires c κs = tt
@@ -180,7 +180,7 @@ is-side-requires : tie.Need-is-side-requires invariant-loop decreases-loop invar
 is-side-requires c κs = tt
 
 loop-less : tie.Need-loop-smaller invariant-loop decreases-loop invariant-loop2 decreases-loop2
-loop-less c = read-less _ _ (read c.before.before.before)
+loop-less c = read_less _ _ (read c.before.before.before)
 
 loop-again : tie.Need-loop-preserved invariant-loop decreases-loop invariant-loop2 decreases-loop2
 loop-again c =
@@ -196,7 +196,7 @@ slice-aggregate-mark-tags c = sym c.before.before.before.before.before.before.be
 mark-tags-requires : tie.Need-mark-tags-requires invariant-loop decreases-loop invariant-loop2 decreases-loop2
 mark-tags-requires c κs =
     let w = c.before.before.before.before.before.before.before.loop.invariant in
-    (tags-known c.before, record { done = []; marked = unmarked-marked _ w.unmarked })
+    (tags-known c.before, record { done = []; marked = unmarked_marked _ w.unmarked })
 
 number-slot-requires : tie.Need-number-slot-requires invariant-loop decreases-loop invariant-loop2 decreases-loop2
 number-slot-requires c κs = (start_of c.before.before.before.before.before.before.before.before.before).pre.counted
@@ -217,16 +217,16 @@ put-own-requires c κs =
     let ready = (start_of at-loop).requires in
     let w = at-loop.loop.invariant in
     let slot = found.number-slot.ensures in
-    let items = fresh-items (tags-known own) w.unmarked m.mark-tags.ensures in (
+    let items = fresh_items (tags-known own) w.unmarked m.mark-tags.ensures in (
       fresh-wide (tags-known own) w.unmarked m.mark-tags.ensures,
       (
-        rw slot (own-slot ready w (read told) (right_side own) (bytes at-loop)).within,
+        rw slot (own_slot ready w (read told) (right_side own) (bytes at-loop)).within,
         rw (slot, items) (own_room ready w (read told) (right_side own) (bytes at-loop)),
       ),
     )
 
 loop-less-2 : tie.Need-loop-smaller-2 invariant-loop decreases-loop invariant-loop2 decreases-loop2
-loop-less-2 c = read-less _ _ (read (marked c.before.before.before.before.before.before.before.before.before).before.before.before.before.before)
+loop-less-2 c = read_less _ _ (read (marked c.before.before.before.before.before.before.before.before.before).before.before.before.before.before)
 
 loop-again-2 : tie.Need-loop-preserved-2 invariant-loop decreases-loop invariant-loop2 decreases-loop2
 loop-again-2 c =
@@ -237,7 +237,7 @@ loop-again-2 c =
     let at-loop = told.before.before.before in
     let w = at-loop.loop.inv in
     let o = put.put-own.ensures in
-    let items = fresh-items (tags-known own) w.unmarked m.mark-tags.ensures in
+    let items = fresh_items (tags-known own) w.unmarked m.mark-tags.ensures in
     first-walk-own (start_of at-loop).pre w (read told) (right_side own) (bytes at-loop)
     (rw (put.before.before.before.before.before.before.number-slot.ensures, items) at o.1) o.0
 
@@ -256,10 +256,10 @@ same_length c =
     at-loop.loop.invariant.long ∙ sym (start_of at-loop).requires.size
 
 same-length-2 : tie.Need-same-length-2 invariant-loop decreases-loop invariant-loop2 decreases-loop2
-same-length-2 c = (second_walk c.before.before).placing.for-numbers.same
+same-length-2 c = (second_walk c.before.before).placing.for_numbers.same
 
 same-length-3 : tie.Need-same-length-3 invariant-loop decreases-loop invariant-loop2 decreases-loop2
-same-length-3 c = (second_walk c.before.before).placing.for-ends.same
+same-length-3 c = (second_walk c.before.before).placing.for_ends.same
 
 same-length-4 : tie.Need-same-length-4 invariant-loop decreases-loop invariant-loop2 decreases-loop2
 same-length-4 c = (second_walk c.before.before).placing.same
@@ -270,14 +270,14 @@ returns c =
     let start = second-start-of at-loop in
     let w = second_walk at-loop in
     let got = c.before.read-record2 in
-    let stop = no-records start.args.second.now at-loop.loop2.on got.result (sym got.ensures) c.match2.keys2 in
-    (walked-numbers start.pre w stop, (walked-ends start.pre w stop, walked-items start.pre w stop))
+    let stop = no_records start.args.second.now at-loop.loop2.on got.result (sym got.ensures) c.match2.keys2 in
+    (walked_numbers start.pre w stop, (walked_ends start.pre w stop, walked_items start.pre w stop))
 
 is-side-requires-2 : tie.Need-is-side-requires-2 invariant-loop decreases-loop invariant-loop2 decreases-loop2
 is-side-requires-2 c κs = tt
 
 loop2-less : tie.Need-loop2-smaller invariant-loop decreases-loop invariant-loop2 decreases-loop2
-loop2-less c = read-less _ _ (read-second c.before.before.before)
+loop2-less c = read_less _ _ (read-second c.before.before.before)
 
 loop2-again : tie.Need-loop2-preserved invariant-loop decreases-loop invariant-loop2 decreases-loop2
 loop2-again c =
@@ -293,7 +293,7 @@ slice-aggregate-mark-tags-2 c = sym (second_walk c.before.before.before.before.b
 
 mark-tags-requires-2 : tie.Need-mark-tags-requires-2 invariant-loop decreases-loop invariant-loop2 decreases-loop2
 mark-tags-requires-2 c κs =
-    (second-known c.before, record { done = []; marked = unmarked-marked _ (second_walk c.before.before.before.before.before.before.before).unmarked })
+    (second-known c.before, record { done = []; marked = unmarked_marked _ (second_walk c.before.before.before.before.before.before.before).unmarked })
 
 contains-requires : tie.Need-contains-requires invariant-loop decreases-loop invariant-loop2 decreases-loop2
 contains-requires c κs =
@@ -327,10 +327,10 @@ pool-marked-requires c κs =
     let at-loop = own.before.before.before.before.before.before in
     let w = second_walk at-loop in
     rw found.number-slot2.ensures
-    (met-standing (second-start-of at-loop).requires w (right_there own) (there met) (more-fresh w.unmarked m.mark-tags2.ensures))
+    (met_standing (second-start-of at-loop).requires w (right_there own) (there met) (more_fresh w.unmarked m.mark-tags2.ensures))
 
 loop2-less-2 : tie.Need-loop2-smaller-2 invariant-loop decreases-loop invariant-loop2 decreases-loop2
-loop2-less-2 c = read-less _ _ (read-second c.before.before.before.before.before.before.before.before.before.before.before.before.before.before.before.before)
+loop2-less-2 c = read_less _ _ (read-second c.before.before.before.before.before.before.before.before.before.before.before.before.before.before.before.before)
 
 loop2-again-2 : tie.Need-loop2-preserved-2 invariant-loop decreases-loop invariant-loop2 decreases-loop2
 loop2-again-2 c =
@@ -345,8 +345,8 @@ loop2-again-2 c =
     let o = pooled.pool-marked.ensures in
     λ n₀ e₀ i₀ start.
     let w = at-loop.loop2.invariant n₀ e₀ i₀ start in
-    second-walk-met ready w (right-here ready w (read-second told) (second-right-side own) (second-bytes at-loop)) (there met)
-    (more-fresh w.unmarked m.mark-tags2.ensures) (rw found.number-slot2.ensures at o.1) o.0
+    second_walk_met ready w (right-here ready w (read-second told) (second-right-side own) (second-bytes at-loop)) (there met)
+    (more_fresh w.unmarked m.mark-tags2.ensures) (rw found.number-slot2.ensures at o.1) o.0
 
 slice-aggregate-put-record : tie.Need-slice-aggregate-put-record invariant-loop decreases-loop invariant-loop2 decreases-loop2
 slice-aggregate-put-record c =
@@ -362,12 +362,12 @@ put-record-requires c κs =
     let at-loop = own.before.before.before.before.before.before in
     let w = second_walk at-loop in (
       fresh-wide (second-known own) w.unmarked m.mark-tags2.ensures,
-      rw (fresh-items (second-known own) w.unmarked m.mark-tags2.ensures)
-          (new-room (second-start-of at-loop).requires w (right_there own) (absent missed)),
+      rw (fresh_items (second-known own) w.unmarked m.mark-tags2.ensures)
+          (new_room (second-start-of at-loop).requires w (right_there own) (absent missed)),
     )
 
 loop2-less-3 : tie.Need-loop2-smaller-3 invariant-loop decreases-loop invariant-loop2 decreases-loop2
-loop2-less-3 c = read-less _ _ (read-second c.before.before.before.before.before.before.before.before.before.before.before.before.before.before.before.before.before.before.before.before)
+loop2-less-3 c = read_less _ _ (read-second c.before.before.before.before.before.before.before.before.before.before.before.before.before.before.before.before.before.before.before.before)
 
 loop2-again-3 : tie.Need-loop2-preserved-3 invariant-loop decreases-loop invariant-loop2 decreases-loop2
 loop2-again-3 c =
@@ -381,8 +381,8 @@ loop2-again-3 c =
     let o = put.put_record.ensures in
     λ n₀ e₀ i₀ start.
     let w = at-loop.loop2.invariant n₀ e₀ i₀ start in
-    second-walk-new ready w (right-here ready w (read-second told) (second-right-side own) (second-bytes at-loop)) (absent missed)
-    (rw (fresh-items (second-known own) w.unmarked m.mark-tags2.ensures) at o.1) o.0
+    second_walk_new ready w (right-here ready w (read-second told) (second-right-side own) (second-bytes at-loop)) (absent missed)
+    (rw (fresh_items (second-known own) w.unmarked m.mark-tags2.ensures) at o.1) o.0
 
 pub fill-right-spec : {M : Type 1} → statement M
 fill-right-spec =

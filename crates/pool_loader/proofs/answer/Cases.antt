@@ -11,25 +11,25 @@ use Rattle.tag_file.specs.declared.Repeats.{Repeats}
 use Rattle.tag_file.specs.declared.LoadAnswer.{LoadAnswer}
 use Rattle.tag_file.specs.declared.LoadAnswer.TheVariants as load
 use Rattle.tag_loader.specs.declared.lent_lists.LoadRoom.{LoadRoom}
-use Rattle.tag_loader.specs.lent_lists.LentLists.{hasRoom}
+use Rattle.tag_loader.specs.lent_lists.LentLists.{has_room}
 use Rattle.pool_loader.specs.answer.Deciding.{decided}
 
 module _ (answer : LoadAnswer) (long : Tested) (room : LoadRoom) {t : Loaded} {repeats : Repeats}
-    (is : answer ≡ load.Loaded t repeats) {b : Bool} (told : b ≡ hasRoom t room) where
+    (is : answer ≡ load.Loaded t repeats) {b : Bool} (told : b ≡ has_room t room) where
   abbrev here : LoadAnswer
   here = decided answer long room
 
-  pub decided-short : not b ≡ true → load.Refused ShortOutput ≡ here
-  decided-short f =
-      let short : hasRoom t room ≡ false = sym told ∙ not-true b f in
+  pub decided_short : not b ≡ true → load.Refused ShortOutput ≡ here
+  decided_short f =
+      let short : has_room t room ≡ false = sym told ∙ not-true b f in
       rw (is, short)
 
   module _ (enough : not b ≡ false) where
-    room-is : hasRoom t room ≡ true
-    room-is = sym told ∙ not-false b enough
+    room_is : has_room t room ≡ true
+    room_is = sym told ∙ not-false b enough
 
-    pub decided-long : {why : Refusal} → long ≡ Failed why → load.Refused why ≡ here
-    decided-long e = rw (is, room-is, e)
+    pub decided_long : {why : Refusal} → long ≡ Failed why → load.Refused why ≡ here
+    decided_long e = rw (is, room_is, e)
 
-    pub decided-loaded : long ≡ Passed → load.Loaded t repeats ≡ here
-    decided-loaded e = rw (is, room-is, e)
+    pub decided_loaded : long ≡ Passed → load.Loaded t repeats ≡ here
+    decided_loaded e = rw (is, room_is, e)

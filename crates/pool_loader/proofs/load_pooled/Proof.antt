@@ -1,16 +1,16 @@
 -- `pool_loader::load_pooled` meets its contract: by what goes on from the first file.
 use Prim.Native.Nat.{ℕ}
 use lib.ListN.{length-replicate}
-use Rattle.tag_index.specs.Index.{indexRoom}
+use Rattle.tag_index.specs.Index.{index_room}
 use Rattle.pool_loader.proofs.load_pooled.Statement.{statement}
 use Rattle.pool_loader.proofs.load_pooled.Tie as tie
 
 scan-first-requires : tie.Need-scan-first-requires
 scan-first-requires c κs =
     record {
-      heads-full = length-replicate {A = ℕ} indexRoom 0;
-      tails-full = length-replicate {A = ℕ} indexRoom 0;
-      ids-full = length-replicate {A = ℕ} indexRoom 0;
+      heads_full = length-replicate {A = ℕ} index_room 0;
+      tails_full = length-replicate {A = ℕ} index_room 0;
+      ids_full = length-replicate {A = ℕ} index_room 0;
     }
 
 pool-second-requires : tie.Need-pool-second-requires

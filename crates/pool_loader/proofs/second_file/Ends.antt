@@ -8,38 +8,38 @@ use Rattle.tag_file.specs.declared.Repeats.{Repeats}
 use Rattle.tag_file.specs.declared.LoadAnswer.{LoadAnswer}
 use Rattle.tag_file.specs.declared.LoadAnswer.TheVariants as load
 use Rattle.tag_file.specs.Loading.{Lists}
-use Rattle.pool_loader_spec.specs.Pooling.{pooledRecords, pooledAnswer, PooledCall}
+use Rattle.pool_loader_spec.specs.Pooling.{pooled_records, pooled_answer, PooledCall}
 use Rattle.pool_loader_spec.proofs.Answers.{answer-clears}
 use Rattle.tag_loader.specs.lent_lists.LentLists.{AllCleared}
 use Rattle.tag_loader.specs.Passes.{AllFilled}
 
 module _ (first second : List ℕ) (lent : Lists) where
-  pub call-refused : {after : Lists} {answer : LoadAnswer} (why : Refusal) → answer ≡ pooledAnswer first second lent
+  pub call_refused : {after : Lists} {answer : LoadAnswer} (why : Refusal) → answer ≡ pooled_answer first second lent
       → answer ≡ load.Refused why → AllCleared lent after → PooledCall first second lent after answer
-  call-refused why is e z =
+  call_refused why is e z =
       let told = sym is ∙ e in
       let zeros = answer-clears first second lent why told in
       record {
         answered = is;
-        tags = rw (told, zeros) z.tags-zero;
-        leftNumbers = rw (told, zeros) z.left.numbers-zero;
-        leftEnds = rw (told, zeros) z.left.ends-zero;
-        leftItems = rw (told, zeros) z.left.items-zero;
-        rightNumbers = rw (told, zeros) z.right.numbers-zero;
-        rightEnds = rw (told, zeros) z.right.ends-zero;
-        rightItems = rw (told, zeros) z.right.items-zero;
+        tags = rw (told, zeros) z.tags_zero;
+        left_numbers = rw (told, zeros) z.left.numbers_zero;
+        left_ends = rw (told, zeros) z.left.ends_zero;
+        left_items = rw (told, zeros) z.left.items_zero;
+        right_numbers = rw (told, zeros) z.right.numbers_zero;
+        right_ends = rw (told, zeros) z.right.ends_zero;
+        right_items = rw (told, zeros) z.right.items_zero;
       }
 
-  pub call-filled : {after : Lists} (total : Loaded) (repeats : Repeats) → pooledAnswer first second lent ≡ load.Loaded total repeats
-      → AllFilled (pooledRecords first second) lent after → PooledCall first second lent after (load.Loaded total repeats)
-  call-filled total repeats told f =
+  pub call_filled : {after : Lists} (total : Loaded) (repeats : Repeats) → pooled_answer first second lent ≡ load.Loaded total repeats
+      → AllFilled (pooled_records first second) lent after → PooledCall first second lent after (load.Loaded total repeats)
+  call_filled total repeats told f =
       record {
         answered = sym told;
-        tags = rw told f.tags-filled;
-        leftNumbers = rw told f.leftNumbers-filled;
-        leftEnds = rw told f.leftEnds-filled;
-        leftItems = rw told f.leftItems-filled;
-        rightNumbers = rw told f.rightNumbers-filled;
-        rightEnds = rw told f.rightEnds-filled;
-        rightItems = rw told f.rightItems-filled;
+        tags = rw told f.tags_filled;
+        left_numbers = rw told f.left_numbers_filled;
+        left_ends = rw told f.left_ends_filled;
+        left_items = rw told f.left_items_filled;
+        right_numbers = rw told f.right_numbers_filled;
+        right_ends = rw told f.right_ends_filled;
+        right_items = rw told f.right_items_filled;
       }

@@ -7,85 +7,85 @@ use Prim.Native.Nat.{ℕ, ◌<◌, ◌≤◌}
 use native.Mathlib.Omega.{arith}
 use lib.ListN.{length, get_or}
 use Rattle.lists.specs.Lists.{memb}
-use Rattle.sets.specs.Lent.{filledOver}
+use Rattle.sets.specs.Lent.{filled_over}
 use Rattle.sets.specs.declared.Side.{Side}
 use Rattle.sets.specs.declared.Side.TheVariants.{Left, Right}
-use Rattle.tag_file.specs.Format.{tagBytes}
-use Rattle.tag_file.specs.Records.{TagRecord, records, ofSide, allTags, tagTable, setsOfSide, items_of}
-use Rattle.tag_file.specs.Loading.{Lists, filled, numbersOf, endsFrom, endsOf, flatItems}
-use Rattle.tag_file.proofs.AnswerLaws.{RoomForEach, room-each}
-use Rattle.tag_file.proofs.ItemCount.{length-flatItems}
+use Rattle.tag_file.specs.Format.{tag_bytes}
+use Rattle.tag_file.specs.Records.{TagRecord, records, of_side, all_tags, tag_table, sets_of_side, items_of}
+use Rattle.tag_file.specs.Loading.{Lists, filled, numbers_of, ends_from, ends_of, flat_items}
+use Rattle.tag_file.proofs.AnswerLaws.{RoomForEach, room_each}
+use Rattle.tag_file.proofs.ItemCount.{length-flat_items}
 use Rattle.tag_file.proofs.Tables.{memb-collapse}
-use Rattle.pool_loader_spec.specs.Pooling.{pooledRecords}
-use Rattle.pool_loader_spec.proofs.SecondFaults.{second-once}
-use Rattle.pool_loader_spec.proofs.Sides.{left-pooled}
+use Rattle.pool_loader_spec.specs.Pooling.{pooled_records}
+use Rattle.pool_loader_spec.proofs.SecondFaults.{second_once}
+use Rattle.pool_loader_spec.proofs.Sides.{left_pooled}
 use Rattle.tag_index.specs.Index.{table_of, Sorted, Ranked}
 use Rattle.tag_loader.specs.fill.Fill.{FillReady}
-use Rattle.tag_loader.proofs.Rooms.{memb-side-tags}
-use Rattle.pool_scan.proofs.right_slots.Accepted.{once-accepted, short-accepted}
+use Rattle.tag_loader.proofs.Rooms.{memb_side_tags}
+use Rattle.pool_scan.proofs.right_slots.Accepted.{once_accepted, short_accepted}
 use Rattle.pool_fill.specs.Pool.{PoolFillReady}
 use Rattle.pool_loader.specs.second_file.Judging.{PoolFillable}
 
 module _ {first second heads tails ids : List ℕ} {n : ℕ} {used counts slots : List ℕ} {lent : Lists}
     (f : PoolFillable first second heads tails ids n used counts slots lent) where
   abbrev P : List TagRecord
-  P = pooledRecords first second
+  P = pooled_records first second
 
   each : RoomForEach (filled P) lent
-  each = room-each (filled P) lent f.room
+  each = room_each (filled P) lent f.room
 
-  pub sorted-here : Sorted heads tails n ids
-  sorted-here = subst (λ (k : ℕ). Sorted heads tails k ids) (sym f.count) f.taken.sorted
+  pub sorted_here : Sorted heads tails n ids
+  sorted_here = subst (λ (k : ℕ). Sorted heads tails k ids) (sym f.count) f.taken.sorted
 
-  table_here : table_of heads tails n ids ≡ tagTable P
+  table_here : table_of heads tails n ids ≡ tag_table P
   table_here = ap (λ (k : ℕ). table_of heads tails k ids) f.count ∙ f.taken.table
 
   -- ---- the tag table
 
-  pub tags-room : length (tagBytes (table_of heads tails n ids)) ≤ length lent.tags
-  tags-room = subst (λ (l : List ℕ). length (tagBytes l) ≤ length lent.tags) (sym table_here) each.tags
+  pub tags_room : length (tag_bytes (table_of heads tails n ids)) ≤ length lent.tags
+  tags_room = subst (λ (l : List ℕ). length (tag_bytes l) ≤ length lent.tags) (sym table_here) each.tags
 
-  pub tags-filled : (before : List ℕ) {after : List ℕ} → after ≡ filledOver (tagBytes (table_of heads tails n ids)) before
-      → after ≡ filledOver (tagBytes (tagTable P)) before
-  tags-filled before e = e ∙ ap (λ (t : List ℕ). filledOver (tagBytes t) before) table_here
+  pub tags_filled : (before : List ℕ) {after : List ℕ} → after ≡ filled_over (tag_bytes (table_of heads tails n ids)) before
+      → after ≡ filled_over (tag_bytes (tag_table P)) before
+  tags_filled before e = e ∙ ap (λ (t : List ℕ). filled_over (tag_bytes t) before) table_here
 
   -- ---- the left sets
 
-  lefts : ofSide Left (records first) ≡ ofSide Left P
-  lefts = sym (left-pooled (records first) (records second))
+  lefts : of_side Left (records first) ≡ of_side Left P
+  lefts = sym (left_pooled (records first) (records second))
 
-  left-numbers : numbersOf Left (records first) ≡ numbersOf Left P
-  left-numbers = ap (map (λ r. r.number)) lefts
+  left_numbers_lem : numbers_of Left (records first) ≡ numbers_of Left P
+  left_numbers_lem = ap (map (λ r. r.number)) lefts
 
-  left-sets : setsOfSide Left (table_of heads tails n ids) (records first) ≡ setsOfSide Left (tagTable P) P
-  left-sets =
+  left_sets : sets_of_side Left (table_of heads tails n ids) (records first) ≡ sets_of_side Left (tag_table P) P
+  left_sets =
       ap (λ (l : List TagRecord). map (λ r. items_of (table_of heads tails n ids) r.tags) l) lefts
-      ∙ ap (λ (t : List ℕ). setsOfSide Left t P) table_here
+      ∙ ap (λ (t : List ℕ). sets_of_side Left t P) table_here
 
-  held : (y : ℕ) → memb y (allTags P) ≡ true → memb y (table_of heads tails n ids) ≡ true
-  held y m = ap (memb y) table_here ∙ memb-collapse y (allTags P) ∙ m
+  held : (y : ℕ) → memb y (all_tags P) ≡ true → memb y (table_of heads tails n ids) ≡ true
+  held y m = ap (memb y) table_here ∙ memb-collapse y (all_tags P) ∙ m
 
   module _ {ranks : List ℕ} (ranked : Ranked n ids ranks) where
-    pub left-ready : FillReady first heads tails n ids ranks Left lent.leftNumbers lent.leftEnds lent.leftItems
-    left-ready =
-        let items = ap (λ (l : List (List ℕ)). length (flatten l)) left-sets in
+    pub left_ready : FillReady first heads tails n ids ranks Left lent.left_numbers lent.left_ends lent.left_items
+    left_ready =
+        let items = ap (λ (l : List (List ℕ)). length (flatten l)) left_sets in
         record {
-          sorted = sorted-here;
+          sorted = sorted_here;
           ranked = ranked;
           small = omega (arith, f.count, f.taken.limited.tags);
-          held = λ y m. held y (memb-side-tags Left P y (ap (λ (l : List TagRecord). memb y (allTags l)) (sym lefts) ∙ m));
-          few = omega (arith, items, length-flatItems Left P, f.taken.limited.left-entries);
-          for-numbers = omega (arith, ap length left-numbers, each.leftNumbers);
-          for-ends = omega (arith, ap (λ (l : List (List ℕ)). length (endsFrom 0 l)) left-sets, each.leftEnds);
-          for-items = omega (arith, items, each.leftItems);
+          held = λ y m. held y (memb_side_tags Left P y (ap (λ (l : List TagRecord). memb y (all_tags l)) (sym lefts) ∙ m));
+          few = omega (arith, items, length-flat_items Left P, f.taken.limited.left_entries);
+          for_numbers = omega (arith, ap length left_numbers_lem, each.left_numbers);
+          for_ends = omega (arith, ap (λ (l : List (List ℕ)). length (ends_from 0 l)) left_sets, each.left_ends);
+          for_items = omega (arith, items, each.left_items);
         }
 
-    pub right-ready : ((i : ℕ) → get_or first i 0 < 256)
-        → PoolFillReady first second heads tails n ids ranks used counts slots lent.rightNumbers lent.rightEnds lent.rightItems
-    right-ready byte =
-        let items = ap (λ (t : List ℕ). length (flatten (setsOfSide Right t P))) table_here in
+    pub right_ready : ((i : ℕ) → get_or first i 0 < 256)
+        → PoolFillReady first second heads tails n ids ranks used counts slots lent.right_numbers lent.right_ends lent.right_items
+    right_ready byte =
+        let items = ap (λ (t : List ℕ). length (flatten (sets_of_side Right t P))) table_here in
         record {
-          sorted = sorted-here;
+          sorted = sorted_here;
           ranked = ranked;
           small = omega (arith, f.count, f.taken.limited.tags);
           held = held;
@@ -93,37 +93,37 @@ module _ {first second heads tails ids : List ℕ} {n : ℕ} {used counts slots 
           counted = f.counted;
           size = f.size;
           words = f.words;
-          once = once-accepted first f.clean;
-          once-second = second-once (records first) (length first) second f.clean-second;
-          short = short-accepted first f.clean byte;
-          few = omega (arith, items, length-flatItems Right P, f.taken.limited.right-entries);
-          for-numbers = each.rightNumbers;
-          for-ends = omega (arith, ap (λ (t : List ℕ). length (endsFrom 0 (setsOfSide Right t P))) table_here, each.rightEnds);
-          for-items = omega (arith, items, each.rightItems);
+          once = once_accepted first f.clean;
+          once_second = second_once (records first) (length first) second f.clean_second;
+          short = short_accepted first f.clean byte;
+          few = omega (arith, items, length-flat_items Right P, f.taken.limited.right_entries);
+          for_numbers = each.right_numbers;
+          for_ends = omega (arith, ap (λ (t : List ℕ). length (ends_from 0 (sets_of_side Right t P))) table_here, each.right_ends);
+          for_items = omega (arith, items, each.right_items);
         }
 
   -- ---- what is filled over the index is what is filled over the table of both
 
-  pub left-numbers-filled : (before : List ℕ) {after : List ℕ} → after ≡ filledOver (numbersOf Left (records first)) before
-      → after ≡ filledOver (numbersOf Left P) before
-  left-numbers-filled before e = e ∙ ap (λ (l : List ℕ). filledOver l before) left-numbers
+  pub left_numbers_filled : (before : List ℕ) {after : List ℕ} → after ≡ filled_over (numbers_of Left (records first)) before
+      → after ≡ filled_over (numbers_of Left P) before
+  left_numbers_filled before e = e ∙ ap (λ (l : List ℕ). filled_over l before) left_numbers_lem
 
-  pub left-ends-filled : (before : List ℕ) {after : List ℕ}
-      → after ≡ filledOver (endsFrom 0 (setsOfSide Left (table_of heads tails n ids) (records first))) before
-      → after ≡ filledOver (endsOf Left P) before
-  left-ends-filled before e = e ∙ ap (λ (l : List (List ℕ)). filledOver (endsFrom 0 l) before) left-sets
+  pub left_ends_filled : (before : List ℕ) {after : List ℕ}
+      → after ≡ filled_over (ends_from 0 (sets_of_side Left (table_of heads tails n ids) (records first))) before
+      → after ≡ filled_over (ends_of Left P) before
+  left_ends_filled before e = e ∙ ap (λ (l : List (List ℕ)). filled_over (ends_from 0 l) before) left_sets
 
-  pub left-items-filled : (before : List ℕ) {after : List ℕ}
-      → after ≡ filledOver (flatten (setsOfSide Left (table_of heads tails n ids) (records first))) before
-      → after ≡ filledOver (flatItems Left P) before
-  left-items-filled before e = e ∙ ap (λ (l : List (List ℕ)). filledOver (flatten l) before) left-sets
+  pub left_items_filled : (before : List ℕ) {after : List ℕ}
+      → after ≡ filled_over (flatten (sets_of_side Left (table_of heads tails n ids) (records first))) before
+      → after ≡ filled_over (flat_items Left P) before
+  left_items_filled before e = e ∙ ap (λ (l : List (List ℕ)). filled_over (flatten l) before) left_sets
 
-  pub right-ends-filled : (before : List ℕ) {after : List ℕ}
-      → after ≡ filledOver (endsFrom 0 (setsOfSide Right (table_of heads tails n ids) P)) before
-      → after ≡ filledOver (endsOf Right P) before
-  right-ends-filled before e = e ∙ ap (λ (t : List ℕ). filledOver (endsFrom 0 (setsOfSide Right t P)) before) table_here
+  pub right_ends_filled : (before : List ℕ) {after : List ℕ}
+      → after ≡ filled_over (ends_from 0 (sets_of_side Right (table_of heads tails n ids) P)) before
+      → after ≡ filled_over (ends_of Right P) before
+  right_ends_filled before e = e ∙ ap (λ (t : List ℕ). filled_over (ends_from 0 (sets_of_side Right t P)) before) table_here
 
-  pub right-items-filled : (before : List ℕ) {after : List ℕ}
-      → after ≡ filledOver (flatten (setsOfSide Right (table_of heads tails n ids) P)) before
-      → after ≡ filledOver (flatItems Right P) before
-  right-items-filled before e = e ∙ ap (λ (t : List ℕ). filledOver (flatten (setsOfSide Right t P)) before) table_here
+  pub right_items_filled : (before : List ℕ) {after : List ℕ}
+      → after ≡ filled_over (flatten (sets_of_side Right (table_of heads tails n ids) P)) before
+      → after ≡ filled_over (flat_items Right P) before
+  right_items_filled before e = e ∙ ap (λ (t : List ℕ). filled_over (flatten (sets_of_side Right t P)) before) table_here

@@ -2,22 +2,22 @@
 use Rattle.std.proofs.Common.{◌≡◌, ℕ, ◌+◌, ◌*◌, ◌<◌, ◌≤◌, eqb, List, length, get_or, set, sym, ap, ◌∙◌, arith, length-set, get_or-set_other, get_or-set_same, eqb-true}
 use borrow.Author.Tests.{eqb-false}
 use Rattle.lists.specs.Lists.{count, range, upto}
-use Rattle.lists.proofs.Bools.{by-test}
-use Rattle.lists.proofs.Counting.{count-bound}
+use Rattle.lists.proofs.Bools.{by_test}
+use Rattle.lists.proofs.Counting.{count_bound}
 use Rattle.lists.proofs.Ranges.{length-range}
 use Rattle.bit_sets.specs.BitSets.{bit_at, member}
-use Rattle.sets.specs.Limits.{maxSets, halfWords}
-use Rattle.pool_scan.specs.right_slots.Slots.{numberWords, blockLength, blocks, numberSlot, BlocksCounted}
-use Rattle.pool_scan.proofs.right_slots.Counted.{slot-add, slot-start, slot-rising, word_ones}
+use Rattle.sets.specs.Limits.{max_sets, half_words}
+use Rattle.pool_scan.specs.right_slots.Slots.{number_words, block_length, blocks, number_slot, BlocksCounted}
+use Rattle.pool_scan.proofs.right_slots.Counted.{slot_add, slot_start, slot_rising, word_ones}
 
 -- a block's members, word by word
 pub block_words : (used : List ℕ) (b first second : ℕ)
     → first ≡ count (bit_at (get_or used (2 * b) 0)) (upto 64) → second ≡ count (bit_at (get_or used (2 * b + 1) 0)) (upto 64)
-    → first + second ≡ count (member used) (range (blockLength * b) blockLength)
+    → first + second ≡ count (member used) (range (block_length * b) block_length)
 block_words used b first second is-first is-second =
-    let low : 64 * (2 * b) ≡ blockLength * b = omega arith in
-    let mid : blockLength * b + 64 ≡ 64 * (2 * b + 1) = omega arith in
-    let end : blockLength * b + 64 + 64 ≡ blockLength * b + blockLength = omega arith in
+    let low : 64 * (2 * b) ≡ block_length * b = omega arith in
+    let mid : block_length * b + 64 ≡ 64 * (2 * b + 1) = omega arith in
+    let end : block_length * b + 64 + 64 ≡ block_length * b + block_length = omega arith in
     omega (
       arith,
       is-first,
@@ -26,50 +26,50 @@ block_words used b first second is-first is-second =
       word_ones used (2 * b + 1) 64 (omega arith),
       ap (λ (k : ℕ). count (member used) (range k 64)) low,
       ap (λ (k : ℕ). count (member used) (range k 64)) mid,
-      slot-add used (blockLength * b) 64,
-      slot-add used (blockLength * b + 64) 64,
-      ap (numberSlot used) end,
-      slot-add used (blockLength * b) blockLength,
+      slot_add used (block_length * b) 64,
+      slot_add used (block_length * b + 64) 64,
+      ap (number_slot used) end,
+      slot_add used (block_length * b) block_length,
     )
 
-pub block-few : (used : List ℕ) (b r : ℕ) → r ≡ count (member used) (range (blockLength * b) blockLength) → r ≤ blockLength
-block-few used b r is =
-    omega (arith, is, count-bound (member used) (range (blockLength * b) blockLength), length-range (blockLength * b) blockLength)
+pub block_few : (used : List ℕ) (b r : ℕ) → r ≡ count (member used) (range (block_length * b) block_length) → r ≤ block_length
+block_few used b r is =
+    omega (arith, is, count_bound (member used) (range (block_length * b) block_length), length-range (block_length * b) block_length)
 
 -- the blocks before b have their counts, and total is that of b
 pub record Counting (used counts : List ℕ) (total b : ℕ) : Type 0 where
   pub size : length counts ≡ blocks
   pub within : b ≤ blocks
-  pub sum : total ≡ numberSlot used (blockLength * b)
-  pub done : (j : ℕ) → j < b → get_or counts j 0 ≡ numberSlot used (blockLength * j)
+  pub sum : total ≡ number_slot used (block_length * b)
+  pub done : (j : ℕ) → j < b → get_or counts j 0 ≡ number_slot used (block_length * j)
 
-pub counting-start : (used counts : List ℕ) → length counts ≡ blocks → Counting used counts 0 0
-counting-start used counts long =
-    record { size = long; within = omega arith; sum = sym (slot-start used); done = λ j h. absurd (omega arith) }
+pub counting_start : (used counts : List ℕ) → length counts ≡ blocks → Counting used counts 0 0
+counting_start used counts long =
+    record { size = long; within = omega arith; sum = sym (slot_start used); done = λ j h. absurd (omega arith) }
 
 module _ {used counts : List ℕ} {total b : ℕ} (w : Counting used counts total b) where
-  pub counting-bound : numberSlot used halfWords ≤ maxSets → total ≤ maxSets
-  counting-bound few = omega (arith, w.sum, few, slot-rising used (blockLength * b) halfWords (omega (arith, w.within)))
+  pub counting_bound : number_slot used half_words ≤ max_sets → total ≤ max_sets
+  counting_bound few = omega (arith, w.sum, few, slot_rising used (block_length * b) half_words (omega (arith, w.within)))
 
-  pub counting-step : (r : ℕ) → b < blocks → r ≡ count (member used) (range (blockLength * b) blockLength)
+  pub counting_step : (r : ℕ) → b < blocks → r ≡ count (member used) (range (block_length * b) block_length)
       → Counting used (set counts b total) (total + r) (b + 1)
-  counting-step r below is =
-      let next : blockLength * b + blockLength ≡ blockLength * (b + 1) = omega arith in
+  counting_step r below is =
+      let next : block_length * b + block_length ≡ block_length * (b + 1) = omega arith in
       record {
         size = length-set counts b total ∙ w.size;
         within = omega arith;
-        sum = omega (arith, w.sum, is, slot-add used (blockLength * b) blockLength, ap (numberSlot used) next);
-        done = λ j h. by-test (eqb j b) (λ t. this j (eqb-true j b t)) (λ t. other j h (eqb-false j b t));
+        sum = omega (arith, w.sum, is, slot_add used (block_length * b) block_length, ap (number_slot used) next);
+        done = λ j h. by_test (eqb j b) (λ t. this j (eqb-true j b t)) (λ t. other j h (eqb-false j b t));
       }
     where
-      this : (j : ℕ) → j ≡ b → get_or (set counts b total) j 0 ≡ numberSlot used (blockLength * j)
+      this : (j : ℕ) → j ≡ b → get_or (set counts b total) j 0 ≡ number_slot used (block_length * j)
       this j e =
           ap (λ (k : ℕ). get_or (set counts b total) k 0) e
           ∙ get_or-set_same counts b total 0 (omega (arith, w.size)) ∙ w.sum
-          ∙ ap (λ (k : ℕ). numberSlot used (blockLength * k)) (sym e)
+          ∙ ap (λ (k : ℕ). number_slot used (block_length * k)) (sym e)
 
-      other : (j : ℕ) → j < b + 1 → (j ≡ b → ⊥) → get_or (set counts b total) j 0 ≡ numberSlot used (blockLength * j)
+      other : (j : ℕ) → j < b + 1 → (j ≡ b → ⊥) → get_or (set counts b total) j 0 ≡ number_slot used (block_length * j)
       other j h ne = get_or-set_other counts b j total 0 ne ∙ w.done j (omega arith)
 
-  pub counting-end : length used ≡ numberWords → blocks ≤ b → BlocksCounted used counts
-  counting-end wide past = record { wide = wide; size = w.size; at = λ j h. w.done j (omega (arith, w.within)) }
+  pub counting_end : length used ≡ number_words → blocks ≤ b → BlocksCounted used counts
+  counting_end wide past = record { wide = wide; size = w.size; at = λ j h. w.done j (omega (arith, w.within)) }

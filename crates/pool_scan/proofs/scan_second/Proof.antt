@@ -3,21 +3,21 @@
 -- many bytes are left.
 use Rattle.std.proofs.Common.{◌≡◌, ℕ, ◌-◌, ◌<◌, ◌≤◌, true, false, length, get_or, sym, ap, ◌∙◌, arith}
 use Rattle.bit_sets.specs.BitSets.{member}
-use Rattle.sets.specs.Limits.{maxSetLength, halfWords}
+use Rattle.sets.specs.Limits.{max_set_length, half_words}
 use Rattle.sets.specs.declared.Refusal.TheVariants.{Malformed, NumberUsed, TooMany}
 use Rattle.sets.specs.declared.Side.TheVariants.{Right}
 use Rattle.tag_file.specs.declared.LoadAnswer.TheVariants as load
 use Rattle.tag_file.specs.declared.ReadAnswer.TheVariants.{Record}
 use Rattle.tag_file.specs.Reading.{readAt}
-use Rattle.tag_file.specs.Records.{sameSide}
-use Rattle.tag_file.proofs.Ended.{no-records}
-use Rattle.tag_file.proofs.RecordLaws.{read-less, read_number, read_count}
+use Rattle.tag_file.specs.Records.{same_side}
+use Rattle.tag_file.proofs.Ended.{no_records}
+use Rattle.tag_file.proofs.RecordLaws.{read_less, read_number, read_count}
 use Rattle.pool_scan.specs.declared.counting.Counted.{Counted}
-use Rattle.pool_scan.specs.counting.Counting.{countedBy}
-use Rattle.pool_scan.proofs.Passing.{Passing, overOf, passing-by, passing-start, passing-whole, passing-cut, passing-left, passing-used}
-use Rattle.pool_scan.proofs.Passing.{passing-repeats, passing-past, passing-next}
-use Rattle.pool_scan.proofs.Step.{step-ready, step-bounds, stepped}
-use Rattle.pool_scan.proofs.Words.{noted-start}
+use Rattle.pool_scan.specs.counting.Counting.{counted_by}
+use Rattle.pool_scan.proofs.Passing.{Passing, over_of, passing-by, passing_start, passing_whole, passing_cut, passing_left, passing_used}
+use Rattle.pool_scan.proofs.Passing.{passing_repeats, passing_past, passing_next}
+use Rattle.pool_scan.proofs.Step.{step-ready, step_bounds, stepped}
+use Rattle.pool_scan.proofs.Words.{noted_start}
 use Rattle.pool_scan.proofs.scan_second.Statement.{statement}
 use Rattle.pool_scan.proofs.scan_second.Tie as tie
 
@@ -41,10 +41,10 @@ read : (a : tie.After-answer invariant-loop decreases-loop)
     ≡ Record r.0 r.1.0 r.1.1.0 r.1.1.1.0 r.1.1.1.1.0
 read a = sym a.before.before.before.read-record.ensures ∙ a.answer.given.1
 
-small : (a : tie.After-answer invariant-loop decreases-loop) → a.answer.given.0.1.0 < halfWords
+small : (a : tie.After-answer invariant-loop decreases-loop) → a.answer.given.0.1.0 < half_words
 small a = read_number _ _ (read a) (λ i. (a.before.before.before.before.before.before.before.before.before.shared-slice-known2.given i).fits)
 
-few : (a : tie.After-answer invariant-loop decreases-loop) → a.answer.given.0.1.1.0 ≤ maxSetLength
+few : (a : tie.After-answer invariant-loop decreases-loop) → a.answer.given.0.1.1.0 ≤ max_set_length
 few a = read_count _ _ (read a) (λ i. (a.before.before.before.before.before.before.before.before.before.shared-slice-known2.given i).fits)
 
 -- at a right set whose number is new: the record, and the turn of the loop
@@ -55,10 +55,10 @@ abbrev turn : tie.Else3 invariant-loop decreases-loop → tie.At-loop invariant-
 turn e = (answered e).before.before.before.before
 
 -- it is of the right side
-right : (a : tie.Then2 invariant-loop decreases-loop) → sameSide Right a.before.before.before.answer.given.0.0 ≡ true
+right : (a : tie.Then2 invariant-loop decreases-loop) → same_side Right a.before.before.before.answer.given.0.0 ≡ true
 right a = sym a.before.is-side.ensures ∙ a.if2.true
 
-right-here : (e : tie.Else3 invariant-loop decreases-loop) → sameSide Right (answered e).answer.given.0.0 ≡ true
+right-here : (e : tie.Else3 invariant-loop decreases-loop) → same_side Right (answered e).answer.given.0.0 ≡ true
 right-here e = right e.before.before.before.before
 
 -- the same, once its tags were taken in
@@ -79,7 +79,7 @@ count-from-requires c κs = tt
 loop-holds : tie.Need-loop-init invariant-loop decreases-loop
 loop-holds c =
     let s = c.before.before.before.before.before.before in
-    passing-by c.count-from.ensures (passing-start s.requires noted-start)
+    passing-by c.count-from.ensures (passing_start s.requires noted_start)
 
 read-record-requires : tie.Need-read-record-requires invariant-loop decreases-loop
 read-record-requires c κs = tt
@@ -100,8 +100,8 @@ returns : tie.Need-returns invariant-loop decreases-loop
 returns c =
     let a = c.before.before.before.before.before in
     let read = c.before.before.before.before.read-record in
-    let stop = no-records (called a).args.second.now a.loop.at read.result (sym read.ensures) c.before.before.match.keys2 in
-    passing-whole a.loop.invariant stop c.before.if1.true c.accepted.ensures
+    let stop = no_records (called a).args.second.now a.loop.at read.result (sym read.ensures) c.before.before.match.keys2 in
+    passing_whole a.loop.invariant stop c.before.if1.true c.accepted.ensures
 
 refused-requires : tie.Need-refused-requires invariant-loop decreases-loop
 refused-requires c κs = tt
@@ -113,8 +113,8 @@ returns-2 : tie.Need-returns-2 invariant-loop decreases-loop
 returns-2 c =
     let a = c.before.before.before.before.before in
     let read = c.before.before.before.before.read-record in
-    let stop = no-records (called a).args.second.now a.loop.at read.result (sym read.ensures) c.before.before.match.keys2 in
-    passing-cut a.loop.invariant stop c.before.if1.false
+    let stop = no_records (called a).args.second.now a.loop.at read.result (sym read.ensures) c.before.before.match.keys2 in
+    passing_cut a.loop.invariant stop c.before.if1.false
     (c.refused.ensures ∙ ap (λ (k : ℕ). load.Refused (Malformed k)) c.before.before.before.wrapping-add-usize.ensures)
 
 is-side-requires : tie.Need-is-side-requires invariant-loop decreases-loop
@@ -136,7 +136,7 @@ returns-3 : tie.Need-returns-3 invariant-loop decreases-loop
 returns-3 c =
     let a = c.before.before.before.before.before.before.before.before in
     let l = a.before.before.before.before.loop in
-    passing-used l.invariant (read a) (right c.before.before.before.before.before) (small a) (sym c.before.before.before.claim.ensures.before ∙ c.before.if3.true) l.invariant.size
+    passing_used l.invariant (read a) (right c.before.before.before.before.before) (small a) (sym c.before.before.before.claim.ensures.before ∙ c.before.if3.true) l.invariant.size
     (c.refused2.ensures ∙ ap (λ (k : ℕ). load.Refused (NumberUsed k)) a.before.before.wrapping-add-usize.ensures)
 
 unite-requires : tie.Need-unite-requires invariant-loop decreases-loop
@@ -153,9 +153,9 @@ count-set-requires c κs =
     let s = called (turn e) in
     let inv = (turn e).loop.inv in
     let taking = u.unite.ensures in
-    let bounds = step-bounds s.pre (bytes e) inv (read a) (right-here e) (small a) (free e) taking in
+    let bounds = step_bounds s.pre (bytes e) inv (read a) (right-here e) (small a) (free e) taking in
     let one = stepped s.pre (bytes e) inv (read a) (right-here e) (small a) (free e) taking in
-    let more = passing-repeats inv (read a) one.distinct (omega (arith, s.good.0)) (omega (arith, s.good.1.0)) in
+    let more = passing_repeats inv (read a) one.distinct (omega (arith, s.good.0)) (omega (arith, s.good.1.0)) in
     record {
       limited = inv.taken.limited;
       less = bounds.0;
@@ -187,12 +187,12 @@ returns-4 c =
     let s = called (turn e) in
     let inv = (turn e).loop.inv in
     let one = stepped s.pre (bytes e) inv (read a) (right-here e) (small a) (free e) u.unite.ensures in
-    passing-past inv (read a) (right-here e) (small a) (free e) u.unite.result one.one one.size
-    (sym (ap (λ (k : Counted). overOf k.total) c.before.before.before.before.count_set.ensures) ∙ sym c.before.before.is-past.ensures ∙ c.before.if4.true)
+    passing_past inv (read a) (right-here e) (small a) (free e) u.unite.result one.one one.size
+    (sym (ap (λ (k : Counted). over_of k.total) c.before.before.before.before.count_set.ensures) ∙ sym c.before.before.is-past.ensures ∙ c.before.if4.true)
     (c.refused3.ensures ∙ ap (λ (k : ℕ). load.Refused (TooMany k)) a.before.before.wrapping-add-usize.ensures)
 
 loop-less : tie.Need-loop-smaller invariant-loop decreases-loop
-loop-less c = read-less _ _ (read (answered (taken c.before.before.before.before.before.before)))
+loop-less c = read_less _ _ (read (answered (taken c.before.before.before.before.before.before)))
 
 loop-again : tie.Need-loop-preserved invariant-loop decreases-loop
 loop-again c =
@@ -204,16 +204,16 @@ loop-again c =
     let set = c.before.before.before.count_set.ensures in
     let one = stepped s.pre (bytes e) inv (read a) (right-here e) (small a) (free e) u.unite.ensures in
     passing-by
-    (set ∙ ap (countedBy (turn e).loop.counted u.unite.result a.answer.given.0.1.1.0) a.before.before.wrapping-add-usize.ensures)
-    (passing-next inv (read a) (right-here e) (small a) (free e) u.unite.result one.one one.size
-    (sym (ap (λ (k : Counted). overOf k.total) set) ∙ sym c.before.is-past.ensures ∙ c.if4.false)
+    (set ∙ ap (counted_by (turn e).loop.counted u.unite.result a.answer.given.0.1.1.0) a.before.before.wrapping-add-usize.ensures)
+    (passing_next inv (read a) (right-here e) (small a) (free e) u.unite.result one.one one.size
+    (sym (ap (λ (k : Counted). over_of k.total) set) ∙ sym c.before.is-past.ensures ∙ c.if4.false)
     e.before.before.claim.ensures.noted one.distinct one.words one.is one.counted)
 
 loop-less-2 : tie.Need-loop-smaller-2 invariant-loop decreases-loop
-loop-less-2 c = read-less _ _ (read c.before.before.before)
+loop-less-2 c = read_less _ _ (read c.before.before.before)
 
 loop-again-2 : tie.Need-loop-preserved-2 invariant-loop decreases-loop
-loop-again-2 c = passing-left c.before.before.before.before.before.before.before.loop.invariant (read c.before.before.before) (sym c.before.is-side.ensures ∙ c.if2.false)
+loop-again-2 c = passing_left c.before.before.before.before.before.before.before.loop.invariant (read c.before.before.before) (sym c.before.is-side.ensures ∙ c.if2.false)
 
 pub scan-second-spec : {M : Type 1} → statement M
 scan-second-spec =

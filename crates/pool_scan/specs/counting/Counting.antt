@@ -1,24 +1,24 @@
 -- Inner: what is counted over the second of two pooled files, from the first file's counts on, and what is answered at its end.
 use Rattle.std.specs.Prelude.{ℕ, ◌+◌, ◌-◌, ◌<◌, ◌≤◌, Bool, true, false, nat_lt}
-use Rattle.sets.specs.Limits.{maxSetLength}
-use Rattle.sets.specs.Refusals.{refuseIf, unless}
+use Rattle.sets.specs.Limits.{max_set_length}
+use Rattle.sets.specs.Refusals.{refuse_if, unless}
 use Rattle.sets.specs.declared.Refusal.TheVariants.{Overlong}
 use Rattle.sets.specs.declared.Tested.TheVariants.{Passed, Failed}
 use Rattle.tag_file.specs.declared.Loaded.{Loaded}
 use Rattle.tag_file.specs.declared.Repeats.{Repeats}
 use Rattle.tag_file.specs.declared.LoadAnswer.TheVariants as load
-use Rattle.tag_scan.specs.totals.Totals.{wordNumbers, Limited}
+use Rattle.tag_scan.specs.totals.Totals.{word_numbers, Limited}
 use Rattle.pool_scan.specs.declared.union.United.{United}
 use Rattle.pool_scan.specs.declared.counting.Counted.{Counted}
 use Rattle.pool_scan.specs.declared.counting.Second.{Second}
 
 -- before the second file: the first file's counts and repeats, and no set that is too long
-abbrev pub countedFrom : Loaded → Repeats → Counted
-countedFrom before found = record { total = before; repeats = found; long = Passed }
+abbrev pub counted_from : Loaded → Repeats → Counted
+counted_from before found = record { total = before; repeats = found; long = Passed }
 
 -- the counts with one more right set of the second file
-abbrev pub unitedBy : Loaded → United → Bool → Loaded
-unitedBy t u true =
+abbrev pub united_by : Loaded → United → Bool → Loaded
+united_by t u true =
     record {
       left_sets = t.left_sets;
       right_sets = t.right_sets;
@@ -26,7 +26,7 @@ unitedBy t u true =
       right_entries = t.right_entries + (u.all - u.first);
       tag_count = u.tag_count;
     }
-unitedBy t u false =
+united_by t u false =
     record {
       left_sets = t.left_sets;
       right_sets = t.right_sets + 1;
@@ -36,22 +36,22 @@ unitedBy t u false =
     }
 
 -- with one more right set of the second file, of so many tags, whose record is at a place
-abbrev pub countedBy : Counted → United → ℕ → ℕ → Counted
-countedBy c u count place =
+abbrev pub counted_by : Counted → United → ℕ → ℕ → Counted
+counted_by c u count place =
     record {
-      total = unitedBy c.total u u.met;
+      total = united_by c.total u u.met;
       repeats = record { left = c.repeats.left; right = c.repeats.right + (count - u.second) };
-      long = unless Failed c.long (refuseIf (nat_lt maxSetLength u.all) (Overlong place));
+      long = unless Failed c.long (refuse_if (nat_lt max_set_length u.all) (Overlong place));
     }
 
 -- its counts fit
 pub record CountReady (c : Counted) (u : United) (count : ℕ) : Type 0 where
   pub limited : Limited c.total
   pub less : u.first ≤ u.all
-  pub few : u.all ≤ maxSetLength + maxSetLength
+  pub few : u.all ≤ max_set_length + max_set_length
   pub distinct : u.second ≤ count
-  pub fits : c.repeats.right + (count - u.second) < wordNumbers
+  pub fits : c.repeats.right + (count - u.second) < word_numbers
 
 -- the answer at the end of a file without fault
-abbrev pub acceptedBy : Counted → Second
-acceptedBy c = record { answer = load.Loaded c.total c.repeats; long = c.long }
+abbrev pub accepted_by : Counted → Second
+accepted_by c = record { answer = load.Loaded c.total c.repeats; long = c.long }

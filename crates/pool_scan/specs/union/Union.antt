@@ -2,13 +2,13 @@
 use Rattle.std.specs.Prelude.{◌≡◌, ℕ, ◌+◌, ◌<◌, ◌≤◌, true, false, List, [], ◌++◌, length, set, slice_index, slice_set}
 use Rattle.lists.specs.Lists.{memb}
 use Rattle.bit_sets.specs.BitSets.{member}
-use Rattle.sets.specs.Limits.{maxItems, maxSets, maxSetLength, halfWords}
+use Rattle.sets.specs.Limits.{max_items, max_sets, max_set_length, half_words}
 use Rattle.sets.specs.declared.Side.{Side}
 use Rattle.tag_file.specs.declared.ReadAnswer.TheVariants.{Record}
-use Rattle.tag_file.specs.Reading.{readAt, pastTags, tagsAt}
-use Rattle.tag_file.specs.Records.{insertAll, collapse}
+use Rattle.tag_file.specs.Reading.{read_at, past_tags, tags_at}
+use Rattle.tag_file.specs.Records.{insert_all, collapse}
 use Rattle.tag_index.specs.Index.{table_of, Sorted}
-use Rattle.pool_scan.specs.right_slots.Slots.{numberWords, numberSlot, BlocksCounted, pooledMark}
+use Rattle.pool_scan.specs.right_slots.Slots.{number_words, number_slot, BlocksCounted, pooled_mark}
 use Rattle.pool_scan.specs.declared.union.United.{United}
 
 -- a whole record is at a place, with so many tags from a place on
@@ -16,47 +16,47 @@ pub record WholeRecordAt (file : List ℕ) (at count start : ℕ) : Type 0 where
   pub side : Side
   pub number : ℕ
   pub next : ℕ
-  pub read : readAt file at ≡ Record side number count start next
+  pub read : read_at file at ≡ Record side number count start next
 
 -- there is one, and the index has its tags
 pub record KnownRecordAt (file : List ℕ) (at : ℕ) (table : List ℕ) : Type 0 where
   pub count : ℕ
   pub start : ℕ
   pub there : WholeRecordAt file at count start
-  pub known : (y : ℕ) → memb y (tagsAt count file start) ≡ true → memb y table ≡ true
+  pub known : (y : ℕ) → memb y (tags_at count file start) ≡ true → memb y table ≡ true
 
 -- the index has n tags, with room for those of a record
 pub record IndexReady (heads tails : List ℕ) (n : ℕ) (ids : List ℕ) : Type 0 where
   pub sorted : Sorted heads tails n ids
-  pub small : n ≤ maxItems
+  pub small : n ≤ max_items
 
 -- a record's tags are within its file, and not too many
 pub record TagsInside (file : List ℕ) (start count : ℕ) : Type 0 where
-  pub inside : pastTags start count ≤ length file
-  pub few : count ≤ maxSetLength
+  pub inside : past_tags start count ≤ length file
+  pub few : count ≤ max_set_length
 
 -- a record of the second file whose tags are to be taken in: if its number is in the first file, its slot has the place of the record
 -- there
 pub record UniteReady (first second : List ℕ) (number start count n : ℕ) (heads tails ids used counts slots : List ℕ) : Type 0 where
   pub index : IndexReady heads tails n ids
-  pub tags-inside : TagsInside second start count
-  pub wide : length used ≡ numberWords
-  pub small : number < halfWords
+  pub tags_inside : TagsInside second start count
+  pub wide : length used ≡ number_words
+  pub small : number < half_words
   pub counted : BlocksCounted used counts
-  pub size : length slots ≡ maxSets
-  pub slot : member used number ≡ true → numberSlot used number < maxSets
-  pub there : member used number ≡ true → KnownRecordAt first (slice_index slots (numberSlot used number)) (table_of heads tails n ids)
+  pub size : length slots ≡ max_sets
+  pub slot : member used number ≡ true → number_slot used number < max_sets
+  pub there : member used number ≡ true → KnownRecordAt first (slice_index slots (number_slot used number)) (table_of heads tails n ids)
 
 -- the tags of a set were taken in: new ones that are `tags`, behind those `own` of the first file
 pub record TakenIn (own new heads tails : List ℕ) (n : ℕ) (ids : List ℕ) (r : United)
     (now-heads now-tails now-ids : List ℕ) : Type 0 where
   pub sorted : Sorted now-heads now-tails r.tag_count now-ids
-  pub table : table_of now-heads now-tails r.tag_count now-ids ≡ insertAll (table_of heads tails n ids) new
-  pub own-counted : r.first ≡ length (collapse own)
-  pub new-counted : r.second ≡ length (collapse new)
-  pub all-counted : r.all ≡ length (collapse (own ++ new))
+  pub table : table_of now-heads now-tails r.tag_count now-ids ≡ insert_all (table_of heads tails n ids) new
+  pub own_counted : r.first ≡ length (collapse own)
+  pub new_counted : r.second ≡ length (collapse new)
+  pub all_counted : r.all ≡ length (collapse (own ++ new))
   pub less : r.first ≤ r.all
-  pub few : r.all ≤ maxSetLength + maxSetLength
+  pub few : r.all ≤ max_set_length + max_set_length
 
 -- by themselves
 pub record AddedAlone (new heads tails : List ℕ) (n : ℕ) (ids : List ℕ) (r : United) (now-heads now-tails now-ids : List ℕ)
@@ -68,17 +68,17 @@ pub record AddedAlone (new heads tails : List ℕ) (n : ℕ) (ids : List ℕ) (r
 pub record AddedBoth (first : List ℕ) (at : ℕ) (new heads tails : List ℕ) (n : ℕ) (ids : List ℕ) (r : United)
     (now-heads now-tails now-ids : List ℕ) : Type 0 where
   pub taken : (count start : ℕ) → WholeRecordAt first at count start
-      → TakenIn (tagsAt count first start) new heads tails n ids r now-heads now-tails now-ids
+      → TakenIn (tags_at count first start) new heads tails n ids r now-heads now-tails now-ids
   pub told : r.met ≡ true
-  pub few : r.all ≤ maxSetLength + maxSetLength
+  pub few : r.all ≤ max_set_length + max_set_length
 
 -- those of a record of the second file: pooled with the record of its slot, or alone
 pub record Taking (first second : List ℕ) (number start count n : ℕ) (heads tails ids used slots : List ℕ) (r : United)
     (now-heads now-tails now-ids now-slots : List ℕ) : Type 0 where
   pub told : r.met ≡ member used number
   pub alone : member used number ≡ false
-      → TakenIn [] (tagsAt count second start) heads tails n ids r now-heads now-tails now-ids
+      → TakenIn [] (tags_at count second start) heads tails n ids r now-heads now-tails now-ids
   pub kept : member used number ≡ false → now-slots ≡ slots
-  pub met : member used number ≡ true → (c p : ℕ) → WholeRecordAt first (slice_index slots (numberSlot used number)) c p
-      → TakenIn (tagsAt c first p) (tagsAt count second start) heads tails n ids r now-heads now-tails now-ids
-  pub noted : member used number ≡ true → now-slots ≡ slice_set slots (numberSlot used number) (pooledMark + r.all)
+  pub met : member used number ≡ true → (c p : ℕ) → WholeRecordAt first (slice_index slots (number_slot used number)) c p
+      → TakenIn (tags_at c first p) (tags_at count second start) heads tails n ids r now-heads now-tails now-ids
+  pub noted : member used number ≡ true → now-slots ≡ slice_set slots (number_slot used number) (pooled_mark + r.all)

@@ -7,7 +7,7 @@ use native.Mathlib.Omega.{arith}
 use borrow.Author.Rules.{rules}
 use Rattle.lists.specs.Lists.{one}
 use Rattle.record_reader.specs.Chains.{TagThere}
-use Rattle.record_reader.proofs.Counting.{Counted, counted_start, counted_step, counted-end}
+use Rattle.record_reader.proofs.Counting.{Counted, counted_start, counted_step, counted_end}
 use Rattle.record_reader.proofs.count_repeats.Statement.{statement}
 use Rattle.record_reader.proofs.count_repeats.Tie as tie
 
@@ -44,7 +44,7 @@ loop-again c =
     (⊎_elim (λ w. omega (arith, w.1, ap one w.0.taken)) (λ w. omega (arith, w.1, ap one w.0.left)) c.if1.branch)
 
 returns : tie.Need-returns invariant-loop decreases-loop
-returns c = counted-end c.before.loop.invariant c.loop-test.false
+returns c = counted_end c.before.loop.invariant c.loop-test.false
 
 pub count-repeats-spec : {M : Type 1} → statement M
 count-repeats-spec =

@@ -4,7 +4,7 @@ use mathlib.Core.Path.{sym, ◌∙◌}
 use borrow.Author.Tests.{eqb-true, eqb-false}
 use native.Mathlib.Omega.{arith}
 use borrow.Author.Rules.{rules}
-use Rattle.record_reader.proofs.Walking.{Walked, walked_start, walked-less, walked_step, walked-found, walked_end}
+use Rattle.record_reader.proofs.Walking.{Walked, walked_start, walked_less, walked_step, walked_found, walked_end}
 use Rattle.record_reader.proofs.is_repeat.Statement.{statement}
 use Rattle.record_reader.proofs.is_repeat.Tie as tie
 
@@ -22,7 +22,7 @@ returns c =
     let there = c.before.before in
     let test = there.before in
     let at-loop = test.before in
-    walked-found at-loop.loop.invariant (omega (arith, test.loop-test.true))
+    walked_found at-loop.loop.invariant (omega (arith, test.loop-test.true))
     (sym there.tag-at2.ensures.is ∙ eqb-true _ _ (sym c.before.is_same.ensures ∙ c.if1.true)
     ∙ at-loop.before.before.before.tag_at.ensures.is)
 
@@ -30,7 +30,7 @@ loop-less : tie.Need-loop-smaller invariant-loop decreases-loop
 loop-less c =
     let test = c.before.before.before.before.before in
     let at-loop = test.before in
-    walked-less at-loop.before.before.before.before.before.requires.1 at-loop.loop.invariant (omega (arith, test.loop-test.true))
+    walked_less at-loop.before.before.before.before.before.requires.1 at-loop.loop.invariant (omega (arith, test.loop-test.true))
     c.widen-link2.ensures
 
 loop-again : tie.Need-loop-preserved invariant-loop decreases-loop

@@ -1,7 +1,7 @@
 -- `record_reader::read` meets its contract: the reader's answer, with the repeats of a whole record or with none.
 use mathlib.Core.Path.{sym, ◌∙◌}
 use native.Mathlib.Omega.{arith}
-use Rattle.tag_file.proofs.RecordLaws.{read_past, read-within, read_count}
+use Rattle.tag_file.proofs.RecordLaws.{read_past, read_within, read_count}
 use Rattle.record_reader.proofs.Counting.{read_as, read_none}
 use borrow.Author.Rules.{rules}
 use Rattle.record_reader.proofs.read.Statement.{statement}
@@ -19,7 +19,7 @@ count-repeats-requires c κs =
     let told = c.before in
     let start = told.before.before.before.before in
     let e = sym told.before.before.read-record.ensures ∙ told.answer.given.1 in (
-      omega (arith, read_past _ _ e, read-within _ _ e),
+      omega (arith, read_past _ _ e, read_within _ _ e),
       read_count _ _ e (λ i. (told.before.before.before.shared-slice-known.given i).fits),
     )
 

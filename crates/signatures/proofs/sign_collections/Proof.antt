@@ -13,7 +13,7 @@ sign-sets-requires-2 : tie.Need-sign-sets-requires-2
 sign-sets-requires-2 c κs =
     let right = c.before.before.before.before in (
       record {
-        within = (start right).requires.leftWithin;
+        within = (start right).requires.left_within;
         room = omega (arith, right.sign-sets.ensures.size, (start right).requires.room);
       },
       right.before.before.before.position-table.ensures,

@@ -6,14 +6,14 @@ use native.Mathlib.Omega.{arith}
 use lib.ListN.{get_or}
 use borrow.Author.Rules.{rules}
 use Rattle.sets.specs.Collections.{between}
-use Rattle.sets.specs.Signatures.{signatureFrom, signature}
-use Rattle.sets.proofs.Positions.{position-bound}
-use Rattle.signatures.proofs.Signing.{sign-step, sign-end}
+use Rattle.sets.specs.Signatures.{signature_from, signature}
+use Rattle.sets.proofs.Positions.{position_bound}
+use Rattle.signatures.proofs.Signing.{sign_step, sign_end}
 use Rattle.signatures.proofs.sign_set.Statement.{statement}
 use Rattle.signatures.proofs.sign_set.Tie as tie
 
 abbrev invariant-loop : tie.invariant-loop
-invariant-loop items table start end mark₀ i₀ mark i = signatureFrom mark (between i end items) ≡ signature (between start end items)
+invariant-loop items table start end mark₀ i₀ mark i = signature_from mark (between i end items) ≡ signature (between start end items)
 
 abbrev decreases-loop : tie.decreases-loop
 decreases-loop items table start end mark₀ i₀ mark i = end - i
@@ -23,7 +23,7 @@ bit-low : (c : tie.After-position-of invariant-loop decreases-loop) → c.positi
 bit-low c =
     let at-loop = c.before.before.before in
     let a = at-loop.before.before.args in
-    omega (arith, c.position-of.ensures, position-bound (get_or a.items.now at-loop.loop.i 0))
+    omega (arith, c.position-of.ensures, position_bound (get_or a.items.now at-loop.loop.i 0))
 
 loop-holds : tie.Need-loop-init invariant-loop decreases-loop
 loop-holds c = refl
@@ -39,13 +39,13 @@ loop-again c =
     let at-loop = c.before.before.before in
     let a = at-loop.before.before.args in
     let l = at-loop.loop in
-    rw c.position-of.ensures (sign-step l.mark l.i a.end a.items.now (omega arith) (omega arith)) ∙ l.invariant
+    rw c.position-of.ensures (sign_step l.mark l.i a.end a.items.now (omega arith) (omega arith)) ∙ l.invariant
 
 returns : tie.Need-returns invariant-loop decreases-loop
 returns c =
     let a = c.before.before.before.args in
     let l = c.before.loop in
-    sym (sign-end a.end l.i l.mark a.items.now (omega arith)) ∙ l.invariant
+    sym (sign_end a.end l.i l.mark a.items.now (omega arith)) ∙ l.invariant
 
 pub sign-set-spec : {M : Type 1} → statement M
 sign-set-spec =

@@ -4,7 +4,7 @@ use Prim.Native.Nat.{◌-◌}
 use mathlib.Core.Path.{◌≡◌, refl}
 use native.Mathlib.Omega.{arith}
 use lib.ListN.{length}
-use Rattle.signatures.proofs.SigningSets.{SetsSigning, signing-start, signing_step, signing_end}
+use Rattle.signatures.proofs.SigningSets.{SetsSigning, signing_start, signing_step, signing_end}
 use Rattle.signatures.proofs.sign_sets.Statement.{statement}
 use Rattle.signatures.proofs.sign_sets.Tie as tie
 
@@ -19,7 +19,7 @@ abbrev start : tie.At-loop invariant-loop decreases-loop → tie.Start invariant
 start c = c.before.before.before.before
 
 loop-holds : tie.Need-loop-init invariant-loop decreases-loop
-loop-holds c = (refl, signing-start)
+loop-holds c = (refl, signing_start)
 
 cast-end : tie.Need-overflow-cast-end invariant-loop decreases-loop
 cast-end c = omega (arith, c.shared-slice-known3.given c.before.before.loop.k)

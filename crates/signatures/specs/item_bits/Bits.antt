@@ -4,5 +4,5 @@ use Rattle.lists.specs.Lists.{upto}
 use Rattle.sets.specs.Signatures.{position}
 
 -- the positions of the items 0 to 255
-abbrev pub positionTable : List ℕ
-positionTable = map position (upto 256)
+abbrev pub position_table : List ℕ
+position_table = map position (upto 256)

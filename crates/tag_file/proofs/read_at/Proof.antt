@@ -3,7 +3,7 @@ use mathlib.Core.Path.{sym, ◌∙◌}
 use Prim.Native.Nat.{◌<◌, ◌+◌}
 use native.Mathlib.Omega.{arith}
 use lib.ListN.{get_or}
-use Rattle.tag_file.proofs.ReadLaws.{read-end, read_short, read_left, read_right, read-other}
+use Rattle.tag_file.proofs.ReadLaws.{read_end, read_short, read_left, read_right, read_other}
 use borrow.Author.Rules.{rules}
 use Rattle.tag_file.proofs.read_at.Statement.{statement}
 use Rattle.tag_file.proofs.read_at.Tie as tie
@@ -21,7 +21,7 @@ second-low q = omega (arith, q.byte-at2.ensures.is, q.byte-at2.ensures.byte)
 returns : tie.Need-returns
 returns c =
     let a = c.before.before.args in
-    sym (read-end a.file.now a.at (omega arith))
+    sym (read_end a.file.now a.at (omega arith))
 
 returns-2 : tie.Need-returns-2
 returns-2 c =
@@ -56,7 +56,7 @@ returns-6 c =
     let one = q.before.byte_at.ensures.is in
     let two = q.byte-at2.ensures.is in
     sym
-    (read-other a.file.now a.at (omega arith) (first-low q) (second-low q)
+    (read_other a.file.now a.at (omega arith) (first-low q) (second-low q)
     (λ e. c.before.if4.false (omega (arith, one, two))) (λ e. c.if5.false (omega (arith, one, two))))
 
 pub read-at-spec : {M : Type 1} → statement M

@@ -46,7 +46,7 @@ use denote.Triple.Table.{entered, cited}
 use denote.Triple.Walked.{says, Stays, stay_none, walk_of, Goes-none, Walks, ends_at, walked, walk_Meets}
 use denote.Exit.{yes}
 use denote.Triple.Clauses.{ensured, lasts}
-use Rattle.tag_file.specs.Reading.{readAt}
+use Rattle.tag_file.specs.Reading.{read_at}
 use Rattle.tag_file.specs.declared.Reader.{Reader}
 use Rattle.tag_file.specs.declared.ReadAnswer.{ReadAnswer}
 use Rattle.tag_file.specs.contracts.Reader as T
@@ -86,7 +86,7 @@ module _ {M : Type 1} {𝓤 : Ura M} (𝓛 : Logic 𝓤) (mem : Memory → SProp
   v = slice_val d.file.ref_ptr (length d.file.now)
 
   abbrev found : ReadAnswer
-  found = readAt d.file.now d.at
+  found = read_at d.file.now d.at
 
   -- the lifetime's token
   abbrev Token : Item 𝓤

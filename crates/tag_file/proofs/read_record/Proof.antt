@@ -43,7 +43,7 @@ use denote.Triple.Walked.{says, Stays, stay_none, stay_none_slice, walk_of, Goes
 use denote.Triple.Walked.{walk_Meets}
 use denote.Exit.{yes}
 use denote.Triple.Clauses.{ensured, lasts}
-use Rattle.tag_file.specs.Reading.{readAt}
+use Rattle.tag_file.specs.Reading.{read_at}
 use Rattle.tag_file.specs.declared.Reader.{Reader}
 use Rattle.tag_file.specs.declared.ReadAnswer.{ReadAnswer}
 use Rattle.tag_file.specs.contracts.Reader as T
@@ -87,7 +87,7 @@ module _ {M : Type 1} {𝓤 : Ura M} (𝓛 : Logic 𝓤) (mem : Memory → SProp
   v = slice_val s.ref_ptr (length s.now)
 
   abbrev found : ReadAnswer
-  found = readAt s.now n
+  found = read_at s.now n
 
   -- the struct's type as a local of a body has it
   abbrev αᵉ : NamedLft
@@ -151,7 +151,7 @@ module _ {M : Type 1} {𝓤 : Ura M} (𝓛 : Logic 𝓤) (mem : Memory → SProp
   SaysNext r t = ensured 𝓛 next.ended (next.clauses 𝓛 mem run) (κ, tt) (r, tt) tt t
 
   abbrev Read : Reader → ReadAnswer → Type 0
-  Read r t = t ≡ readAt r.file.now r.at
+  Read r t = t ≡ read_at r.file.now r.at
 
   goes-next : (r : Reader) (u : Val) → ent 𝓤 (⋆ 𝓛 (‵ ((B (κ, tt)).own r (u ∷ [])) ∷ Token ∷ [])) (AsksNext r u)
   goes-next r u =
@@ -207,7 +207,7 @@ module _ {M : Type 1} {𝓤 : Ura M} (𝓛 : Logic 𝓤) (mem : Memory → SProp
         move ! (9 ∷ 10 ∷ []) $ free1 ! $ move ! (7 ∷ 8 ∷ []) $ free1 ! $
         move ! (5 ∷ 6 ∷ []) $ free1 ! $ move ! (3 ∷ 4 ∷ []) $ free1 ! $ free0 ! $
         by ! (exits t u'
-        (e' ∙ ap (λ (x : Bor (List ℕ)). readAt x.now r.at) e.0 ∙ ap (readAt s.now) e.1))))))))))))))
+        (e' ∙ ap (λ (x : Bor (List ℕ)). read_at x.now r.at) e.0 ∙ ap (read_at s.now) e.1))))))))))))))
 
 module _ {M : Type 1} {𝓤 : Ura M} (𝓛 : Logic 𝓤) (mem : Memory → SProp 𝓤)
     (run : Routine → Fun 𝓤) where

@@ -1,7 +1,7 @@
 -- `tag_file::record_at` meets its contract.
 use mathlib.Core.Path.{sym}
 use native.Mathlib.Omega.{arith}
-use Rattle.tag_file.proofs.ReadLaws.{whole-record, cut_record}
+use Rattle.tag_file.proofs.ReadLaws.{whole_record, cut_record}
 use borrow.Author.Rules.{rules}
 use Rattle.tag_file.proofs.record_at.Statement.{statement}
 use Rattle.tag_file.proofs.record_at.Tie as tie
@@ -15,7 +15,7 @@ returns c =
     let a = start.args in
     rw (high.byte_at.ensures.is, low.byte-at2.ensures.is, count.byte-at3.ensures.is)
     (sym
-    (whole-record a.file.now a.at a.side start.requires (omega (arith, count.byte-at3.ensures.is, c.if1.true))))
+    (whole_record a.file.now a.at a.side start.requires (omega (arith, count.byte-at3.ensures.is, c.if1.true))))
 
 returns-2 : tie.Need-returns-2
 returns-2 c =

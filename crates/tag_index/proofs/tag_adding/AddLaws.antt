@@ -10,39 +10,39 @@ use borrow.Author.Tests.{eq-eqb, ne_eqb, eqb-true, ltb-true, ltb-false}
 use lib.Dec.{eqb, ltb}
 use lib.ListN.{length, get_or, replicate, length-replicate}
 use Rattle.lists.specs.Lists.{one, memb}
-use Rattle.lists.proofs.Bools.{true-false, by-test, refuted, same_test}
-use Rattle.lists.proofs.Membership.{memb-place}
+use Rattle.lists.proofs.Bools.{true-false, by_test, refuted, same_test}
+use Rattle.lists.proofs.Membership.{memb_place}
 use Rattle.bit_sets.specs.BitSets.{member}
 use Rattle.bit_sets.proofs.Members.{no_member}
-use Rattle.tag_file.specs.Format.{tagAt}
-use Rattle.tag_file.specs.Reading.{tagsAt, pastTags}
-use Rattle.tag_file.specs.Records.{insert, insertAll, collapse}
+use Rattle.tag_file.specs.Format.{tag_at}
+use Rattle.tag_file.specs.Reading.{tags_at, past_tags}
+use Rattle.tag_file.specs.Records.{insert, insert_all, collapse}
 use Rattle.tag_file.proofs.Tables.{memb-insert, length-insert}
-use Rattle.tag_file.proofs.Tables.{insertAll-append, insertAll-last, length-insertAll-bound, memb-last, collapse-last}
-use Rattle.tag_file.proofs.RecordLaws.{length-tagsAt, tagsAt-last}
-use Rattle.tag_index.specs.Index.{tagOfId, table_of, Sorted, OneTaken}
+use Rattle.tag_file.proofs.Tables.{insert_all_append, insert_all_last, length-insert_all_bound, memb_last, collapse_last}
+use Rattle.tag_file.proofs.RecordLaws.{length-tags_at, tags_at_last}
+use Rattle.tag_index.specs.Index.{tag_of_id, table_of, Sorted, OneTaken}
 use Rattle.tag_index.specs.declared.Found.{Found}
-use Rattle.tag_index.proofs.Ids.{sorted-size, sorted-at, same_id}
-use Rattle.tag_index.specs.tag_adding.Adding.{seenWords, Seen, Adding, AllAdded}
+use Rattle.tag_index.proofs.Ids.{sorted_size, sorted_at, same_id}
+use Rattle.tag_index.specs.tag_adding.Adding.{seen_words, Seen, Adding, AllAdded}
 
 -- ---- one more tag at the end of a list of tags
 
-tagsAt-next : (k : ℕ) (file : List ℕ) (start : ℕ)
-    → tagsAt (k + 1) file start ≡ tagsAt k file start ++ (tagAt file (pastTags start k) ∷ [])
-tagsAt-next k file start = ap (λ (m : ℕ). tagsAt m file start) (add-one k) ∙ tagsAt-last k file start
+tags_at_next : (k : ℕ) (file : List ℕ) (start : ℕ)
+    → tags_at (k + 1) file start ≡ tags_at k file start ++ (tag_at file (past_tags start k) ∷ [])
+tags_at_next k file start = ap (λ (m : ℕ). tags_at m file start) (add-one k) ∙ tags_at_last k file start
 
 -- ---- one more tag among those of a set
 
 -- a set starts without tags: none is seen
-pub adding-start : {heads tails ids : List ℕ} {n : ℕ} → Sorted heads tails n ids
-    → Adding [] heads tails n 0 ids (replicate seenWords 0)
-unfolding insertAll memb
-adding-start s =
+pub adding_start : {heads tails ids : List ℕ} {n : ℕ} → Sorted heads tails n ids
+    → Adding [] heads tails n 0 ids (replicate seen_words 0)
+unfolding insert_all memb
+adding_start s =
     record {
       sorted = s;
-      wide = length-replicate {A = ℕ} seenWords 0;
-      marks = λ id h. no_member seenWords id;
-      unmarked = λ id h. no_member seenWords id;
+      wide = length-replicate {A = ℕ} seen_words 0;
+      marks = λ id h. no_member seen_words id;
+      unmarked = λ id h. no_member seen_words id;
       held = λ y m. true-false m refl;
       counted = refl;
     }
@@ -58,50 +58,50 @@ module _ {done heads tails : List ℕ} {tagCount distinct : ℕ} {ids seen : Lis
   was = table_of heads tails tagCount ids
 
   -- the index has as many tags as before, or one more
-  now-more : tagCount ≤ found.tag_count
-  now-more =
-      omega (arith, sorted-size o.sorted, ap length o.table, length-insert x was a.sorted.rises, sorted-size a.sorted)
+  now_more : tagCount ≤ found.tag_count
+  now_more =
+      omega (arith, sorted_size o.sorted, ap length o.table, length-insert x was a.sorted.rises, sorted_size a.sorted)
 
   -- a new id has a tag that the index had not, and so the set has not
-  new-absent : (j : ℕ) → tagCount ≤ j → j < found.tag_count → memb (tagOfId now-heads now-tails j) done ≡ false
-  new-absent j low high =
-      let y = tagOfId now-heads now-tails j in
+  new_absent : (j : ℕ) → tagCount ≤ j → j < found.tag_count → memb (tag_of_id now-heads now-tails j) done ≡ false
+  new_absent j low high =
+      let y = tag_of_id now-heads now-tails j in
       refuted (memb y done) (λ m.
-      let q = memb-place y was (a.held y m) in
-      let at_low : q.at < tagCount = omega (arith, q.below, sorted-size a.sorted) in
+      let q = memb_place y was (a.held y m) in
+      let at_low : q.at < tagCount = omega (arith, q.below, sorted_size a.sorted) in
       let id-low = a.sorted.listed.small q.at at_low in
       let same : get_or ids q.at 0 ≡ j =
-      same_id o.sorted (get_or ids q.at 0) j (omega (arith, id-low, now-more)) high
-      (o.others (get_or ids q.at 0) id-low ∙ sym (sorted-at a.sorted q.at at_low) ∙ q.here) in
+      same_id o.sorted (get_or ids q.at 0) j (omega (arith, id-low, now_more)) high
+      (o.others (get_or ids q.at 0) id-low ∙ sym (sorted_at a.sorted q.at at_low) ∙ q.here) in
       omega (arith, id-low))
 
   -- what was seen before, by the ids of now
-  was-marked : (j : ℕ) → j < found.tag_count → member seen j ≡ memb (tagOfId now-heads now-tails j) done
-  was-marked j h =
-      by-test (ltb j tagCount)
+  was_marked : (j : ℕ) → j < found.tag_count → member seen j ≡ memb (tag_of_id now-heads now-tails j) done
+  was_marked j h =
+      by_test (ltb j tagCount)
       (λ t. a.marks j (ltb-true j tagCount t) ∙ ap (λ (y : ℕ). memb y done) (sym (o.others j (ltb-true j tagCount t))))
-      (λ f. a.unmarked j (ltb-false j tagCount f) ∙ sym (new-absent j (ltb-false j tagCount f) h))
+      (λ f. a.unmarked j (ltb-false j tagCount f) ∙ sym (new_absent j (ltb-false j tagCount f) h))
 
-  pub adding-step : {r : ℕ} {is : List ℕ} → Seen seen found.id r is
+  pub adding_step : {r : ℕ} {is : List ℕ} → Seen seen found.id r is
       → Adding next now-heads now-tails found.tag_count (distinct + r) now-ids is
-  adding-step {r} {is} s =
+  adding_step {r} {is} s =
       record {
         sorted = o.sorted;
         wide = s.marked.size ∙ a.wide;
-        marks = λ j g. s.marked.holds j ∙ rw (was-marked j g, this j g) (or_comm (eqb (tagOfId now-heads now-tails j) x) (memb (tagOfId now-heads now-tails j) done))
-            ∙ sym (memb-last (tagOfId now-heads now-tails j) done x);
-        unmarked = λ j g. s.marked.holds j ∙ rw (ne_eqb j found.id (λ e. omega (arith, o.within)), a.unmarked j (omega (arith, now-more)));
+        marks = λ j g. s.marked.holds j ∙ rw (was_marked j g, this j g) (or_comm (eqb (tag_of_id now-heads now-tails j) x) (memb (tag_of_id now-heads now-tails j) done))
+            ∙ sym (memb_last (tag_of_id now-heads now-tails j) done x);
+        unmarked = λ j g. s.marked.holds j ∙ rw (ne_eqb j found.id (λ e. omega (arith, o.within)), a.unmarked j (omega (arith, now_more)));
         held = held_next;
-        counted = ap (λ (k : ℕ). distinct + k) (s.counted ∙ ap (λ (b : Bool). one (not b)) (was-marked found.id o.within ∙ ap (λ (y : ℕ). memb y done) o.is))
-            ∙ ap (λ (m : ℕ). m + one (not (memb x done))) a.counted ∙ sym (collapse-last done x);
+        counted = ap (λ (k : ℕ). distinct + k) (s.counted ∙ ap (λ (b : Bool). one (not b)) (was_marked found.id o.within ∙ ap (λ (y : ℕ). memb y done) o.is))
+            ∙ ap (λ (m : ℕ). m + one (not (memb x done))) a.counted ∙ sym (collapse_last done x);
       }
     where
-      this : (j : ℕ) → j < found.tag_count → eqb j found.id ≡ eqb (tagOfId now-heads now-tails j) x
+      this : (j : ℕ) → j < found.tag_count → eqb j found.id ≡ eqb (tag_of_id now-heads now-tails j) x
       this j g =
-          same_test (eqb j found.id) (eqb (tagOfId now-heads now-tails j) x)
-          (λ t. eq-eqb (tagOfId now-heads now-tails j) x (ap (tagOfId now-heads now-tails) (eqb-true j found.id t) ∙ o.is))
+          same_test (eqb j found.id) (eqb (tag_of_id now-heads now-tails j) x)
+          (λ t. eq-eqb (tag_of_id now-heads now-tails j) x (ap (tag_of_id now-heads now-tails) (eqb-true j found.id t) ∙ o.is))
           (λ t. eq-eqb j found.id
-          (same_id o.sorted j found.id g o.within (eqb-true (tagOfId now-heads now-tails j) x t ∙ sym o.is)))
+          (same_id o.sorted j found.id g o.within (eqb-true (tag_of_id now-heads now-tails j) x t ∙ sym o.is)))
 
       held_next : (y : ℕ) → memb y next ≡ true → memb y (table_of now-heads now-tails found.tag_count now-ids) ≡ true
       held_next y m = ap (memb y) o.table ∙ memb-insert y x (table_of heads tails tagCount ids) ∙ here (eqb y x) refl
@@ -109,33 +109,33 @@ module _ {done heads tails : List ℕ} {tagCount distinct : ℕ} {ids seen : Lis
           here : (b : Bool) → eqb y x ≡ b → (b || memb y (table_of heads tails tagCount ids)) ≡ true
           here true t = refl
           here false f =
-              a.held y (sym (or-false (memb y done)) ∙ ap (λ (b : Bool). memb y done || b) (sym f) ∙ sym (memb-last y done x) ∙ m)
+              a.held y (sym (or-false (memb y done)) ∙ ap (λ (b : Bool). memb y done || b) (sym f) ∙ sym (memb_last y done x) ∙ m)
 
 -- ---- how many more there are with some tags more
 
 module _ {done heads tails : List ℕ} {n old : ℕ} {ids seen : List ℕ} (a : Adding done heads tails n old ids seen) (xs : List ℕ)
     {tagCount : ℕ} {now-heads now-tails now-ids : List ℕ} where
   -- in the index
-  tags-most : Sorted now-heads now-tails tagCount now-ids
-      → table_of now-heads now-tails tagCount now-ids ≡ insertAll (table_of heads tails n ids) xs → tagCount ≤ n + length xs
-  tags-most s e =
+  tags_most : Sorted now-heads now-tails tagCount now-ids
+      → table_of now-heads now-tails tagCount now-ids ≡ insert_all (table_of heads tails n ids) xs → tagCount ≤ n + length xs
+  tags_most s e =
       omega (
         arith,
-        sorted-size s,
+        sorted_size s,
         ap length e,
-        length-insertAll-bound (table_of heads tails n ids) xs,
-        sorted-size a.sorted,
+        length-insert_all_bound (table_of heads tails n ids) xs,
+        sorted_size a.sorted,
       )
 
   -- among the distinct ones of the set
-  distinct-most : {distinct : ℕ} {now-seen : List ℕ} → Adding (done ++ xs) now-heads now-tails tagCount distinct now-ids now-seen
+  distinct_most : {distinct : ℕ} {now-seen : List ℕ} → Adding (done ++ xs) now-heads now-tails tagCount distinct now-ids now-seen
       → distinct ≤ old + length xs
-  distinct-most b =
+  distinct_most b =
       omega (
         arith,
         b.counted,
-        ap length (insertAll-append [] done xs),
-        length-insertAll-bound (collapse done) xs,
+        ap length (insert_all_append [] done xs),
+        length-insert_all_bound (collapse done) xs,
         a.counted,
       )
 
@@ -143,14 +143,14 @@ module _ {done heads tails : List ℕ} {n old : ℕ} {ids seen : List ℕ} (a : 
 
 pub record Going (done file : List ℕ) (start count n : ℕ) (was-heads was-tails was-ids : List ℕ) (k tagCount distinct : ℕ)
     (heads tails ids seen : List ℕ) : Type 0 where
-  pub adding : Adding (done ++ tagsAt k file start) heads tails tagCount distinct ids seen
-  pub table : table_of heads tails tagCount ids ≡ insertAll (table_of was-heads was-tails n was-ids) (tagsAt k file start)
+  pub adding : Adding (done ++ tags_at k file start) heads tails tagCount distinct ids seen
+  pub table : table_of heads tails tagCount ids ≡ insert_all (table_of was-heads was-tails n was-ids) (tags_at k file start)
   pub within : k ≤ count
 
 module _ {done file : List ℕ} {start count n old : ℕ} {was-heads was-tails was-ids was-seen : List ℕ}
     (a : Adding done was-heads was-tails n old was-ids was-seen) where
   pub going_start : Going done file start count n was-heads was-tails was-ids 0 n old was-heads was-tails was-ids was-seen
-  unfolding tagsAt insertAll
+  unfolding tags_at insert_all
   going_start =
       record {
         adding = subst (λ (l : List ℕ). Adding l was-heads was-tails n old was-ids was-seen) (sym (append-nil done)) a;
@@ -160,28 +160,28 @@ module _ {done file : List ℕ} {start count n old : ℕ} {was-heads was-tails w
 
   module _ {k tagCount distinct : ℕ} {heads tails ids seen : List ℕ}
       (g : Going done file start count n was-heads was-tails was-ids k tagCount distinct heads tails ids seen) where
-    pub going-tags : tagCount ≤ n + k
-    going-tags = omega (arith, tags-most a (tagsAt k file start) g.adding.sorted g.table, length-tagsAt k file start)
+    pub going_tags : tagCount ≤ n + k
+    going_tags = omega (arith, tags_most a (tags_at k file start) g.adding.sorted g.table, length-tags_at k file start)
 
-    pub going-distinct : distinct ≤ old + k
-    going-distinct = omega (arith, distinct-most a (tagsAt k file start) g.adding, length-tagsAt k file start)
+    pub going_distinct : distinct ≤ old + k
+    going_distinct = omega (arith, distinct_most a (tags_at k file start) g.adding, length-tags_at k file start)
 
     pub going_step : {found : Found} {r : ℕ} {now-heads now-tails now-ids now-seen : List ℕ} → k < count
-        → OneTaken (tagAt file (pastTags start k)) tagCount heads tails ids found now-heads now-tails now-ids
+        → OneTaken (tag_at file (past_tags start k)) tagCount heads tails ids found now-heads now-tails now-ids
         → Seen seen found.id r now-seen
         → Going done file start count n was-heads was-tails was-ids (k + 1) found.tag_count (distinct + r)
         now-heads now-tails now-ids now-seen
     going_step {found} {r} {now-heads} {now-tails} {now-ids} {now-seen} h o s =
-        let x = tagAt file (pastTags start k) in
-        let more : (done ++ tagsAt k file start) ++ (x ∷ []) ≡ done ++ tagsAt (k + 1) file start =
-        append_assoc done (tagsAt k file start) (x ∷ []) ∙ ap (λ (l : List ℕ). done ++ l) (sym (tagsAt-next k file start))
+        let x = tag_at file (past_tags start k) in
+        let more : (done ++ tags_at k file start) ++ (x ∷ []) ≡ done ++ tags_at (k + 1) file start =
+        append_assoc done (tags_at k file start) (x ∷ []) ∙ ap (λ (l : List ℕ). done ++ l) (sym (tags_at_next k file start))
         in
         record {
           adding = subst (λ (l : List ℕ). Adding l now-heads now-tails found.tag_count (distinct + r) now-ids now-seen) more
-              (adding-step g.adding o s);
+              (adding_step g.adding o s);
           table = o.table ∙ ap (insert x) g.table
-              ∙ sym (insertAll-last (table_of was-heads was-tails n was-ids) (tagsAt k file start) x)
-              ∙ sym (ap (insertAll (table_of was-heads was-tails n was-ids)) (tagsAt-next k file start));
+              ∙ sym (insert_all_last (table_of was-heads was-tails n was-ids) (tags_at k file start) x)
+              ∙ sym (ap (insert_all (table_of was-heads was-tails n was-ids)) (tags_at_next k file start));
           within = omega arith;
         }
 
@@ -189,19 +189,19 @@ module _ {done file : List ℕ} {start count n old : ℕ} {was-heads was-tails w
     going_end past =
         let here : k ≡ count = omega (arith, g.within) in
         record {
-          adding = subst (λ (m : ℕ). Adding (done ++ tagsAt m file start) heads tails tagCount distinct ids seen) here g.adding;
-          table = g.table ∙ ap (λ (m : ℕ). insertAll (table_of was-heads was-tails n was-ids) (tagsAt m file start)) here;
+          adding = subst (λ (m : ℕ). Adding (done ++ tags_at m file start) heads tails tagCount distinct ids seen) here g.adding;
+          table = g.table ∙ ap (λ (m : ℕ). insert_all (table_of was-heads was-tails n was-ids) (tags_at m file start)) here;
         }
 
   module _ {tagCount distinct : ℕ} {heads tails ids seen : List ℕ}
       (all : AllAdded done file start count n was-heads was-tails was-ids tagCount distinct heads tails ids seen) where
-    pub added-tags : tagCount ≤ n + count
-    added-tags =
+    pub added_tags : tagCount ≤ n + count
+    added_tags =
         omega (
           arith,
-          tags-most a (tagsAt count file start) all.adding.sorted all.table,
-          length-tagsAt count file start,
+          tags_most a (tags_at count file start) all.adding.sorted all.table,
+          length-tags_at count file start,
         )
 
-    pub added-distinct : distinct ≤ old + count
-    added-distinct = omega (arith, distinct-most a (tagsAt count file start) all.adding, length-tagsAt count file start)
+    pub added_distinct : distinct ≤ old + count
+    added_distinct = omega (arith, distinct_most a (tags_at count file start) all.adding, length-tags_at count file start)

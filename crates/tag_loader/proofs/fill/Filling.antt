@@ -9,179 +9,179 @@ use lib.ListN.{length, replicate, length-append}
 use Rattle.lists.specs.Lists.{onto, keep, memb}
 use Rattle.lists.specs.Writing.{Put}
 use Rattle.lists.proofs.Bools.{or_left, or_right}
-use Rattle.lists.proofs.Membership.{memb-append}
-use Rattle.lists.proofs.Writing.{Writing, writing_start, writing-room, writing_step, writing-end, written-whole}
+use Rattle.lists.proofs.Membership.{memb_append}
+use Rattle.lists.proofs.Writing.{Writing, writing_start, writing_room, writing_step, writing_end, written_whole}
 use Rattle.bit_sets.specs.BitSets.{members}
-use Rattle.sets.specs.Limits.{maxItems, maxEntries}
-use Rattle.sets.specs.Lent.{filledOver}
+use Rattle.sets.specs.Limits.{max_items, max_entries}
+use Rattle.sets.specs.Lent.{filled_over}
 use Rattle.sets.specs.declared.Side.{Side}
-use Rattle.tag_file.specs.Format.{tagAt}
-use Rattle.tag_file.specs.Reading.{readAt, pastTags, tagsAt}
-use Rattle.tag_file.specs.Records.{TagRecord, sameSide, recordsAt, records, ofSide, allTags, items_of, setsOfSide}
-use Rattle.tag_file.specs.Loading.{numbersOf, endsFrom}
+use Rattle.tag_file.specs.Format.{tag_at}
+use Rattle.tag_file.specs.Reading.{read_at, past_tags, tags_at}
+use Rattle.tag_file.specs.Records.{TagRecord, same_side, records_at, records, of_side, all_tags, items_of, sets_of_side}
+use Rattle.tag_file.specs.Loading.{numbers_of, ends_from}
 use Rattle.tag_file.specs.declared.ReadAnswer.TheVariants.{Record}
-use Rattle.tag_file.proofs.RecordLaws.{memb-tagsAt, read_past, read-within, records-next}
+use Rattle.tag_file.proofs.RecordLaws.{memb-tags_at, read_past, read_within, records_next}
 use Rattle.tag_index.specs.Index.{table_of, Sorted, Ranked}
-use Rattle.tag_loader.specs.record_items.Marks.{markWords, Unmarked, MarkedMore, TagsKnown, RoomForOne, OneFilled}
+use Rattle.tag_loader.specs.record_items.Marks.{mark_words, Unmarked, MarkedMore, TagsKnown, RoomForOne, OneFilled}
 use Rattle.tag_loader.specs.declared.record_items.Filled.{Filled}
-use Rattle.tag_loader.proofs.record_items.Marks.{unmarked-zeros, more-fresh, marked-items}
+use Rattle.tag_loader.proofs.record_items.Marks.{unmarked_zeros, more_fresh, marked_items}
 use Rattle.tag_loader.specs.fill.Fill.{FillReady}
-use Rattle.tag_loader.proofs.fill.Runs.{flatten-one, numbers-cons, sets-cons, flatten-onto, ends-onto}
+use Rattle.tag_loader.proofs.fill.Runs.{flatten_one, numbers_cons, sets_cons, flatten-onto, ends_onto}
 
 pub record SideFilling (file : List ℕ) (side : Side) (table numbers₀ ends₀ items₀ : List ℕ)
     (marks numbers ends items : List ℕ) (done : Filled) (at : ℕ) : Type 0 where
-  pub for-numbers : Writing numbers₀ 0 (numbersOf side (records file)) numbers done.sets (numbersOf side (recordsAt file at))
-  pub for-ends : Writing ends₀ 0 (endsFrom 0 (setsOfSide side table (records file))) ends done.sets
-      (endsFrom done.entries (setsOfSide side table (recordsAt file at)))
-  pub for-items : Writing items₀ 0 (flatten (setsOfSide side table (records file))) items done.entries
-      (flatten (setsOfSide side table (recordsAt file at)))
-  pub held : (y : ℕ) → memb y (allTags (ofSide side (recordsAt file at))) ≡ true → memb y table ≡ true
+  pub for_numbers : Writing numbers₀ 0 (numbers_of side (records file)) numbers done.sets (numbers_of side (records_at file at))
+  pub for_ends : Writing ends₀ 0 (ends_from 0 (sets_of_side side table (records file))) ends done.sets
+      (ends_from done.entries (sets_of_side side table (records_at file at)))
+  pub for_items : Writing items₀ 0 (flatten (sets_of_side side table (records file))) items done.entries
+      (flatten (sets_of_side side table (records_at file at)))
+  pub held : (y : ℕ) → memb y (all_tags (of_side side (records_at file at))) ≡ true → memb y table ≡ true
   pub unmarked : Unmarked marks
 
-pub side-filling-start : {file heads tails : List ℕ} {n : ℕ} {ids ranks : List ℕ} {side : Side} {numbers ends items : List ℕ}
+pub side_filling_start : {file heads tails : List ℕ} {n : ℕ} {ids ranks : List ℕ} {side : Side} {numbers ends items : List ℕ}
     → FillReady file heads tails n ids ranks side numbers ends items
-    → SideFilling file side (table_of heads tails n ids) numbers ends items (replicate markWords 0) numbers ends items
+    → SideFilling file side (table_of heads tails n ids) numbers ends items (replicate mark_words 0) numbers ends items
     (record { sets = 0; entries = 0 }) 0
-side-filling-start {file} {heads} {tails} {n} {ids} {ranks} {side} {numbers} {ends} {items} r =
-    let sets = setsOfSide side (table_of heads tails n ids) (records file) in
+side_filling_start {file} {heads} {tails} {n} {ids} {ranks} {side} {numbers} {ends} {items} r =
+    let sets = sets_of_side side (table_of heads tails n ids) (records file) in
     record {
-      for-numbers = writing_start numbers 0 (numbersOf side (records file)) (omega (arith, r.for-numbers));
-      for-ends = writing_start ends 0 (endsFrom 0 sets) (omega (arith, r.for-ends));
-      for-items = writing_start items 0 (flatten sets) (omega (arith, r.for-items));
+      for_numbers = writing_start numbers 0 (numbers_of side (records file)) (omega (arith, r.for_numbers));
+      for_ends = writing_start ends 0 (ends_from 0 sets) (omega (arith, r.for_ends));
+      for_items = writing_start items 0 (flatten sets) (omega (arith, r.for_items));
       held = r.held;
-      unmarked = unmarked-zeros markWords refl;
+      unmarked = unmarked_zeros mark_words refl;
     }
 
 module _ {file : List ℕ} {side : Side} {table numbers₀ ends₀ items₀ marks numbers ends items : List ℕ} {done : Filled} {at : ℕ}
     (f : SideFilling file side table numbers₀ ends₀ items₀ marks numbers ends items done at) where
-  module _ (stop : recordsAt file at ≡ []) where
-    pub filled-numbers : numbers ≡ filledOver (numbersOf side (records file)) numbers₀
+  module _ (stop : records_at file at ≡ []) where
+    pub filled_numbers : numbers ≡ filled_over (numbers_of side (records file)) numbers₀
     unfolding keep
-    filled-numbers = written-whole (writing-end f.for-numbers (ap (numbersOf side) stop)) (omega (arith, f.for-numbers.room))
+    filled_numbers = written_whole (writing_end f.for_numbers (ap (numbers_of side) stop)) (omega (arith, f.for_numbers.room))
 
-    pub filled-ends : ends ≡ filledOver (endsFrom 0 (setsOfSide side table (records file))) ends₀
-    unfolding keep endsFrom
-    filled-ends =
-        let end = ap (λ (l : List TagRecord). endsFrom done.entries (setsOfSide side table l)) stop in
-        written-whole (writing-end f.for-ends end) (omega (arith, f.for-ends.room))
+    pub filled_ends : ends ≡ filled_over (ends_from 0 (sets_of_side side table (records file))) ends₀
+    unfolding keep ends_from
+    filled_ends =
+        let end = ap (λ (l : List TagRecord). ends_from done.entries (sets_of_side side table l)) stop in
+        written_whole (writing_end f.for_ends end) (omega (arith, f.for_ends.room))
 
-    pub filled-items : items ≡ filledOver (flatten (setsOfSide side table (records file))) items₀
+    pub filled_items : items ≡ filled_over (flatten (sets_of_side side table (records file))) items₀
     unfolding keep flatten
-    filled-items =
-        let end = ap (λ (l : List TagRecord). flatten (setsOfSide side table l)) stop in
-        written-whole (writing-end f.for-items end) (omega (arith, f.for-items.room))
+    filled_items =
+        let end = ap (λ (l : List TagRecord). flatten (sets_of_side side table l)) stop in
+        written_whole (writing_end f.for_items end) (omega (arith, f.for_items.room))
 
   -- the record here, of this side or the other
-  module _ {kind : Side} {n c p next : ℕ} (e : readAt file at ≡ Record kind n c p next) where
+  module _ {kind : Side} {n c p next : ℕ} (e : read_at file at ≡ Record kind n c p next) where
     abbrev this : TagRecord
-    this = record { side = kind; number = n; tags = tagsAt c file p }
+    this = record { side = kind; number = n; tags = tags_at c file p }
 
     abbrev new : List ℕ
-    new = items_of table (tagsAt c file p)
+    new = items_of table (tags_at c file p)
 
-    rest : recordsAt file at ≡ this ∷ recordsAt file next
-    rest = records-next file at kind n c p next e
+    rest : records_at file at ≡ this ∷ records_at file next
+    rest = records_next file at kind n c p next e
 
-    numbers-next : numbersOf side (recordsAt file at) ≡ onto (sameSide side kind) n [] ++ numbersOf side (recordsAt file next)
-    numbers-next = ap (numbersOf side) rest ∙ numbers-cons side this (recordsAt file next)
+    numbers_next : numbers_of side (records_at file at) ≡ onto (same_side side kind) n [] ++ numbers_of side (records_at file next)
+    numbers_next = ap (numbers_of side) rest ∙ numbers_cons side this (records_at file next)
 
-    abbrev to-come : List (List ℕ)
-    to-come = setsOfSide side table (recordsAt file next)
+    abbrev to_come : List (List ℕ)
+    to_come = sets_of_side side table (records_at file next)
 
-    sets-next : setsOfSide side table (recordsAt file at) ≡ onto (sameSide side kind) new [] ++ to-come
-    sets-next = ap (setsOfSide side table) rest ∙ sets-cons side this (recordsAt file next) table
+    sets_next : sets_of_side side table (records_at file at) ≡ onto (same_side side kind) new [] ++ to_come
+    sets_next = ap (sets_of_side side table) rest ∙ sets_cons side this (records_at file next) table
 
-    ends_next : endsFrom done.entries (setsOfSide side table (recordsAt file at))
-        ≡ onto (sameSide side kind) (done.entries + length new) []
-        ++ endsFrom (done.entries + length (flatten (onto (sameSide side kind) new []))) to-come
+    ends_next : ends_from done.entries (sets_of_side side table (records_at file at))
+        ≡ onto (same_side side kind) (done.entries + length new) []
+        ++ ends_from (done.entries + length (flatten (onto (same_side side kind) new []))) to_come
     ends_next =
-        ap (endsFrom done.entries) sets-next ∙ ends-onto (sameSide side kind) new to-come done.entries
+        ap (ends_from done.entries) sets_next ∙ ends_onto (same_side side kind) new to_come done.entries
 
-    items-next : flatten (setsOfSide side table (recordsAt file at)) ≡ flatten (onto (sameSide side kind) new []) ++ flatten to-come
-    items-next = ap flatten sets-next ∙ flatten-onto (sameSide side kind) new to-come
+    items_next : flatten (sets_of_side side table (records_at file at)) ≡ flatten (onto (same_side side kind) new []) ++ flatten to_come
+    items_next = ap flatten sets_next ∙ flatten-onto (same_side side kind) new to_come
 
     abbrev later : List TagRecord
-    later = ofSide side (recordsAt file next)
+    later = of_side side (records_at file next)
 
-    side-next : ofSide side (recordsAt file at) ≡ onto (sameSide side kind) this later
+    side_next : of_side side (records_at file at) ≡ onto (same_side side kind) this later
     unfolding keep
-    side-next = ap (ofSide side) rest
+    side_next = ap (of_side side) rest
 
     -- the tags of later records, and of this one where it is of the side, are known
-    held-later : (y : ℕ) → memb y (allTags later) ≡ true → memb y table ≡ true
-    unfolding allTags
-    held-later y m =
-        f.held y (ap (λ (rs : List TagRecord). memb y (allTags rs)) side-next ∙ by-mine (sameSide side kind))
+    held_later : (y : ℕ) → memb y (all_tags later) ≡ true → memb y table ≡ true
+    unfolding all_tags
+    held_later y m =
+        f.held y (ap (λ (rs : List TagRecord). memb y (all_tags rs)) side_next ∙ by_mine (same_side side kind))
       where
-        by-mine : (b : Bool) → memb y (allTags (onto b this later)) ≡ true
-        by-mine true =
-            memb-append y (tagsAt c file p) (allTags later) ∙ or_right (memb y (tagsAt c file p)) (memb y (allTags later)) m
-        by-mine false = m
+        by_mine : (b : Bool) → memb y (all_tags (onto b this later)) ≡ true
+        by_mine true =
+            memb_append y (tags_at c file p) (all_tags later) ∙ or_right (memb y (tags_at c file p)) (memb y (all_tags later)) m
+        by_mine false = m
 
-    held-here : sameSide side kind ≡ true → (y : ℕ) → memb y (tagsAt c file p) ≡ true → memb y table ≡ true
-    unfolding allTags
-    held-here mine y m =
-        f.held y (ap (λ (rs : List TagRecord). memb y (allTags rs)) (side-next ∙ ap (λ (b : Bool). onto b this later) mine)
-        ∙ memb-append y (tagsAt c file p) (allTags later)
-        ∙ or_left (memb y (tagsAt c file p)) (memb y (allTags later)) m)
+    held_here : same_side side kind ≡ true → (y : ℕ) → memb y (tags_at c file p) ≡ true → memb y table ≡ true
+    unfolding all_tags
+    held_here mine y m =
+        f.held y (ap (λ (rs : List TagRecord). memb y (all_tags rs)) (side_next ∙ ap (λ (b : Bool). onto b this later) mine)
+        ∙ memb_append y (tags_at c file p) (all_tags later)
+        ∙ or_left (memb y (tags_at c file p)) (memb y (all_tags later)) m)
 
-    pub filling-known : {heads tails : List ℕ} {m : ℕ} {ids ranks : List ℕ} → Sorted heads tails m ids → Ranked m ids ranks
-        → table_of heads tails m ids ≡ table → m ≤ maxItems → sameSide side kind ≡ true
+    pub filling_known : {heads tails : List ℕ} {m : ℕ} {ids ranks : List ℕ} → Sorted heads tails m ids → Ranked m ids ranks
+        → table_of heads tails m ids ≡ table → m ≤ max_items → same_side side kind ≡ true
         → TagsKnown file heads tails m ids ranks p c
-    filling-known sorted ranked same small mine =
+    filling_known sorted ranked same small mine =
         record {
           sorted = sorted;
           ranked = ranked;
           small = small;
-          inside = omega (arith, read_past file at e, read-within file at e);
-          known = λ k h. let x = tagAt file (pastTags p k) in ap (memb x) same ∙ held-here mine x (memb-tagsAt c file p k h);
+          inside = omega (arith, read_past file at e, read_within file at e);
+          known = λ k h. let x = tag_at file (past_tags p k) in ap (memb x) same ∙ held_here mine x (memb-tags_at c file p k h);
         }
 
     -- the items of the record are those of its tags that were marked
-    module _ {got : List ℕ} (more : MarkedMore table (tagsAt c file p) marks got) where
-      pub filling-wide : length got ≡ markWords
-      filling-wide = (more-fresh f.unmarked more).wide
+    module _ {got : List ℕ} (more : MarkedMore table (tags_at c file p) marks got) where
+      pub filling_wide : length got ≡ mark_words
+      filling_wide = (more_fresh f.unmarked more).wide
 
-      pub filling-items : length table ≤ maxItems → members got ≡ new
-      filling-items small = marked-items (more-fresh f.unmarked more) small
+      pub filling_items : length table ≤ max_items → members got ≡ new
+      filling_items small = marked_items (more_fresh f.unmarked more) small
 
-    pub filling-room : length (flatten (setsOfSide side table (records file))) ≤ maxEntries → sameSide side kind ≡ true
+    pub filling_room : length (flatten (sets_of_side side table (records file))) ≤ max_entries → same_side side kind ≡ true
         → RoomForOne done.sets done.entries new numbers ends items
-    filling-room few mine =
-        let a = writing-room f.for-numbers (n ∷ []) (numbersOf side (recordsAt file next)) (rw mine at numbers-next) in
-        let b = writing-room f.for-ends ((done.entries + length new) ∷ [])
-        (endsFrom (done.entries + length (flatten (new ∷ []))) to-come) (rw mine at ends_next) in
-        let d = writing-room f.for-items (flatten (new ∷ [])) (flatten to-come) (rw mine at items-next) in
-        let g = ap length (rw mine at items-next) in
+    filling_room few mine =
+        let a = writing_room f.for_numbers (n ∷ []) (numbers_of side (records_at file next)) (rw mine at numbers_next) in
+        let b = writing_room f.for_ends ((done.entries + length new) ∷ [])
+        (ends_from (done.entries + length (flatten (new ∷ []))) to_come) (rw mine at ends_next) in
+        let d = writing_room f.for_items (flatten (new ∷ [])) (flatten to_come) (rw mine at items_next) in
+        let g = ap length (rw mine at items_next) in
         record {
-          for-number = omega (arith, a);
-          for-end = omega (arith, b);
-          for-items = omega (arith, d, ap length (flatten-one new));
-          few = omega (arith, f.for-items.total, g, length-append (flatten (new ∷ [])) (flatten to-come), ap length (flatten-one new));
+          for_number = omega (arith, a);
+          for_end = omega (arith, b);
+          for_items = omega (arith, d, ap length (flatten_one new));
+          few = omega (arith, f.for_items.total, g, length-append (flatten (new ∷ [])) (flatten to_come), ap length (flatten_one new));
         }
 
     -- what is written where the record is of the side or not
-    filling-by : (mine : Bool) → sameSide side kind ≡ mine → {r : Filled} {marks' numbers' ends' items' : List ℕ}
+    filling_by : (mine : Bool) → same_side side kind ≡ mine → {r : Filled} {marks' numbers' ends' items' : List ℕ}
         → Put numbers done.sets (onto mine n []) r.sets numbers'
         → Put ends done.sets (onto mine (done.entries + length new) []) r.sets ends'
         → Put items done.entries (flatten (onto mine new [])) r.entries items'
         → Unmarked marks' → SideFilling file side table numbers₀ ends₀ items₀ marks' numbers' ends' items' r next
-    filling-by mine is {r} put-number put-end put-items none =
+    filling_by mine is {r} put_number put_end put_items none =
         record {
-          for-numbers = writing_step f.for-numbers (rw is at numbers-next) put-number;
-          for-ends = writing_step f.for-ends (rw (is, ← put-items.past) at ends_next) put-end;
-          for-items = writing_step f.for-items (rw is at items-next) put-items;
-          held = held-later;
+          for_numbers = writing_step f.for_numbers (rw is at numbers_next) put_number;
+          for_ends = writing_step f.for_ends (rw (is, ← put_items.past) at ends_next) put_end;
+          for_items = writing_step f.for_items (rw is at items_next) put_items;
+          held = held_later;
           unmarked = none;
         }
 
-    pub filling-own : sameSide side kind ≡ true → {r : Filled} {marks' numbers' ends' items' : List ℕ}
+    pub filling_own : same_side side kind ≡ true → {r : Filled} {marks' numbers' ends' items' : List ℕ}
         → OneFilled done.sets done.entries n new numbers ends items r numbers' ends' items'
         → Unmarked marks' → SideFilling file side table numbers₀ ends₀ items₀ marks' numbers' ends' items' r next
-    filling-own is o none = filling-by true is o.put-number o.put-end (rw flatten-one o.put-items) none
+    filling_own is o none = filling_by true is o.put_number o.put_end (rw flatten_one o.put_items) none
 
-    pub filling-other : sameSide side kind ≡ false → SideFilling file side table numbers₀ ends₀ items₀ marks numbers ends items done next
+    pub filling_other : same_side side kind ≡ false → SideFilling file side table numbers₀ ends₀ items₀ marks numbers ends items done next
     unfolding flatten
-    filling-other is =
-        filling-by false is (record { written = refl; past = omega arith }) (record { written = refl; past = omega arith })
+    filling_other is =
+        filling_by false is (record { written = refl; past = omega arith }) (record { written = refl; past = omega arith })
         (record { written = refl; past = omega arith }) f.unmarked

@@ -1,9 +1,9 @@
 -- `tag_loader::fill_lists` meets its contract.
 use Prim.Native.Nat.{ℕ}
 use lib.ListN.{length-replicate}
-use Rattle.tag_index.specs.Index.{indexRoom}
-use Rattle.tag_loader.proofs.Rooms.{sorted-here, tags-room, tags-filled, left-ready, right-ready, ends-filled}
-use Rattle.tag_loader.proofs.Rooms.{items-filled}
+use Rattle.tag_index.specs.Index.{index_room}
+use Rattle.tag_loader.proofs.Rooms.{sorted_here, tags_room, tags_filled, left_ready, right_ready, ends_filled}
+use Rattle.tag_loader.proofs.Rooms.{items_filled}
 use Rattle.sets.specs.declared.Side.TheVariants.{Left, Right}
 use Rattle.tag_loader.proofs.fill_lists.Statement.{statement}
 use Rattle.tag_loader.proofs.fill_lists.Tie as tie
@@ -11,25 +11,25 @@ use Rattle.tag_loader.proofs.fill_lists.Tie as tie
 rank-ids-requires : tie.Need-rank-ids-requires
 rank-ids-requires c κs =
     let start = c.before.before.before.before.before.before.before.before.before in
-    ((sorted-here start.requires).listed, length-replicate {A = ℕ} indexRoom 0)
+    ((sorted_here start.requires).listed, length-replicate {A = ℕ} index_room 0)
 
 fill-tags-requires : tie.Need-fill-tags-requires
 fill-tags-requires c κs =
     let start = c.before.before.before.before.before.before.before.before.before.before.before in
-    (sorted-here start.requires, tags-room start.requires)
+    (sorted_here start.requires, tags_room start.requires)
 
 fill-side-requires : tie.Need-fill-side-requires
 fill-side-requires c κs =
     let at-ranks = c.before.before.before.before.before.before.before.before in
     let start = at-ranks.before.before.before.before.before.before.before.before.before.before in
-    left-ready start.requires at-ranks.rank-ids.ensures
+    left_ready start.requires at-ranks.rank-ids.ensures
 
 fill-side-requires-2 : tie.Need-fill-side-requires-2
 fill-side-requires-2 c κs =
     let at_left = c.before.before.before.before.before.before.before.before.before.before in
     let at-ranks = at_left.before.before.before.before.before.before.before.before.before in
     let start = at-ranks.before.before.before.before.before.before.before.before.before.before in
-    right-ready start.requires at-ranks.rank-ids.ensures
+    right_ready start.requires at-ranks.rank-ids.ensures
 
 -- where the right sets are filled
 abbrev filled-right : tie.After-slice-known14 → tie.After-fill-side2
@@ -71,13 +71,13 @@ returns c =
     let l = (filled-left c).fill-side.ensures in
     let r = (filled-right c).fill-side2.ensures in
     record {
-      tags-filled = tags-filled start.pre start.args.tags.now at-tags.fill-tags.ensures;
-      leftNumbers-filled = l.0;
-      leftEnds-filled = ends-filled start.pre Left start.args.left-ends.now l.1.0;
-      leftItems-filled = items-filled start.pre Left start.args.left-items.now l.1.1;
-      rightNumbers-filled = r.0;
-      rightEnds-filled = ends-filled start.pre Right start.args.right-ends.now r.1.0;
-      rightItems-filled = items-filled start.pre Right start.args.right-items.now r.1.1;
+      tags_filled = tags_filled start.pre start.args.tags.now at-tags.fill-tags.ensures;
+      left_numbers_filled = l.0;
+      left_ends_filled = ends_filled start.pre Left start.args.left-ends.now l.1.0;
+      left_items_filled = items_filled start.pre Left start.args.left-items.now l.1.1;
+      right_numbers_filled = r.0;
+      right_ends_filled = ends_filled start.pre Right start.args.right-ends.now r.1.0;
+      right_items_filled = items_filled start.pre Right start.args.right-items.now r.1.1;
     }
 
 pub fill-lists-spec : {M : Type 1} → statement M

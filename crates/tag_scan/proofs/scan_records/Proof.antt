@@ -8,21 +8,21 @@ use native.Mathlib.Omega.{arith}
 use lib.ListN.{length, replicate, length-replicate}
 use Rattle.lists.specs.Lists.{keep, sum}
 use Rattle.bit_sets.specs.BitSets.{member}
-use Rattle.sets.specs.Limits.{maxSetLength, halfWords}
+use Rattle.sets.specs.Limits.{max_set_length, half_words}
 use Rattle.tag_file.specs.declared.LoadAnswer.{LoadAnswer}
 use Rattle.tag_file.specs.declared.ReadAnswer.TheVariants.{Record}
 use Rattle.tag_file.specs.Reading.{readAt}
-use Rattle.tag_file.specs.Records.{insertAll, allTags}
-use Rattle.tag_file.proofs.Ended.{no-records}
-use Rattle.tag_file.proofs.RecordLaws.{read-less, read_number, read_count}
-use Rattle.tag_index.specs.tag_adding.Adding.{seenWords, Adding}
-use Rattle.tag_index.proofs.tag_adding.AddLaws.{adding-start, added-distinct}
-use Rattle.tag_scan.specs.used_numbers.Keys.{usedWords, key_of}
-use Rattle.tag_scan.proofs.used_numbers.Numbers.{Noted, noted-start}
+use Rattle.tag_file.specs.Records.{insert_all, all_tags}
+use Rattle.tag_file.proofs.Ended.{no_records}
+use Rattle.tag_file.proofs.RecordLaws.{read_less, read_number, read_count}
+use Rattle.tag_index.specs.tag_adding.Adding.{seen_words, Adding}
+use Rattle.tag_index.proofs.tag_adding.AddLaws.{adding_start, added_distinct}
+use Rattle.tag_scan.specs.used_numbers.Keys.{used_words, key_of}
+use Rattle.tag_scan.proofs.used_numbers.Numbers.{Noted, noted_start}
 use Rattle.tag_scan.specs.Scan.{Scanned}
 use Rattle.tag_scan.proofs.Taking.{taken_start}
-use Rattle.tag_scan.proofs.Scanning.{Scanning, scanning-start, scanning-stop, scanning-used, scanning-room}
-use Rattle.tag_scan.proofs.Scanning.{distinct-few, repeats-room, scanning-past, scanning-next}
+use Rattle.tag_scan.proofs.Scanning.{Scanning, scanning_start, scanning_stop, scanning-used, scanning_room}
+use Rattle.tag_scan.proofs.Scanning.{distinct_few, repeats-room, scanning-past, scanning-next}
 use Rattle.tag_scan.proofs.scan_records.Statement.{statement}
 use Rattle.tag_scan.proofs.scan_records.Tie as tie
 
@@ -45,10 +45,10 @@ read : (a : tie.After-answer invariant-loop decreases-loop)
     ≡ Record r.0 r.1.0 r.1.1.0 r.1.1.1.0 r.1.1.1.1.0
 read a = sym a.before.before.read-record.ensures ∙ a.answer.given.1
 
-small : (a : tie.After-answer invariant-loop decreases-loop) → a.answer.given.0.1.0 < halfWords
+small : (a : tie.After-answer invariant-loop decreases-loop) → a.answer.given.0.1.0 < half_words
 small a = read_number _ _ (read a) (λ i. (a.before.before.before.before.before.shared-slice-known.given i).fits)
 
-few : (a : tie.After-answer invariant-loop decreases-loop) → a.answer.given.0.1.1.0 ≤ maxSetLength
+few : (a : tie.After-answer invariant-loop decreases-loop) → a.answer.given.0.1.1.0 ≤ max_set_length
 few a = read_count _ _ (read a) (λ i. (a.before.before.before.before.before.shared-slice-known.given i).fits)
 
 -- once its number was noted: the record, and the turn of the loop
@@ -60,8 +60,8 @@ named-turn n = (named n).before.before.before
 
 -- no tags of it are added yet
 none-added : (l : tie.At-loop invariant-loop decreases-loop)
-    → Adding [] l.loop.heads l.loop.tails l.loop.total.tag_count 0 l.loop.ids (replicate seenWords 0)
-none-added l = adding-start l.loop.invariant.taken.sorted
+    → Adding [] l.loop.heads l.loop.tails l.loop.total.tag_count 0 l.loop.ids (replicate seen_words 0)
+none-added l = adding_start l.loop.invariant.taken.sorted
 
 -- once its tags are added: where its number was noted, the record, the turn of the loop, and what its number was before
 abbrev noted : tie.After-add-tags invariant-loop decreases-loop → tie.After-claim invariant-loop decreases-loop
@@ -79,15 +79,15 @@ free : (g : tie.After-add-tags invariant-loop decreases-loop)
 free g = sym (noted g).claim.ensures.before ∙ g.before.before.before.before.before.before.if1.false
 
 -- the lent bit set keeps its length
-as_long : (s : tie.Start invariant-loop decreases-loop) {k : ℕ} → k ≡ usedWords → k ≡ length s.args.used.now
-as_long s e = e ∙ sym (ap length s.requires.1 ∙ length-replicate {A = ℕ} usedWords 0)
+as_long : (s : tie.Start invariant-loop decreases-loop) {k : ℕ} → k ≡ used_words → k ≡ length s.args.used.now
+as_long s e = e ∙ sym (ap length s.requires.1 ∙ length-replicate {A = ℕ} used_words 0)
 
 loop-holds : tie.Need-loop-init invariant-loop decreases-loop
-unfolding keep sum insertAll allTags
+unfolding keep sum insert_all all_tags
 loop-holds c =
     let a = c.before.before.args in
-    scanning-start a.file.now _ a.heads.now a.tails.now a.ids.now (taken_start _ _ _ _ c.before.before.requires.0 refl)
-    (subst (λ (l : List ℕ). Noted l []) (sym c.before.before.requires.1) noted-start)
+    scanning_start a.file.now _ a.heads.now a.tails.now a.ids.now (taken_start _ _ _ _ c.before.before.requires.0 refl)
+    (subst (λ (l : List ℕ). Noted l []) (sym c.before.before.requires.1) noted_start)
 
 read-record-requires : tie.Need-read-record-requires invariant-loop decreases-loop
 read-record-requires c κs =
@@ -110,9 +110,9 @@ returns c =
     let l = c.before.before.before.loop in
     let file = (start c.before.before.before).args.file.now in
     let read = c.before.before.read-record in
-    let stop = no-records file l.at read.result (sym read.ensures) c.before.match.keys2 in
+    let stop = no_records file l.at read.result (sym read.ensures) c.before.match.keys2 in
     subst (λ (r : LoadAnswer). Scanned file l.heads l.tails l.ids r) (sym c.stopped.ensures)
-    (scanning-stop l.invariant read.result (sym read.ensures) stop)
+    (scanning_stop l.invariant read.result (sym read.ensures) stop)
 
 claim-requires : tie.Need-claim-requires invariant-loop decreases-loop
 claim-requires c κs =
@@ -136,13 +136,13 @@ add-tags-requires : tie.Need-add-tags-requires invariant-loop decreases-loop
 add-tags-requires c κs =
     let n = c.before.before.before.before.before.before.before.before in
     let l = named-turn n in
-    (record { done = []; adding = none-added l }, scanning-room l.loop.inv (read (named n)) (few (named n)))
+    (record { done = []; adding = none-added l }, scanning_room l.loop.inv (read (named n)) (few (named n)))
 
 grown-requires : tie.Need-grown-requires invariant-loop decreases-loop
 grown-requires c κs =
     let g = c.before in
     let none = none-added (turn g) in
-    ((turn g).loop.invariant.taken.limited, distinct-few (turn g).loop.invariant (read (answered g)) (g.add-tags.ensures [] none) none (few (answered g)))
+    ((turn g).loop.invariant.taken.limited, distinct_few (turn g).loop.invariant (read (answered g)) (g.add-tags.ensures [] none) none (few (answered g)))
 
 is-over-requires : tie.Need-is-over-requires invariant-loop decreases-loop
 is-over-requires c κs =
@@ -164,7 +164,7 @@ sub-repeated : tie.Need-overflow-sub-repeated invariant-loop decreases-loop
 sub-repeated c =
     let g = c.before.before.before.before.before in
     let none = none-added (turn g) in
-    omega (arith, added-distinct none (g.add-tags.ensures [] none))
+    omega (arith, added_distinct none (g.add-tags.ensures [] none))
 
 repeated-requires : tie.Need-repeated-requires invariant-loop decreases-loop
 repeated-requires c κs =
@@ -173,7 +173,7 @@ repeated-requires c κs =
 
 loop-less : tie.Need-loop-smaller invariant-loop decreases-loop
 loop-less c =
-    read-less _ _ (read (answered c.before.before.before.before.before.before))
+    read_less _ _ (read (answered c.before.before.before.before.before.before))
 
 loop-again : tie.Need-loop-preserved invariant-loop decreases-loop
 loop-again c =

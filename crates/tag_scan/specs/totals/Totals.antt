@@ -1,6 +1,6 @@
 -- Inner: the counts and the repeats of a load, what the functions over them ask and promise.
 use Rattle.std.specs.Prelude.{ℕ, ◌+◌, ◌<◌, ◌≤◌, Bool, ◌||◌, ltb}
-use Rattle.sets.specs.Limits.{maxItems, maxSets, maxEntries}
+use Rattle.sets.specs.Limits.{max_items, max_sets, max_entries}
 use Rattle.sets.specs.declared.Side.{Side}
 use Rattle.sets.specs.declared.Side.TheVariants.{Left, Right}
 use Rattle.tag_file.specs.declared.Loaded.{Loaded}
@@ -9,8 +9,8 @@ use Rattle.tag_file.specs.declared.Repeats.{Repeats}
 -- ---- counts
 
 -- the counts with one more record of a side: the index has so many tags, and the record so many distinct ones
-abbrev pub grownBy : Loaded → Side → ℕ → ℕ → Loaded
-grownBy t Left tagCount distinct =
+abbrev pub grown_by : Loaded → Side → ℕ → ℕ → Loaded
+grown_by t Left tagCount distinct =
     record {
       left_sets = t.left_sets + 1;
       right_sets = t.right_sets;
@@ -18,7 +18,7 @@ grownBy t Left tagCount distinct =
       right_entries = t.right_entries;
       tag_count = tagCount;
     }
-grownBy t Right tagCount distinct =
+grown_by t Right tagCount distinct =
     record {
       left_sets = t.left_sets;
       right_sets = t.right_sets + 1;
@@ -29,7 +29,7 @@ grownBy t Right tagCount distinct =
 
 -- whether counts pass a limit
 abbrev pub passes : ℕ → ℕ → ℕ → Bool
-passes sets entries tagCount = ltb maxSets sets || (ltb maxEntries entries || ltb maxItems tagCount)
+passes sets entries tagCount = ltb max_sets sets || (ltb max_entries entries || ltb max_items tagCount)
 
 -- the same, for one side
 abbrev pub is_over : Loaded → Side → Bool
@@ -38,24 +38,24 @@ is_over t Right = passes t.right_sets t.right_entries t.tag_count
 
 -- the counts are within the limits
 pub record Limited (t : Loaded) : Type 0 where
-  pub left-sets : t.left_sets ≤ maxSets
-  pub right-sets : t.right_sets ≤ maxSets
-  pub left-entries : t.left_entries ≤ maxEntries
-  pub right-entries : t.right_entries ≤ maxEntries
-  pub tags : t.tag_count ≤ maxItems
+  pub left_sets : t.left_sets ≤ max_sets
+  pub right_sets : t.right_sets ≤ max_sets
+  pub left_entries : t.left_entries ≤ max_entries
+  pub right_entries : t.right_entries ≤ max_entries
+  pub tags : t.tag_count ≤ max_items
 
 -- ---- repeats
 
 -- with those of one more record of a side
-abbrev pub repeatedBy : Repeats → Side → ℕ → Repeats
-repeatedBy t Left more = record { left = t.left + more; right = t.right }
-repeatedBy t Right more = record { left = t.left; right = t.right + more }
+abbrev pub repeated_by : Repeats → Side → ℕ → Repeats
+repeated_by t Left more = record { left = t.left + more; right = t.right }
+repeated_by t Right more = record { left = t.left; right = t.right + more }
 
 -- how many numbers a word of 64 bits has
-abbrev pub wordNumbers : ℕ
-wordNumbers = 18446744073709551616
+abbrev pub word_numbers : ℕ
+word_numbers = 18446744073709551616
 
 -- so many more fit such a word
 pub record RepeatsRoom (t : Repeats) (more : ℕ) : Type 0 where
-  pub left : t.left + more < wordNumbers
-  pub right : t.right + more < wordNumbers
+  pub left : t.left + more < word_numbers
+  pub right : t.right + more < word_numbers

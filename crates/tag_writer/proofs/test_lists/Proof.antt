@@ -3,8 +3,8 @@ use mathlib.Core.Path.{◌≡◌, sym, ◌∙◌}
 use borrow.Author.Rules.{rules}
 use Rattle.sets.specs.declared.Side.TheVariants.{Left}
 use Rattle.tag_file.specs.Loading.{Lists, lists_of}
-use Rattle.tag_writer_spec.specs.Writer.{tableTest, numberedTest}
-use Rattle.tag_writer_spec.proofs.Tests.{lists-table, lists-left, lists-right}
+use Rattle.tag_writer_spec.specs.Writer.{table_test, numbered_test}
+use Rattle.tag_writer_spec.proofs.Tests.{lists-table, lists_left, lists_right}
 use Rattle.tag_writer.proofs.test_lists.Statement.{statement}
 use Rattle.tag_writer.proofs.test_lists.Tie as tie
 
@@ -20,15 +20,15 @@ abbrev start : tie.After-test-table → tie.Start
 start p = p.before.before.before.before.before.before.before.before
 
 -- what was found of the table, and of the left sets
-table : (p : tie.After-test-table) → tableTest (start p).args.t (lists (start p)).tags ≡ p.test_table.result
+table : (p : tie.After-test-table) → table_test (start p).args.t (lists (start p)).tags ≡ p.test_table.result
 table p = sym p.test_table.ensures
 
 abbrev earlier : tie.After-test-numbered → tie.After-test-table
 earlier p = p.before.before.before
 
 left : (p : tie.After-test-numbered)
-    → numberedTest (start (earlier p)).args.t Left (lists (start (earlier p))).leftNumbers
-    (lists (start (earlier p))).leftEnds (lists (start (earlier p))).leftItems ≡ p.test-numbered.result
+    → numbered_test (start (earlier p)).args.t Left (lists (start (earlier p))).left_numbers
+    (lists (start (earlier p))).left_ends (lists (start (earlier p))).left_items ≡ p.test-numbered.result
 left p = sym p.test-numbered.ensures
 
 returns : tie.Need-returns
@@ -40,14 +40,14 @@ returns-2 : tie.Need-returns-2
 returns-2 c =
     let p = c.before.before.before in
     let s = start (earlier p) in
-    lists-left s.args.t (lists s) (table (earlier p) ∙ p.before.enum_told.given.1) _
+    lists_left s.args.t (lists s) (table (earlier p) ∙ p.before.enum_told.given.1) _
     (left p ∙ c.before.left.given.1)
 
 returns-3 : tie.Need-returns-3
 returns-3 c =
     let p = c.before.before.before in
     let s = start (earlier p) in
-    lists-right s.args.t (lists s) (table (earlier p) ∙ p.before.enum_told.given.1)
+    lists_right s.args.t (lists s) (table (earlier p) ∙ p.before.enum_told.given.1)
     (left p ∙ c.before.enum-told2.given.1) c.test-numbered2.ensures
 
 pub test-lists-spec : {M : Type 1} → statement M

@@ -1,7 +1,7 @@
 -- `test_table` meets its contract: a case for each return.
 use mathlib.Core.Path.{◌≡◌, sym, ◌∙◌}
 use borrow.Author.Rules.{rules}
-use Rattle.inputs.specs.Tests.{itemsTest}
+use Rattle.inputs.specs.Tests.{items_test}
 use Rattle.tag_writer_spec.proofs.Tests.{table-items, table-other, table-whole}
 use Rattle.tag_writer.proofs.test_table.Statement.{statement}
 use Rattle.tag_writer.proofs.test_table.Tie as tie
@@ -10,7 +10,7 @@ use Rattle.tag_writer.proofs.test_table.Tie as tie
 abbrev start : tie.After-test-items → tie.Start
 start p = p.before.before
 
-found : (p : tie.After-test-items) → itemsTest (start p).args.t ≡ p.test-items.result
+found : (p : tie.After-test-items) → items_test (start p).args.t ≡ p.test-items.result
 found p = sym p.test-items.ensures
 
 returns : tie.Need-returns

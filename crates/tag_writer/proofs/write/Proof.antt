@@ -2,9 +2,9 @@
 use mathlib.Core.Path.{◌≡◌, sym, ◌∙◌}
 use borrow.Author.Rules.{rules}
 use Rattle.tag_file.specs.Loading.{Lists, lists_of}
-use Rattle.tag_writer_spec.specs.Writer.{listsTest}
+use Rattle.tag_writer_spec.specs.Writer.{lists_test}
 use Rattle.tag_writer_spec.proofs.Tests.{lists-passed}
-use Rattle.tag_writer_spec.proofs.Answers.{call-refused, call-passed}
+use Rattle.tag_writer_spec.proofs.Answers.{call_refused, call-passed}
 use Rattle.tag_writer.proofs.write.Statement.{statement}
 use Rattle.tag_writer.proofs.write.Tie as tie
 
@@ -19,7 +19,7 @@ lists s =
 abbrev start : tie.After-test-lists → tie.Start
 start p = p.before.before.before.before.before.before.before.before.before
 
-tested : (p : tie.After-test-lists) → listsTest (start p).args.t (lists (start p)) ≡ p.test-lists.result
+tested : (p : tie.After-test-lists) → lists_test (start p).args.t (lists (start p)) ≡ p.test-lists.result
 tested p = sym p.test-lists.ensures
 
 write-good-requires : tie.Need-write-good-requires
@@ -32,7 +32,7 @@ returns : tie.Need-returns
 returns c =
     let p = c.before.before.before in
     let s = start p in
-    call-refused s.args.t (lists s) s.args.file.now _ (tested p ∙ c.before.tested.given.1)
+    call_refused s.args.t (lists s) s.args.file.now _ (tested p ∙ c.before.tested.given.1)
 
 returns-2 : tie.Need-returns-2
 returns-2 c =

@@ -4,7 +4,7 @@ use Prim.Native.Nat.{◌+◌}
 use native.Mathlib.Omega.{arith}
 use lib.ListN.{length}
 use Rattle.tag_file.specs.Loading.{Lists, lists_of}
-use Rattle.tag_writer_spec.specs.Writer.{leftBytes, rightBytes, fileBytes}
+use Rattle.tag_writer_spec.specs.Writer.{left_bytes, right_bytes, file_bytes}
 use Rattle.tag_writer_spec.proofs.Answers.{side-limits, left-size, right-size, file-size, put_sides, within, short}
 use borrow.Author.Rules.{rules}
 use Rattle.tag_writer.proofs.write_good.Statement.{statement}
@@ -21,14 +21,14 @@ lists s =
 abbrev start : tie.After-side-length2 → tie.Start
 start p = p.before.before.before.before.before.before.before.before.before.before
 
-left-long : (p : tie.After-side-length2) → length (leftBytes (lists (start p))) ≡ p.before.side-length.result
+left-long : (p : tie.After-side-length2) → length (left_bytes (lists (start p))) ≡ p.before.side-length.result
 left-long p = left-size (lists (start p)) (start p).requires ∙ sym p.before.side-length.ensures
 
-right-long : (p : tie.After-side-length2) → length (rightBytes (lists (start p))) ≡ p.side-length2.result
+right-long : (p : tie.After-side-length2) → length (right_bytes (lists (start p))) ≡ p.side-length2.result
 right-long p = right-size (lists (start p)) (start p).requires ∙ sym p.side-length2.ensures
 
 file-long : (p : tie.After-side-length2)
-    → length (fileBytes (lists (start p))) ≡ p.before.side-length.result + p.side-length2.result
+    → length (file_bytes (lists (start p))) ≡ p.before.side-length.result + p.side-length2.result
 file-long p = omega (arith, file-size (lists (start p)) (start p).requires, left-long p, right-long p)
 
 side-length-requires : tie.Need-side-length-requires
@@ -49,7 +49,7 @@ returns : tie.Need-returns
 returns c =
     let sizes = c.before.before.before.before.before in
     let s = start sizes in (
-      short (length s.args.file.now) (fileBytes (lists s)) _ (file-long sizes)
+      short (length s.args.file.now) (file_bytes (lists s)) _ (file-long sizes)
           c.before.before.before.before.if1.true,
       c.before.before.zero-u8.ensures,
     )
@@ -72,7 +72,7 @@ returns-2 c =
     let s = start sizes in
     let file = s.args.file.now in
     let room = first.before.before.if1.false in (
-      within (length file) (fileBytes (lists s)) _ (file-long sizes) room,
+      within (length file) (file_bytes (lists s)) _ (file-long sizes) room,
       put_sides (lists s) s.pre file _ _ _ (left-long sizes) (omega (arith, file-long sizes, room))
           first.put-side.ensures c.before.before.put-side2.ensures,
     )

@@ -11,28 +11,28 @@ use Rattle.join_spec.specs.declared.Counts.{Counts}
 use Rattle.join_spec.specs.declared.JoinAnswer.{JoinAnswer}
 use Rattle.join_spec.specs.declared.JoinAnswer.TheVariants.{Joined, Refused}
 use Rattle.tag_file.specs.declared.Repeats.{Repeats}
-use Rattle.text.specs.counts_line.Room.{lineRoom}
+use Rattle.text.specs.counts_line.Room.{line_room}
 use Rattle.text.specs.pair_lines.Room.{PairsRoom}
-use Rattle.text.specs.Lines.{refusalLine, countsLine, repeatsLine, pairLines}
-use Rattle.text.specs.number_lines.Room.{repeatsRoom}
-use Rattle.text.specs.answer_text.AnswerText.{answerText}
-use Rattle.text.specs.answer_text.Inner.{foundPairs, AnswerFits}
+use Rattle.text.specs.Lines.{refusal_line, counts_line, repeats_line, pair_lines}
+use Rattle.text.specs.number_lines.Room.{repeats_room}
+use Rattle.text.specs.answer_text.AnswerText.{answer_text}
+use Rattle.text.specs.answer_text.Inner.{found_pairs, AnswerFits}
 
-module _ (repeats : Repeats) (leftNumbers rightNumbers pairs : List ℕ) {answer : JoinAnswer} where
-  pub text-joined : {counts : Counts} → answer ≡ Joined counts
-      → countsLine counts ++ (repeatsLine repeats ++ pairLines leftNumbers rightNumbers (take (2 * counts.pairs) pairs))
-      ≡ answerText repeats leftNumbers rightNumbers (foundPairs answer pairs) answer
-  text-joined is = sym (ap (λ (a : JoinAnswer). answerText repeats leftNumbers rightNumbers (foundPairs a pairs) a) is)
+module _ (repeats : Repeats) (left_numbers right_numbers pairs : List ℕ) {answer : JoinAnswer} where
+  pub text_joined : {counts : Counts} → answer ≡ Joined counts
+      → counts_line counts ++ (repeats_line repeats ++ pair_lines left_numbers right_numbers (take (2 * counts.pairs) pairs))
+      ≡ answer_text repeats left_numbers right_numbers (found_pairs answer pairs) answer
+  text_joined is = sym (ap (λ (a : JoinAnswer). answer_text repeats left_numbers right_numbers (found_pairs a pairs) a) is)
 
-  pub text-refused : {why : Refusal} → answer ≡ Refused why
-      → refusalLine why ≡ answerText repeats leftNumbers rightNumbers (foundPairs answer pairs) answer
-  text-refused is = sym (ap (λ (a : JoinAnswer). answerText repeats leftNumbers rightNumbers (foundPairs a pairs) a) is)
+  pub text_refused : {why : Refusal} → answer ≡ Refused why
+      → refusal_line why ≡ answer_text repeats left_numbers right_numbers (found_pairs answer pairs) answer
+  text_refused is = sym (ap (λ (a : JoinAnswer). answer_text repeats left_numbers right_numbers (found_pairs a pairs) a) is)
 
-pub lines-room : {answer : JoinAnswer} {pairs leftNumbers rightNumbers text : List ℕ} {counts : Counts}
-    → AnswerFits answer pairs leftNumbers rightNumbers text → answer ≡ Joined counts
-    → (now : List ℕ) (n : ℕ) → n ≤ lineRoom + repeatsRoom → length now ≡ length text
-    → PairsRoom now n (take (2 * counts.pairs) pairs) leftNumbers rightNumbers
-lines-room {answer} {pairs} {leftNumbers} {rightNumbers} {text} {counts} fits is now n low same =
+pub lines_room : {answer : JoinAnswer} {pairs left_numbers right_numbers text : List ℕ} {counts : Counts}
+    → AnswerFits answer pairs left_numbers right_numbers text → answer ≡ Joined counts
+    → (now : List ℕ) (n : ℕ) → n ≤ line_room + repeats_room → length now ≡ length text
+    → PairsRoom now n (take (2 * counts.pairs) pairs) left_numbers right_numbers
+lines_room {answer} {pairs} {left_numbers} {right_numbers} {text} {counts} fits is now n low same =
     record {
       within = fits.within counts is;
       room = omega (arith, fits.room, fits.filled counts is, length-take-le (2 * counts.pairs) pairs (fits.filled counts is));

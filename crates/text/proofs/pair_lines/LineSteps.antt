@@ -6,17 +6,17 @@ use mathlib.Core.Bool.{true}
 use native.Mathlib.Omega.{arith}
 use lib.ListN.{length, get_or, drop}
 use Rattle.lists.specs.Writing.{Put}
-use Rattle.lists.proofs.Writing.{put-append}
-use Rattle.text.specs.Lines.{pairLine, pairLines}
-use Rattle.text.specs.pair_lines.Room.{pairsWithin, pairRoom, PairsRoom}
-use Rattle.text.proofs.pair_lines.PairPlaces.{PairAt, pair-at, lines_end}
+use Rattle.lists.proofs.Writing.{put_append}
+use Rattle.text.specs.Lines.{pair_line, pair_lines}
+use Rattle.text.specs.pair_lines.Room.{pairs_within, pair_room, PairsRoom}
+use Rattle.text.proofs.pair_lines.PairPlaces.{PairAt, pair_at, lines_end}
 
 -- so many places of the pairs were gone through, and their lines are written: done, from place at up to place n
 pub record LinesLeft (was : List ℕ) (at : ℕ) (pairs lefts rights text : List ℕ) (n i : ℕ) : Type 0 where
   pub done : List ℕ
   pub put : Put was at done n text
-  pub whole : done ++ pairLines lefts rights (drop i pairs) ≡ pairLines lefts rights pairs
-  pub within : pairsWithin (length lefts) (length rights) (drop i pairs) ≡ true
+  pub whole : done ++ pair_lines lefts rights (drop i pairs) ≡ pair_lines lefts rights pairs
+  pub within : pairs_within (length lefts) (length rights) (drop i pairs) ≡ true
   pub room : n + 6 * (length pairs - i) ≤ at + 6 * length pairs
   pub fits : at + 6 * length pairs ≤ length was
   pub same : length text ≡ length was
@@ -36,30 +36,30 @@ lines_start was at pairs lefts rights r =
 
 module _ {was : List ℕ} {at : ℕ} {pairs lefts rights text : List ℕ} {n i : ℕ} (l : LinesLeft was at pairs lefts rights text n i) where
   module _ (more : i < length pairs) where
-    pub pair-next : PairAt lefts rights pairs i
-    pair-next = pair-at lefts rights pairs i l.within more
+    pub pair_next : PairAt lefts rights pairs i
+    pair_next = pair_at lefts rights pairs i l.within more
 
-    pub line-room : n + pairRoom ≤ length text
-    line-room = omega (arith, l.room, l.fits, l.same, pair-next.whole)
+    pub line_room : n + pair_room ≤ length text
+    line_room = omega (arith, l.room, l.fits, l.same, pair_next.whole)
 
     pub lines_step : {r : ℕ} {next : List ℕ}
-        → Put text n (pairLine (get_or lefts (get_or pairs i 0) 0) (get_or rights (get_or pairs (i + 1) 0) 0)) r next
-        → r ≤ n + pairRoom → length next ≡ length text → LinesLeft was at pairs lefts rights next r (i + 2)
+        → Put text n (pair_line (get_or lefts (get_or pairs i 0) 0) (get_or rights (get_or pairs (i + 1) 0) 0)) r next
+        → r ≤ n + pair_room → length next ≡ length text → LinesLeft was at pairs lefts rights next r (i + 2)
     lines_step {r} {next} line short kept =
-        let this = pairLine (get_or lefts (get_or pairs i 0) 0) (get_or rights (get_or pairs (i + 1) 0) 0) in
+        let this = pair_line (get_or lefts (get_or pairs i 0) 0) (get_or rights (get_or pairs (i + 1) 0) 0) in
         record {
           done = l.done ++ this;
-          put = put-append l.put line;
-          whole = append_assoc l.done this (pairLines lefts rights (drop (i + 2) pairs))
-              ∙ ap (λ (rest : List ℕ). l.done ++ rest) (sym pair-next.lines) ∙ l.whole;
-          within = pair-next.rest;
-          room = omega (arith, l.room, pair-next.whole);
+          put = put_append l.put line;
+          whole = append_assoc l.done this (pair_lines lefts rights (drop (i + 2) pairs))
+              ∙ ap (λ (rest : List ℕ). l.done ++ rest) (sym pair_next.lines) ∙ l.whole;
+          within = pair_next.rest;
+          room = omega (arith, l.room, pair_next.whole);
           fits = l.fits;
           same = kept ∙ l.same;
         }
 
-  pub lines-all : length pairs ≤ i → Put was at (pairLines lefts rights pairs) n text
-  lines-all past =
+  pub lines_all : length pairs ≤ i → Put was at (pair_lines lefts rights pairs) n text
+  lines_all past =
       subst (λ (all : List ℕ). Put was at all n text)
       (sym (append-nil l.done) ∙ ap (λ (rest : List ℕ). l.done ++ rest) (sym (lines_end lefts rights pairs i past)) ∙ l.whole)
       l.put

@@ -2,7 +2,7 @@
 use native.Mathlib.Omega.{arith}
 use lib.ListN.{length-append}
 use borrow.Author.Rules.{rules}
-use Rattle.lists.proofs.Writing.{put-append}
+use Rattle.lists.proofs.Writing.{put_append}
 use Rattle.text.specs.Lines.{decimal}
 use Rattle.text.proofs.put_labelled.Statement.{statement}
 use Rattle.text.proofs.put_labelled.Tie as tie
@@ -20,7 +20,7 @@ put-number-requires c κs =
 
 returns : tie.Need-returns
 returns c =
-    put-append c.before.before.before.before.before.before.put_word.ensures c.before.before.put-number.ensures
+    put_append c.before.before.before.before.before.before.put_word.ensures c.before.before.put_number.ensures
 
 pub put-labelled-spec : {M : Type 1} → statement M
 put-labelled-spec = tie.close (tie.spec put-word-requires put-number-requires (λ c. search rules) returns)

@@ -1,7 +1,7 @@
 -- `text::put_numbers` meets its contract: two numbers of at most twenty digits.
 use native.Mathlib.Omega.{arith}
 use borrow.Author.Rules.{rules}
-use Rattle.lists.proofs.Writing.{put-append}
+use Rattle.lists.proofs.Writing.{put_append}
 use Rattle.text.specs.Lines.{ascii}
 use Rattle.text.proofs.LineBounds.{long-labelled}
 use Rattle.text.proofs.put_numbers.Statement.{statement}
@@ -49,7 +49,7 @@ returns c =
     let second = later.put-labelled2 in
     let first = later.before.before.before.before.before.put-labelled in
     let start = later.before.before.before.before.before.before.before.before.before in (
-      put-append first.ensures (put-append second.ensures end.ensures),
+      put_append first.ensures (put_append second.ensures end.ensures),
       omega (
         arith,
         first.ensures.past,

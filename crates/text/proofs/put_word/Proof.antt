@@ -8,7 +8,7 @@ use native.Mathlib.Omega.{arith}
 use lib.ListN.{length, get_or, set, drop, drop_of_length-le}
 use lib.Seq.{drop-cons}
 use Rattle.lists.specs.Writing.{Put}
-use Rattle.lists.proofs.Writing.{Writing, writing_start, writing_step, writing-end, writing-room}
+use Rattle.lists.proofs.Writing.{Writing, writing_start, writing_step, writing_end, writing_room}
 use Rattle.text.proofs.put_word.Statement.{statement}
 use Rattle.text.proofs.put_word.Tie as tie
 
@@ -29,7 +29,7 @@ loop-holds : tie.Need-loop-init invariant-loop decreases-loop
 loop-holds c = writing_start _ _ _ c.requires
 
 byte-room : (c : tie.After-shared-slice-known invariant-loop decreases-loop) → c.before.before.loop.n + 1 ≤ length c.before.before.loop.text
-byte-room c = writing-room c.before.before.loop.invariant (_ ∷ []) _ (byte_next _ _ c.before.loop-test.true)
+byte-room c = writing_room c.before.before.loop.invariant (_ ∷ []) _ (byte_next _ _ c.before.loop-test.true)
 
 shared-slice-read-text : tie.Need-shared-slice-read-text invariant-loop decreases-loop
 shared-slice-read-text c =
@@ -53,7 +53,7 @@ same_length c =
 
 returns : tie.Need-returns invariant-loop decreases-loop
 returns c =
-    writing-end c.before.loop.invariant (drop_of_length-le c.before.before.args.word.now {i = c.before.loop.i} c.loop-test.false)
+    writing_end c.before.loop.invariant (drop_of_length-le c.before.before.args.word.now {i = c.before.loop.i} c.loop-test.false)
 
 pub put-word-spec : {M : Type 1} → statement M
 put-word-spec =

@@ -4,10 +4,10 @@ use Rattle.std.specs.Prelude.{ℕ, List, ◌++◌}
 use Rattle.join_spec.specs.declared.JoinAnswer.{JoinAnswer}
 use Rattle.join_spec.specs.declared.JoinAnswer.TheVariants.{Joined, Refused}
 use Rattle.tag_file.specs.declared.Repeats.{Repeats}
-use Rattle.text.specs.Lines.{refusalLine, countsLine, repeatsLine, pairLines}
+use Rattle.text.specs.Lines.{refusal_line, counts_line, repeats_line, pair_lines}
 
 -- the text of a join's answer: the counts, the repeats and a line for each pair, by its records' numbers; or the refusal alone
-abbrev pub answerText : Repeats → List ℕ → List ℕ → List ℕ → JoinAnswer → List ℕ
-answerText repeats leftNumbers rightNumbers pairs (Joined counts) =
-    countsLine counts ++ (repeatsLine repeats ++ pairLines leftNumbers rightNumbers pairs)
-answerText repeats leftNumbers rightNumbers pairs (Refused why) = refusalLine why
+abbrev pub answer_text : Repeats → List ℕ → List ℕ → List ℕ → JoinAnswer → List ℕ
+answer_text repeats left_numbers right_numbers pairs (Joined counts) =
+    counts_line counts ++ (repeats_line repeats ++ pair_lines left_numbers right_numbers pairs)
+answer_text repeats left_numbers right_numbers pairs (Refused why) = refusal_line why

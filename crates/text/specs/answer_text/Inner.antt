@@ -3,18 +3,18 @@ use Rattle.std.specs.Prelude.{ℕ, ◌+◌, ◌*◌, ◌≤◌, ◌≡◌, List,
 use Rattle.join_spec.specs.declared.Counts.{Counts}
 use Rattle.join_spec.specs.declared.JoinAnswer.{JoinAnswer}
 use Rattle.join_spec.specs.declared.JoinAnswer.TheVariants.{Joined, Refused}
-use Rattle.text.specs.counts_line.Room.{lineRoom}
-use Rattle.text.specs.pair_lines.Room.{pairsWithin}
-use Rattle.text.specs.number_lines.Room.{repeatsRoom}
+use Rattle.text.specs.counts_line.Room.{line_room}
+use Rattle.text.specs.pair_lines.Room.{pairs_within}
+use Rattle.text.specs.number_lines.Room.{repeats_room}
 
 -- the filled part of a pair list, by the answer that came with it; none if it refuses
-abbrev pub foundPairs : JoinAnswer → List ℕ → List ℕ
-foundPairs (Joined counts) pairs = take (2 * counts.pairs) pairs
-foundPairs (Refused why) pairs = []
+abbrev pub found_pairs : JoinAnswer → List ℕ → List ℕ
+found_pairs (Joined counts) pairs = take (2 * counts.pairs) pairs
+found_pairs (Refused why) pairs = []
 
 -- the filled part is within the pair list, its places have numbers, and there is room for the text
-pub record AnswerFits (answer : JoinAnswer) (pairs leftNumbers rightNumbers text : List ℕ) : Type 0 where
+pub record AnswerFits (answer : JoinAnswer) (pairs left_numbers right_numbers text : List ℕ) : Type 0 where
   pub filled : (counts : Counts) → answer ≡ Joined counts → 2 * counts.pairs ≤ length pairs
   pub within : (counts : Counts) → answer ≡ Joined counts
-      → pairsWithin (length leftNumbers) (length rightNumbers) (take (2 * counts.pairs) pairs) ≡ true
-  pub room : lineRoom + repeatsRoom + 6 * length pairs ≤ length text
+      → pairs_within (length left_numbers) (length right_numbers) (take (2 * counts.pairs) pairs) ≡ true
+  pub room : line_room + repeats_room + 6 * length pairs ≤ length text

@@ -1,7 +1,7 @@
 -- Inner: the bytes that the line of the repeats takes at most.
 use Rattle.std.specs.Prelude.{ℕ, ◌+◌}
-use Rattle.text.specs.Room.{numbersRoom}
+use Rattle.text.specs.Room.{numbers_room}
 
 -- the line of the repeats: its word has 8 bytes
-abbrev pub repeatsRoom : ℕ
-repeatsRoom = 8 + numbersRoom
+abbrev pub repeats_room : ℕ
+repeats_room = 8 + numbers_room

@@ -9,13 +9,13 @@ use borrow.Author.Tests.{lt-leb, le-leb, lt-ltb, le-ltb}
 use lib.Dec.{leb, ltb, leb-zero}
 use lib.ListN.{length, get_or}
 use Rattle.sets.specs.Collections.{between}
-use Rattle.sets.proofs.Between.{between_cons, between-nil}
-use Rattle.lists.specs.Lists.{all, rising, risingAfter}
+use Rattle.sets.proofs.Between.{between_cons, between_nil}
+use Rattle.lists.specs.Lists.{all, rising, rising_after}
 
 -- whether the numbers are below T, the first at least least, and each later one above the one before
-unfoldable pub risesFrom : ℕ → ℕ → List ℕ → Bool
-risesFrom T least [] = true
-risesFrom T least (x ∷ xs) = (leb least x && ltb x T) && risesFrom T (suc x) xs
+unfoldable pub rises_from : ℕ → ℕ → List ℕ → Bool
+rises_from T least [] = true
+rises_from T least (x ∷ xs) = (leb least x && ltb x T) && rises_from T (suc x) xs
 
 regroup : (a b c d : Bool) → ((a && b) && (c && d)) ≡ ((b && c) && (a && d))
 regroup true true c d = refl
@@ -28,37 +28,37 @@ never : (b r : Bool) → ((b && false) && r) ≡ false
 never true r = refl
 never false r = refl
 
-pub rises-after : (T x : ℕ) (l : List ℕ) → risesFrom T (suc x) l ≡ (all (λ i. ltb i T) l && risingAfter x l)
-unfolding risesFrom all risingAfter
-rises-after T x [] = refl
-rises-after T x (y ∷ ys) =
-    ap (λ (b : Bool). (ltb x y && ltb y T) && b) (rises-after T y ys)
-    ∙ regroup (ltb x y) (ltb y T) (all (λ i. ltb i T) ys) (risingAfter y ys)
+pub rises_after : (T x : ℕ) (l : List ℕ) → rises_from T (suc x) l ≡ (all (λ i. ltb i T) l && rising_after x l)
+unfolding rises_from all rising_after
+rises_after T x [] = refl
+rises_after T x (y ∷ ys) =
+    ap (λ (b : Bool). (ltb x y && ltb y T) && b) (rises_after T y ys)
+    ∙ regroup (ltb x y) (ltb y T) (all (λ i. ltb i T) ys) (rising_after y ys)
 
-pub rises-all : (T : ℕ) (l : List ℕ) → risesFrom T 0 l ≡ (all (λ i. ltb i T) l && rising l)
-unfolding risesFrom all rising
-rises-all T [] = refl
-rises-all T (x ∷ xs) =
-    rw (leb-zero x, rises-after T x xs) (sym (and_assoc (ltb x T) (all (λ i. ltb i T) xs) (risingAfter x xs)))
+pub rises_all : (T : ℕ) (l : List ℕ) → rises_from T 0 l ≡ (all (λ i. ltb i T) l && rising l)
+unfolding rises_from all rising
+rises_all T [] = refl
+rises_all T (x ∷ xs) =
+    rw (leb-zero x, rises_after T x xs) (sym (and_assoc (ltb x T) (all (λ i. ltb i T) xs) (rising_after x xs)))
 
 -- the test along the part of a list from i up to end, where x stands at i
 module _ (T end i : ℕ) (l : List ℕ) (below : i < end) (within : end ≤ length l) where
-  pub rises-low : (least : ℕ) → get_or l i 0 < least → risesFrom T least (between i end l) ≡ false
-  unfolding risesFrom
-  rises-low least low = rw (between_cons i end l below within, lt-leb least (get_or l i 0) low)
+  pub rises_low : (least : ℕ) → get_or l i 0 < least → rises_from T least (between i end l) ≡ false
+  unfolding rises_from
+  rises_low least low = rw (between_cons i end l below within, lt-leb least (get_or l i 0) low)
 
-  pub rises-high : (least : ℕ) → T ≤ get_or l i 0 → risesFrom T least (between i end l) ≡ false
-  unfolding risesFrom
-  rises-high least high =
+  pub rises_high : (least : ℕ) → T ≤ get_or l i 0 → rises_from T least (between i end l) ≡ false
+  unfolding rises_from
+  rises_high least high =
       rw (between_cons i end l below within, le-ltb (get_or l i 0) T high)
-      (never (leb least (get_or l i 0)) (risesFrom T (suc (get_or l i 0)) (between (i + 1) end l)))
+      (never (leb least (get_or l i 0)) (rises_from T (suc (get_or l i 0)) (between (i + 1) end l)))
 
   pub rises_next : (least : ℕ) → least ≤ get_or l i 0 → get_or l i 0 < T
-      → risesFrom T least (between i end l) ≡ risesFrom T (get_or l i 0 + 1) (between (i + 1) end l)
-  unfolding risesFrom
+      → rises_from T least (between i end l) ≡ rises_from T (get_or l i 0 + 1) (between (i + 1) end l)
+  unfolding rises_from
   rises_next least low high =
       rw (between_cons i end l below within, le-leb least (get_or l i 0) low, lt-ltb (get_or l i 0) T high, add-one (get_or l i 0))
 
-pub rises-end : (T end i least : ℕ) (l : List ℕ) → end ≤ i → risesFrom T least (between i end l) ≡ true
-unfolding risesFrom
-rises-end T end i least l past = rw (between-nil i end l past)
+pub rises_end : (T end i least : ℕ) (l : List ℕ) → end ≤ i → rises_from T least (between i end l) ≡ true
+unfolding rises_from
+rises_end T end i least l past = rw (between_nil i end l past)

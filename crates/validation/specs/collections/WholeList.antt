@@ -4,6 +4,6 @@ use Rattle.sets.specs.declared.Verdict.{Verdict}
 use Rattle.sets.specs.declared.Verdict.TheVariants.{Good, Bad}
 
 -- whether no set is bad
-abbrev pub isGood : Verdict → Bool
-isGood Good = true
-isGood (Bad k) = false
+abbrev pub is_good : Verdict → Bool
+is_good Good = true
+is_good (Bad k) = false

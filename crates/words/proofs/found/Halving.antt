@@ -8,10 +8,10 @@ use borrow.Author.Tests.{ltb-true, ltb-false, eq-eqb, ne_eqb}
 use lib.Dec.{eqb, ltb}
 use lib.ListN.{length, get_or}
 use Rattle.lists.specs.Lists.{memb, slice}
-use Rattle.lists.proofs.Bools.{by-test, true-false}
-use Rattle.lists.proofs.Membership.{Place, memb-at, memb-place}
-use Rattle.lists.proofs.Rising.{rising-below}
-use Rattle.lists.proofs.Slices.{length-slice, getD-slice}
+use Rattle.lists.proofs.Bools.{by_test, true-false}
+use Rattle.lists.proofs.Membership.{Place, memb_at, memb_place}
+use Rattle.lists.proofs.Rising.{rising_below}
+use Rattle.lists.proofs.Slices.{length-slice, get_d_slice}
 use Rattle.words.specs.Merges.{Rising}
 use Rattle.words.specs.found.Halving.{Parted}
 
@@ -20,13 +20,13 @@ module _ {a b : ℕ} {w : List ℕ} (part : Rising a b w) where
   word_in : (i : ℕ) → a ≤ i → i < b → get_or (slice a b w) (i - a) 0 ≡ get_or w i 0
   word_in i low high =
       let place : a + (i - a) ≡ i = omega arith in
-      getD-slice 0 a b (i - a) w (omega arith) ∙ ap (λ (k : ℕ). get_or w k 0) place
+      get_d_slice 0 a b (i - a) w (omega arith) ∙ ap (λ (k : ℕ). get_or w k 0) place
 
   rises : (i j : ℕ) → a ≤ i → i < j → j < b → get_or w i 0 < get_or w j 0
   rises i j low less high =
       omega (
         arith,
-        rising-below (slice a b w) part.rise (i - a) (j - a) (omega arith)
+        rising_below (slice a b w) part.rise (i - a) (j - a) (omega arith)
             (omega (arith, length-slice a b w part.within)),
         word_in i low (omega arith),
         word_in j (omega arith) high,
@@ -40,8 +40,8 @@ pub record Halving (a b x : ℕ) (w : List ℕ) (lo hi : ℕ) : Type 0 where
   pub under : (i : ℕ) → a ≤ i → i < lo → get_or w i 0 < x
   pub over : (i : ℕ) → hi ≤ i → i < b → x ≤ get_or w i 0
 
-pub halving-start : (a b x : ℕ) (w : List ℕ) → a ≤ b → Halving a b x w a b
-halving-start a b x w order =
+pub halving_start : (a b x : ℕ) (w : List ℕ) → a ≤ b → Halving a b x w a b
+halving_start a b x w order =
     record {
       low = omega arith;
       ordered = order;
@@ -52,14 +52,14 @@ halving-start a b x w order =
 
 module _ {a b x lo hi mid : ℕ} {w : List ℕ} (part : Rising a b w) (h : Halving a b x w lo hi) (after : lo ≤ mid)
     (before : mid < hi) where
-  pub halving-up : get_or w mid 0 < x → Halving a b x w (mid + 1) hi
-  halving-up less =
+  pub halving_up : get_or w mid 0 < x → Halving a b x w (mid + 1) hi
+  halving_up less =
       record {
         low = omega (arith, h.low);
         ordered = omega arith;
         high = h.high;
         under = λ i from upto.
-            by-test (ltb i mid)
+            by_test (ltb i mid)
             (λ t.
             let lower = rises part i mid from (ltb-true i mid t) (omega (arith, h.high)) in
             omega (arith, lower, less))
@@ -70,15 +70,15 @@ module _ {a b x lo hi mid : ℕ} {w : List ℕ} (part : Rising a b w) (h : Halvi
       same : (i : ℕ) → i ≡ mid → get_or w i 0 < x
       same i e = rw e less
 
-  pub halving-down : x ≤ get_or w mid 0 → Halving a b x w lo mid
-  halving-down most =
+  pub halving_down : x ≤ get_or w mid 0 → Halving a b x w lo mid
+  halving_down most =
       record {
         low = h.low;
         ordered = after;
         high = omega (arith, h.high);
         under = h.under;
         over = λ i from upto.
-            by-test (ltb mid i)
+            by_test (ltb mid i)
             (λ t.
             let higher = rises part mid i (omega (arith, h.low)) (ltb-true mid i t) upto in
             omega (arith, higher, most))
@@ -88,8 +88,8 @@ module _ {a b x lo hi mid : ℕ} {w : List ℕ} (part : Rising a b w) (h : Halvi
       same : (i : ℕ) → i ≡ mid → x ≤ get_or w i 0
       same i e = rw e most
 
-pub halving-end : {a b x lo hi : ℕ} {w : List ℕ} → Halving a b x w lo hi → hi ≤ lo → Parted a b x w lo
-halving-end h past =
+pub halving_end : {a b x lo hi : ℕ} {w : List ℕ} → Halving a b x w lo hi → hi ≤ lo → Parted a b x w lo
+halving_end h past =
     record {
       low = h.low;
       high = omega (arith, h.high, h.ordered);
@@ -103,11 +103,11 @@ module _ {a b x r : ℕ} {w : List ℕ} (part : Rising a b w) (found : Parted a 
   place_is : (p : ℕ) → p < length (slice a b w) → get_or (slice a b w) p 0 ≡ x → a + p ≡ r
   place_is p inside here =
       let size = length-slice a b w part.within in
-      let word : get_or w (a + p) 0 ≡ x = sym (getD-slice 0 a b p w (omega (arith, size, inside))) ∙ here in
-      by-test (ltb (a + p) r)
+      let word : get_or w (a + p) 0 ≡ x = sym (get_d_slice 0 a b p w (omega (arith, size, inside))) ∙ here in
+      by_test (ltb (a + p) r)
       (λ t. absurd (omega (arith, found.under (a + p) (omega arith) (ltb-true (a + p) r t), word)))
       (λ f.
-      by-test (ltb r (a + p))
+      by_test (ltb r (a + p))
       (λ t.
       let before = rises part r (a + p) found.low (ltb-true r (a + p) t) (omega (arith, size, inside)) in
       absurd (omega (arith, before, word, found.over r (omega arith) (omega (arith, ltb-true r (a + p) t, size, inside)))))
@@ -115,27 +115,27 @@ module _ {a b x r : ℕ} {w : List ℕ} (part : Rising a b w) (found : Parted a 
 
   pub among_none : b ≤ r → false ≡ memb x (slice a b w)
   among_none past =
-      by-test (memb x (slice a b w))
+      by_test (memb x (slice a b w))
       (λ t.
-      let at = memb-place x (slice a b w) t in
+      let at = memb_place x (slice a b w) t in
       absurd (omega (arith, place_is at.at at.below at.here, at.below, length-slice a b w part.within, past)))
       (λ f. sym f)
 
-  pub among-at : r < b → eqb (get_or w r 0) x ≡ memb x (slice a b w)
-  among-at inside =
-      by-test (memb x (slice a b w))
+  pub among_at : r < b → eqb (get_or w r 0) x ≡ memb x (slice a b w)
+  among_at inside =
+      by_test (memb x (slice a b w))
       (λ t.
-      let at = memb-place x (slice a b w) t in
+      let at = memb_place x (slice a b w) t in
       let here : get_or w r 0 ≡ x =
       ap (λ (i : ℕ). get_or w i 0) (sym (place_is at.at at.below at.here))
-      ∙ sym (getD-slice 0 a b at.at w (omega (arith, at.below, length-slice a b w part.within))) ∙ at.here in
+      ∙ sym (get_d_slice 0 a b at.at w (omega (arith, at.below, length-slice a b w part.within))) ∙ at.here in
       eq-eqb (get_or w r 0) x here ∙ sym t)
       (λ f. ne_eqb (get_or w r 0) x (λ e. missing e f) ∙ sym f)
     where
       missing : get_or w r 0 ≡ x → memb x (slice a b w) ≡ false → ⊥
       missing e f =
           let there : memb (get_or (slice a b w) (r - a) 0) (slice a b w) ≡ true =
-          memb-at (slice a b w) (r - a) 0 (omega (arith, length-slice a b w part.within, found.low, inside)) in
+          memb_at (slice a b w) (r - a) 0 (omega (arith, length-slice a b w part.within, found.low, inside)) in
           let same : memb x (slice a b w) ≡ true =
           subst (λ (y : ℕ). memb y (slice a b w) ≡ true) (word_in part r found.low inside ∙ e) there in
           true-false same f

@@ -9,47 +9,47 @@ use lib.ListN.{length}
 use borrow.Author.Tests.{ltb-true}
 use Rattle.lists.specs.Lists.{all, keep, memb, rising, slice}
 use Rattle.lists.specs.Parts.{Changed}
-use Rattle.lists.proofs.Filtering.{keep-same-where, memb-keep}
-use Rattle.lists.proofs.Rising.{rising-keep, rising-same}
+use Rattle.lists.proofs.Filtering.{keep_same_where, memb-keep}
+use Rattle.lists.proofs.Rising.{rising-keep, rising_same}
 use Rattle.lists.proofs.Slices.{frame-slice}
 use Rattle.words.specs.Merges.{Rising}
-use Rattle.words.specs.flags.Flags.{Below, Flagged, isFlagged, Kept}
-use Rattle.words.proofs.flags.Flagging.{flag-tells, flagged-same}
+use Rattle.words.specs.flags.Flags.{Below, Flagged, is_flagged, Kept}
+use Rattle.words.proofs.flags.Flagging.{flag_tells, flagged_same}
 use Rattle.words.specs.shared.Sharing.{Intersected}
 
 -- what two rising lists share is the same, taken from either
-pub share-swap : (xs ys : List ℕ) → rising xs ≡ true → rising ys ≡ true
+pub share_swap : (xs ys : List ℕ) → rising xs ≡ true → rising ys ≡ true
     → keep (λ s. memb s xs) ys ≡ keep (λ s. memb s ys) xs
-share-swap xs ys rx ry =
-    rising-same (keep (λ s. memb s xs) ys) (keep (λ s. memb s ys) xs) (rising-keep (λ s. memb s xs) ys ry)
+share_swap xs ys rx ry =
+    rising_same (keep (λ s. memb s xs) ys) (keep (λ s. memb s ys) xs) (rising-keep (λ s. memb s xs) ys ry)
     (rising-keep (λ s. memb s ys) xs rx)
     (λ s.
     memb-keep (λ x. memb x xs) ys s ∙ and_comm (memb s ys) (memb s xs) ∙ sym (memb-keep (λ y. memb y ys) xs s))
 
 -- the words of the second part that are among those of the first
-pub found-shared : {a b c e out : ℕ} {w w' : List ℕ} {r : ℕ} → Rising a b w → Rising c e w
+pub found_shared : {a b c e out : ℕ} {w w' : List ℕ} {r : ℕ} → Rising a b w → Rising c e w
     → Kept (λ s. memb s (slice a b w)) c e out w w' r → Intersected a b c e out w w' r
-found-shared {a} {b} {c} {e} {w = w} first second k =
+found_shared {a} {b} {c} {e} {w = w} first second k =
     record {
       changed = k.changed;
       low = k.low;
       high = k.high;
-      is = k.is ∙ share-swap (slice a b w) (slice c e w) first.rise second.rise;
+      is = k.is ∙ share_swap (slice a b w) (slice c e w) first.rise second.rise;
     }
 
 -- the words of the second part that are kept by the flags of the first
-pub kept-shared : {a b c e out : ℕ} {w w' flags : List ℕ} {r : ℕ} → Rising a b w → Rising c e w → Below (length flags) c e w
-    → Flagged (λ s. memb s (slice a b w)) flags → Kept (isFlagged flags) c e out w w' r → Intersected a b c e out w w' r
-kept-shared {a} {b} {c} {e} {out} {w} {w'} {flags} {r} first second places f k =
+pub kept_shared : {a b c e out : ℕ} {w w' flags : List ℕ} {r : ℕ} → Rising a b w → Rising c e w → Below (length flags) c e w
+    → Flagged (λ s. memb s (slice a b w)) flags → Kept (is_flagged flags) c e out w w' r → Intersected a b c e out w w' r
+kept_shared {a} {b} {c} {e} {out} {w} {w'} {flags} {r} first second places f k =
     record {
       changed = k.changed;
       low = k.low;
       high = k.high;
       is =
           k.is
-          ∙ keep-same-where (λ s. ltb s (length flags)) (isFlagged flags) (λ s. memb s (slice a b w)) (slice c e w) places.below
-          (λ s low. flag-tells f s (ltb-true s (length flags) low))
-          ∙ share-swap (slice a b w) (slice c e w) first.rise second.rise;
+          ∙ keep_same_where (λ s. ltb s (length flags)) (is_flagged flags) (λ s. memb s (slice a b w)) (slice c e w) places.below
+          (λ s low. flag_tells f s (ltb-true s (length flags) low))
+          ∙ share_swap (slice a b w) (slice c e w) first.rise second.rise;
     }
 
 -- a part below what was written is as it was: its words have their flags still, and these are known
@@ -57,13 +57,13 @@ module _ (a : ℕ) {b out hi : ℕ} {w w' : List ℕ} (low : b ≤ out) (changed
   part_same : slice a b w' ≡ slice a b w
   part_same = frame-slice a b out w w' low changed.low
 
-  pub below-changed : {bound : ℕ} → Below bound a b w → Below bound a b w'
-  below-changed {bound} p =
+  pub below_changed : {bound : ℕ} → Below bound a b w → Below bound a b w'
+  below_changed {bound} p =
       record {
         order = p.order;
         within = omega (arith, p.within, changed.size);
         below = ap (all (λ s. ltb s bound)) part_same ∙ p.below;
       }
 
-  pub flagged-changed : {flags : List ℕ} → Flagged (λ s. memb s (slice a b w)) flags → Flagged (λ s. memb s (slice a b w')) flags
-  flagged-changed f = flagged-same f (λ s. sym (ap (memb s) part_same))
+  pub flagged_changed : {flags : List ℕ} → Flagged (λ s. memb s (slice a b w)) flags → Flagged (λ s. memb s (slice a b w')) flags
+  flagged_changed f = flagged_same f (λ s. sym (ap (memb s) part_same))

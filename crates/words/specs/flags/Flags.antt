@@ -4,8 +4,8 @@ use Rattle.lists.specs.Lists.{one, all, keep, slice}
 use Rattle.lists.specs.Parts.{Changed}
 
 -- how many flags a table has
-abbrev pub flagRoom : ℕ
-flagRoom = 4096
+abbrev pub flag_room : ℕ
+flag_room = 4096
 
 -- work[lo..hi] is below a bound
 pub record Below (bound lo hi : ℕ) (w : List ℕ) : Type 0 where
@@ -18,12 +18,12 @@ pub record Flagged (test : ℕ → Bool) (flags : List ℕ) : Type 0 where
   pub is : (s : ℕ) → s < length flags → get_or flags s 0 ≡ one (test s)
 
 -- whether the flag of a number is 1
-abbrev pub isFlagged : List ℕ → ℕ → Bool
-isFlagged flags s = eqb (get_or flags s 0) 1
+abbrev pub is_flagged : List ℕ → ℕ → Bool
+is_flagged flags s = eqb (get_or flags s 0) 1
 
 -- a table in which no number is flagged
 pub record Clear (flags : List ℕ) : Type 0 where
-  pub size : length flags ≡ flagRoom
+  pub size : length flags ≡ flag_room
   pub none : Flagged (λ s. false) flags
 
 -- work[c..e] is below out, and from out on there is room for it

@@ -1,6 +1,6 @@
 -- `write_answer` meets its contract: the pair list where there are counts, and zeros after a refusal, which clears.
 use borrow.Author.Rules.{rules}
-use Rattle.join.proofs.output.OutputLaws.{after-joined, after-refused}
+use Rattle.join.proofs.output.OutputLaws.{after_joined, after_refused}
 use Rattle.join.proofs.output.write_answer.Statement.{statement}
 use Rattle.join.proofs.output.write_answer.Tie as tie
 
@@ -15,14 +15,14 @@ returns : tie.Need-returns
 returns c = λ q room.
     let written = c.before.before.before.before.before.before in
     let told = written.before.before.before.before in
-    after-joined _ _ told.enum_told.given.1 (written.write-pairs.ensures q (room.joined _ told.enum_told.given.1))
+    after_joined _ _ told.enum_told.given.1 (written.write-pairs.ensures q (room.joined _ told.enum_told.given.1))
 
 returns-2 : tie.Need-returns-2
 returns-2 c = λ q room.
     let zeroed = c.before.before in
     let told = zeroed.before.before in
     let is = told.enum-told2.given.1 in
-    after-refused _ _ is (room.refused _ is) zeroed.zero-u16.ensures
+    after_refused _ _ is (room.refused _ is) zeroed.zero-u16.ensures
 
 pub write-answer-spec : {M : Type 1} → statement M
 write-answer-spec =

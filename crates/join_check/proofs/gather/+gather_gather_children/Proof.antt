@@ -5,11 +5,11 @@ use Prim.Native.Nat.{ℕ, ◌+◌, ◌-◌, ◌*◌, ◌≤◌, ◌<◌}
 use native.Mathlib.Omega.{arith}
 use borrow.Fn.Kinds.{In}
 use borrow.Fn.PlainCycle.{Measures, is, falls, and}
-use Rattle.sets.specs.Limits.{fullWords}
+use Rattle.sets.specs.Limits.{full_words}
 use Rattle.join_index.specs.Asking.{SomeQuery}
 use Rattle.join_check.specs.Checks.{RangesThere}
-use Rattle.join_check.specs.Counters.{checksIn}
-use Rattle.join_check.proofs.gather.Gathering.{ranges-range, RangesLeft, left-start, left-part, left-front, left_back, left_end, left-none}
+use Rattle.join_check.specs.Counters.{checks_in}
+use Rattle.join_check.proofs.gather.Gathering.{ranges_range, RangesLeft, left_start, left-part, left-front, left_back, left_end, left_none}
 use Rattle.join_check.proofs.keys.range_end.Reads as range-end
 use Rattle.join_check.proofs.keys.longest_range.Reads as longest-range
 use Rattle.join_check.proofs.gather.check_range.Reads as check-range
@@ -89,7 +89,7 @@ module _ (t : ℕ) where
   turn c = c.before.before.before
 
   loop-holds : node-lts.Need-loop-init (node-callees t) (node_at t) gather.Post invariant-node decreases-down
-  loop-holds c = (omega arith, left-start)
+  loop-holds c = (omega arith, left_start)
 
   sub-if2 : node-lts.Need-overflow-sub-if2 (node-callees t) (node_at t) gather.Post invariant-node decreases-down
   sub-if2 c = omega (arith, c.before.loop-test.true)
@@ -109,7 +109,7 @@ module _ (t : ℕ) where
       let some = (begun test).requires.1.0 in
       record {
         query = some.query;
-        holds = ranges-range (test.before.loop.invariant.1.there some.query some.holds) _ test.loop-test.true;
+        holds = ranges_range (test.before.loop.invariant.1.there some.query some.holds) _ test.loop-test.true;
       }
 
   -- its children before the longest one, and then those behind it
@@ -166,7 +166,7 @@ module _ (t : ℕ) where
       let some = (begun (turn c.before.before)).pre.1.0 in (
         record {
           query = some.query;
-          holds = ranges-range ((left-longest c).there some.query some.holds) _ c.before.before.longest-range.ensures.end.more;
+          holds = ranges_range ((left-longest c).there some.query some.holds) _ c.before.before.longest-range.ensures.end.more;
         },
         c.before.before.before.before.if1.false,
       )
@@ -179,12 +179,12 @@ module _ (t : ℕ) where
       (omega (arith, (turn c.before.before.before).before.loop.inv.0, c.child-depth.ensures), left-longest c.before)
 
   returns-2 : node-lts.Need-returns-2 (node-callees t) (node_at t) gather.Post invariant-node decreases-down
-  returns-2 c = left-none c.before.loop.invariant.1 c.loop-test.false
+  returns-2 c = left_none c.before.loop.invariant.1 c.loop-test.false
 
   -- the children
   children-loop-holds : children-lts.Need-loop-init (children-callees t) (children-at t) gather-children.Post invariant-children
       decreases-along
-  children-loop-holds c = left-start
+  children-loop-holds c = left_start
 
   range-end-requires : children-lts.Need-range-end-requires (children-callees t) (children-at t) gather-children.Post
       invariant-children decreases-along
@@ -192,7 +192,7 @@ module _ (t : ℕ) where
       let some = c.before.before.before.requires.1.1.0 in
       record {
         query = some.query;
-        holds = ranges-range (c.before.loop.invariant.there some.query some.holds) _ c.loop-test.true;
+        holds = ranges_range (c.before.loop.invariant.there some.query some.holds) _ c.loop-test.true;
       }
 
   -- the next child, as its checks ask it
@@ -200,7 +200,7 @@ module _ (t : ℕ) where
       → let a = c.before.before.before.before.args in
       let l = c.before.before.loop in
       SomeQuery (λ q. RangesThere a.lay q a.work.now a.e l.i c.range-end.result a.from a.to)
-      × (checksIn l.r + (c.range-end.result - l.i) * (a.to - a.from) < fullWords)
+      × (checks_in l.r + (c.range-end.result - l.i) * (a.to - a.from) < full_words)
   next-child c =
       let asked = c.before.before.before.before.requires.1 in
       let end = c.range-end.ensures in
@@ -210,7 +210,7 @@ module _ (t : ℕ) where
       gather-children.Post invariant-children decreases-along
   children-child-depth-requires c κs =
       let some = (next-child c).0 in (
-        record { query = some.query; holds = ranges-range some.holds _ c.range-end.ensures.more },
+        record { query = some.query; holds = ranges_range some.holds _ c.range-end.ensures.more },
         c.before.before.before.before.requires.1.0,
       )
 
@@ -233,7 +233,7 @@ module _ (t : ℕ) where
       left-front c.before.before.before.before.loop.invariant (omega (arith, range.more)) range.within c.gather.ensures
 
   children-returns : children-lts.Need-returns (children-callees t) (children-at t) gather-children.Post invariant-children decreases-along
-  children-returns c = left-none c.before.loop.invariant c.loop-test.false
+  children-returns c = left_none c.before.loop.invariant c.loop-test.false
 
 pub +gather-gather-children-spec : {M : Type 1} → statement M
 +gather-gather-children-spec =

@@ -3,8 +3,8 @@ use Prim.Native.Nat.{ℕ, ◌+◌, ◌-◌, ◌*◌}
 use mathlib.Core.Path.{◌≡◌, ap, ◌∙◌}
 use native.Mathlib.Omega.{arith}
 use native.Mathlib.Nat.{one-mul}
-use Rattle.join_check.proofs.gather.Gathering.{ranges-within, ranges-row, row-ranges}
-use Rattle.join_check.proofs.gather.Gathering.{RangesLeft, left-start, left-room, left-front, left-none}
+use Rattle.join_check.proofs.gather.Gathering.{ranges_within, ranges_row, row_ranges}
+use Rattle.join_check.proofs.gather.Gathering.{RangesLeft, left_start, left_room, left_front, left_none}
 use Rattle.join_check.proofs.gather.check_range.Statement.{statement}
 use Rattle.join_check.proofs.gather.check_range.Tie as tie
 
@@ -17,13 +17,13 @@ decreases-loop work lay e lo hi from to order r₀ i₀ r i =
     hi - i
 
 loop-holds : tie.Need-loop-init invariant-loop decreases-loop
-loop-holds c = left-start
+loop-holds c = left_start
 
 add-word-at : tie.Need-overflow-add-word-at invariant-loop decreases-loop
-add-word-at c = omega (arith, ranges-within c.before.before.before.requires.0.holds)
+add-word-at c = omega (arith, ranges_within c.before.before.before.requires.0.holds)
 
 word-at-requires : tie.Need-word-at-requires invariant-loop decreases-loop
-word-at-requires c κs = omega (arith, ranges-within c.before.before.before.requires.0.holds)
+word-at-requires c κs = omega (arith, ranges_within c.before.before.before.requires.0.holds)
 
 check-row-requires : tie.Need-check-row-requires invariant-loop decreases-loop
 check-row-requires c κs =
@@ -33,10 +33,10 @@ check-row-requires c κs =
     let rights = start.args.to - start.args.from in
     let single : i + 1 - i ≡ 1 = omega arith in
     let times : (i + 1 - i) * rights ≡ rights = ap (λ (n : ℕ). n * rights) single ∙ one-mul rights in
-    let room = left-room at-loop.loop.invariant i (i + 1) (omega arith) (omega arith) (omega arith) start.requires.1 in (
+    let room = left_room at-loop.loop.invariant i (i + 1) (omega arith) (omega arith) (omega arith) start.requires.1 in (
       record {
         query = start.requires.0.query;
-        holds = ranges-row (at-loop.loop.invariant.there start.requires.0.query start.requires.0.holds) i (omega arith)
+        holds = ranges_row (at-loop.loop.invariant.there start.requires.0.query start.requires.0.holds) i (omega arith)
             c.before.loop-test.true c.word_at.ensures;
       },
       omega (arith, room),
@@ -44,11 +44,11 @@ check-row-requires c κs =
 
 loop-again : tie.Need-loop-preserved invariant-loop decreases-loop
 loop-again c =
-    left-front c.before.before.before.loop.invariant (omega arith) (omega arith)
-    (row-ranges c.before.word_at.ensures c.check-row.ensures)
+    left_front c.before.before.before.loop.invariant (omega arith) (omega arith)
+    (row_ranges c.before.word_at.ensures c.check-row.ensures)
 
 returns : tie.Need-returns invariant-loop decreases-loop
-returns c = left-none c.before.loop.invariant c.loop-test.false
+returns c = left_none c.before.loop.invariant c.loop-test.false
 
 pub check-range-spec : {M : Type 1} → statement M
 check-range-spec =

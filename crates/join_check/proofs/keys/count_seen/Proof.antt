@@ -10,15 +10,15 @@ use borrow.Author.Rules.{rules}
 use Rattle.lists.specs.Lists.{one, count, slice}
 use Rattle.join_spec.specs.Query.{Query}
 use Rattle.join_spec.specs.Node.{seen}
-use Rattle.join_index.specs.Grouping.{rightAt}
+use Rattle.join_index.specs.Grouping.{right_at}
 use Rattle.join_index.specs.declared.Layout.{Layout}
 use Rattle.join_index.specs.Asking.{PlacesThere}
-use Rattle.join_index.proofs.Places.{place-right, count_past, count_next}
+use Rattle.join_index.proofs.Places.{place_right, count_past, count_next}
 use Rattle.join_check.proofs.keys.count_seen.Statement.{statement}
 use Rattle.join_check.proofs.keys.count_seen.Tie as tie
 
 abbrev isSeen : Query → ℕ → ℕ → Bool
-isSeen q r s = seen r (rightAt q s)
+isSeen q r s = seen r (right_at q s)
 
 record SeenCounting (lay : Layout) (w : List ℕ) (from to r n i : ℕ) : Type 0 where
   low : from ≤ i
@@ -49,7 +49,7 @@ is-seen-requires c κs =
     let start = at-loop.before.before in
     record {
       query = start.requires.query;
-      holds = place-right start.requires.holds at-loop.loop.i c.word_at.result at-loop.loop.invariant.low
+      holds = place_right start.requires.holds at-loop.loop.i c.word_at.result at-loop.loop.invariant.low
           c.before.loop-test.true c.word_at.ensures;
     }
 
@@ -72,7 +72,7 @@ loop-again c =
           let s = at-word-at.word_at.result in
           let is : c.number.result ≡ one (isSeen q a.r (get_or a.work.now i 0)) =
           c.number.ensures.is
-          ∙ ap one (c.before.is_seen.ensures q (place-right there i s at-loop.loop.invariant.low
+          ∙ ap one (c.before.is_seen.ensures q (place_right there i s at-loop.loop.invariant.low
           at-loop-test.loop-test.true at-word-at.word_at.ensures))
           ∙ ap (λ (k : ℕ). one (isSeen q a.r k)) at-word-at.word_at.ensures.is
           in

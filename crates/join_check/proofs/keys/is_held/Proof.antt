@@ -5,7 +5,7 @@ use native.Mathlib.Omega.{arith}
 use borrow.Author.Rules.{rules}
 use borrow.Author.Tests.{ltb-false}
 use lib.ListN.{get_or}
-use Rattle.lists.proofs.Slices.{slice-past}
+use Rattle.lists.proofs.Slices.{slice_past}
 use Rattle.join_index.specs.Ground.{offset_of}
 use Rattle.join_check.proofs.keys.is_held.Statement.{statement}
 use Rattle.join_check.proofs.keys.is_held.Tie as tie
@@ -22,7 +22,7 @@ returns c =
     let short : c.word-at2.result ≤ first.word_at.result =
     ltb-false first.word_at.result c.word-at2.result none in
     sym held.is
-    ∙ slice-past (a.lay.index + offset_of a.lay a.work.now a.r)
+    ∙ slice_past (a.lay.index + offset_of a.lay a.work.now a.r)
     (a.lay.index + offset_of a.lay a.work.now (suc a.r)) a.work.now
     (omega (arith, end, first.word_at.ensures.is, short))
 

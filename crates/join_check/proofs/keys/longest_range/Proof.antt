@@ -3,8 +3,8 @@
 use Prim.Native.Nat.{◌-◌}
 use native.Mathlib.Omega.{arith}
 use lib.Dec.{ltb}
-use Rattle.join_check.specs.keys.Borders.{Border, firstBorder, nextBorder, RangeFound}
-use Rattle.join_check.proofs.keys.FoundRanges.{found-start, found-step}
+use Rattle.join_check.specs.keys.Borders.{Border, first_border, next_border, RangeFound}
+use Rattle.join_check.proofs.keys.FoundRanges.{found_start, found-step}
 use Rattle.join_check.proofs.keys.longest_range.Statement.{statement}
 use Rattle.join_check.proofs.keys.longest_range.Tie as tie
 
@@ -20,7 +20,7 @@ range-end-requires c κs = c.before.requires
 loop-holds : tie.Need-loop-init invariant-loop decreases-loop
 loop-holds c =
     let end = c.range-end.ensures in
-    (nextBorder firstBorder c.before.before.requires.holds.some end, found-start end)
+    (next_border first_border c.before.before.requires.holds.some end, found_start end)
 
 range-end-requires-2 : tie.Need-range-end-requires-2 invariant-loop decreases-loop
 range-end-requires-2 c κs =
@@ -45,7 +45,7 @@ loop-again c =
     let test = end.before in
     let best = test.before.loop.best in
     let inv = test.before.loop.invariant in (
-      nextBorder inv.0 test.loop-test.true end.range-end2.ensures,
+      next_border inv.0 test.loop-test.true end.range-end2.ensures,
       found-step (ltb (best.hi - best.lo) (end.range-end2.result - test.before.loop.i)) inv.0 end.range-end2.ensures
           inv.1 c.longer.ensures,
     )

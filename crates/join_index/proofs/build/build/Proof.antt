@@ -1,8 +1,8 @@
 -- `join_index::build::build` meets its contract: each stage requires what the layout and the stages before it leave.
 use native.Mathlib.Omega.{arith}
 use borrow.Author.Rules.{rules}
-use Rattle.join_index.proofs.build.BuildPlan.{Planned, by_length, sizes, plan-sizes, wide}
-use Rattle.join_index.proofs.build.BuildStages.{right-room, left-room, least-room, order-room, sign-room}
+use Rattle.join_index.proofs.build.BuildPlan.{Planned, by_length, sizes, plan_sizes, wide}
+use Rattle.join_index.proofs.build.BuildStages.{right_room, left-room, least-room, order-room, sign-room}
 use Rattle.join_index.proofs.build.BuildGround.{ground, ground-items}
 use Rattle.join_index.proofs.build.build.Statement.{statement}
 use Rattle.join_index.proofs.build.build.Tie as tie
@@ -18,8 +18,8 @@ planned : (c : tie.After-lay-out) → Planned (start c).args.left-ends.now (star
 planned c =
     record {
       room = by_length (start c).requires;
-      leftEntries = c.before.before.count_entries.ensures;
-      rightEntries = c.before.count-entries2.ensures;
+      left_entries = c.before.before.count_entries.ensures;
+      right_entries = c.before.count-entries2.ensures;
       out = c.lay-out.ensures;
     }
 
@@ -44,10 +44,10 @@ lay-out-requires c κs =
 add-left-base : tie.Need-overflow-add-left-base
 add-left-base c =
     let out = c.before in
-    omega (arith, plan-sizes (planned out), out.lay-out.ensures)
+    omega (arith, plan_sizes (planned out), out.lay-out.ensures)
 
 build-side-requires : tie.Need-build-side-requires
-build-side-requires c κs = right-room (planned c.before.before.before)
+build-side-requires c κs = right_room (planned c.before.before.before)
 
 build-side-requires-2 : tie.Need-build-side-requires-2
 build-side-requires-2 c κs =
@@ -91,10 +91,10 @@ returns c =
           (ground
           record {
             plan = planned out;
-            rightBuilt = right.build-side.ensures;
-            leftBuilt = left.build-side2.ensures;
-            leastBuilt = least.build-least.ensures;
-            orderBuilt = order.build-order.ensures;
+            right_built = right.build-side.ensures;
+            left_built = left.build-side2.ensures;
+            least_built = least.build-least.ensures;
+            order_built = order.build-order.ensures;
             signed = signed.sign-collections.ensures;
           }),
       omega (

@@ -7,7 +7,7 @@ use Rattle.join_index.proofs.regions.lay_out.Tie as tie
 returns : tie.Need-returns
 returns c =
     let args = c.before.args in
-    laid_out args.t args.lefts args.rights args.left-entries args.right-entries args.words
+    laid_out args.t args.lefts args.rights args.left_entries args.right_entries args.words
     c.placed-words.result c.placed-words.ensures
 
 pub lay-out-spec : {M : Type 1} → statement M

@@ -2,10 +2,10 @@
 use native.Mathlib.Omega.{arith}
 use Prim.Native.Nat.{◌-◌}
 use mathlib.Core.Path.{◌∙◌}
-use Rattle.join_nodes.proofs.Asked.{some-path}
-use Rattle.join_nodes.proofs.PartLoop.{Continuing, continuing-start, continuing-step, continuing-spent, continuing-end}
+use Rattle.join_nodes.proofs.Asked.{some_path}
+use Rattle.join_nodes.proofs.PartLoop.{Continuing, continuing_start, continuing_step, continuing_spent, continuing_end}
 use Rattle.join_nodes.specs.blocks.Blocks.{AtLimit}
-use Rattle.join_nodes.proofs.blocks.LimitLaws.{limit-first, limit-done}
+use Rattle.join_nodes.proofs.blocks.LimitLaws.{limit_first, limit_done}
 use Rattle.join_nodes.proofs.blocks.finish.Statement.{statement}
 use Rattle.join_nodes.proofs.blocks.finish.Tie as tie
 
@@ -18,12 +18,12 @@ abbrev decreases-loop : tie.decreases-loop
 decreases-loop work₀ lay st d lo hi from to r₀ i₀ work r i = hi - i
 
 loop-holds : tie.Need-loop-init invariant-loop decreases-loop
-loop-holds c = continuing-start _ _ _ _ _ _ c.before.requires
+loop-holds c = continuing_start _ _ _ _ _ _ c.before.requires
 
 finish-one-requires : tie.Need-finish-one-requires invariant-loop decreases-loop
 finish-one-requires c κs =
     let test = c.before in
-    some-path test.before.loop.invariant.some (λ q path at. limit-first at test.loop-test.true)
+    some_path test.before.loop.invariant.some (λ q path at. limit_first at test.loop-test.true)
 
 same_length : tie.Need-same-length invariant-loop decreases-loop
 same_length c =
@@ -35,14 +35,14 @@ returns c =
     let one = c.before.before.before in
     let test = one.before.before in
     let more = test.loop-test.true in
-    continuing-spent test.before.loop.invariant (omega arith) (omega (arith, more))
-    (λ q path at. limit-done at more (one.finish-one.ensures q path (limit-first at more))) c.if1.true
+    continuing_spent test.before.loop.invariant (omega arith) (omega (arith, more))
+    (λ q path at. limit_done at more (one.finish-one.ensures q path (limit_first at more))) c.if1.true
 
 add-i : tie.Need-overflow-add-i invariant-loop decreases-loop
 add-i c =
     let test = c.before.before.before.before.before.before in
     let going = test.before.loop.invariant.some.holds.going in
-    omega (arith, test.loop-test.true, going.few, going.index.ground.leftFew)
+    omega (arith, test.loop-test.true, going.few, going.index.ground.left_few)
 
 loop-less : tie.Need-loop-smaller invariant-loop decreases-loop
 loop-less c = omega (arith, c.before.before.before.before.before.before.loop-test.true)
@@ -53,8 +53,8 @@ loop-again c =
     let one = calm.before.before.before in
     let test = one.before.before in
     let more = test.loop-test.true in
-    continuing-step test.before.loop.invariant (omega arith) (omega (arith, more))
-    (λ q path at. limit-done at more (one.finish-one.ensures q path (limit-first at more))) one.finish-one.auto.0
+    continuing_step test.before.loop.invariant (omega arith) (omega (arith, more))
+    (λ q path at. limit_done at more (one.finish-one.ensures q path (limit_first at more))) one.finish-one.auto.0
     calm.if1.false
 
 same-length-2 : tie.Need-same-length-2 invariant-loop decreases-loop
@@ -63,7 +63,7 @@ same-length-2 c = c.before.loop.invariant.size
 returns-2 : tie.Need-returns-2 invariant-loop decreases-loop
 returns-2 c =
     let inv = c.before.loop.invariant in
-    continuing-end inv c.loop-test.false inv.some.holds.going.underway.budget (λ q path at. at.going.rows)
+    continuing_end inv c.loop-test.false inv.some.holds.going.underway.budget (λ q path at. at.going.rows)
 
 pub finish_spec : {M : Type 1} → statement M
 finish_spec =

@@ -4,11 +4,11 @@ use Prim.Native.Nat.{◌+◌}
 use mathlib.Core.Path.{sym, ◌∙◌}
 use native.Mathlib.Omega.{arith}
 use borrow.Author.Rules.{rules}
-use Rattle.join_index.proofs.Orders.{range-left}
+use Rattle.join_index.proofs.Orders.{range_left}
 use Rattle.join_nodes.proofs.Asked.{some-query}
-use Rattle.join_nodes.proofs.blocks.GoingLaws.{going-range, going-there}
-use Rattle.join_nodes.proofs.blocks.NodeRows.{row-record}
-use Rattle.join_nodes.proofs.blocks.LimitLaws.{one_key, one_list, one-room, one_kept, one-small, one-blocked, one-recorded}
+use Rattle.join_nodes.proofs.blocks.GoingLaws.{going_range, going_there}
+use Rattle.join_nodes.proofs.blocks.NodeRows.{row_record}
+use Rattle.join_nodes.proofs.blocks.LimitLaws.{one_key, one_list, one_room, one_kept, one_small, one_blocked, one_recorded}
 use Rattle.join_nodes.proofs.blocks.finish_one.Statement.{statement}
 use Rattle.join_nodes.proofs.blocks.finish_one.Tie as tie
 
@@ -16,7 +16,7 @@ key-at-requires : tie.Need-key-at-requires
 key-at-requires c κs =
     let start = c.before.before.before.before in
     some-query start.requires
-    (λ q path at. range-left (going-range at.going (omega arith)) start.args.i (omega arith) c.before.word_at.ensures)
+    (λ q path at. range_left (going_range at.going (omega arith)) start.args.i (omega arith) c.before.word_at.ensures)
 
 -- the left set ends here
 pair-ended-requires : tie.Need-pair-ended-requires
@@ -28,8 +28,8 @@ pair-ended-requires c κs =
       some-query some
           (λ q path at.
           one_list at read.word_at.ensures
-          (sym (one_key at read.word_at.ensures keyed.key-at.ensures) ∙ ends.if1.true)),
-      (omega arith, one-room some.holds read.word_at.ensures),
+          (sym (one_key at read.word_at.ensures keyed.key_at.ensures) ∙ ends.if1.true)),
+      (omega arith, one_room some.holds read.word_at.ensures),
     )
 
 returns : tie.Need-returns
@@ -40,7 +40,7 @@ returns c =
     let read = keyed.before.before in
     λ q path at.
     one_kept at read.word_at.ensures
-    (sym (one_key at read.word_at.ensures keyed.key-at.ensures) ∙ ends.if1.true) paired.pair_ended.ensures
+    (sym (one_key at read.word_at.ensures keyed.key_at.ensures) ∙ ends.if1.true) paired.pair_ended.ensures
 
 -- there is no room for its row
 check-block-requires : tie.Need-check-block-requires
@@ -49,9 +49,9 @@ check-block-requires c κs =
     let keyed = longer.before in
     let read = keyed.before.before in
     let some = read.before.before.before.requires in (
-      some-query some (λ q path at. going-there at.going),
-      one-small some.holds read.word_at.ensures
-          (λ none. longer.if1.false (one_key some.holds read.word_at.ensures keyed.key-at.ensures ∙ none)),
+      some-query some (λ q path at. going_there at.going),
+      one_small some.holds read.word_at.ensures
+          (λ none. longer.if1.false (one_key some.holds read.word_at.ensures keyed.key_at.ensures ∙ none)),
     )
 
 returns-2 : tie.Need-returns-2
@@ -60,8 +60,8 @@ returns-2 c =
     let keyed = longer.before in
     let read = keyed.before.before in
     λ q path at.
-    one-blocked at read.word_at.ensures
-    (λ none. longer.if1.false (one_key at read.word_at.ensures keyed.key-at.ensures ∙ none)) c.check-block.ensures
+    one_blocked at read.word_at.ensures
+    (λ none. longer.if1.false (one_key at read.word_at.ensures keyed.key_at.ensures ∙ none)) c.check-block.ensures
 
 -- there is
 finish-row-requires : tie.Need-finish-row-requires
@@ -74,7 +74,7 @@ finish-row-requires c κs =
     let some = start.requires in (
       some-query some
           (λ q path at.
-          row-record at.going start.args.i (omega arith) (omega arith) read.word_at.ensures.is
+          row_record at.going start.args.i (omega arith) (omega arith) read.word_at.ensures.is
           (omega (arith, roomy.if2.false, at.going.rows.high))),
       (some.holds.going.rise, some.holds.going.underway.budget),
     )
@@ -87,8 +87,8 @@ returns-3 c =
     let keyed = longer.before in
     let read = keyed.before.before in
     λ q path at.
-    one-recorded at read.word_at.ensures
-    (λ none. longer.if1.false (one_key at read.word_at.ensures keyed.key-at.ensures ∙ none))
+    one_recorded at read.word_at.ensures
+    (λ none. longer.if1.false (one_key at read.word_at.ensures keyed.key_at.ensures ∙ none))
     (omega (arith, roomy.if2.false, at.going.rows.high)) finished.finish-row.ensures
 
 pub finish-one-spec : {M : Type 1} → statement M

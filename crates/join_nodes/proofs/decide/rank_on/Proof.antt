@@ -15,12 +15,12 @@ sub-result : tie.Need-overflow-sub-result
 sub-result c =
     let read = c.before in
     let start = read.before.before in
-    omega (arith, on_read start.requires.holds read.word_at.ensures c.key-at.ensures)
+    omega (arith, on_read start.requires.holds read.word_at.ensures c.key_at.ensures)
 
 returns : tie.Need-returns
 returns c =
     let read = c.before in
-    λ q path on. omega (arith, on_read on read.word_at.ensures c.key-at.ensures)
+    λ q path on. omega (arith, on_read on read.word_at.ensures c.key_at.ensures)
 
 pub rank-on-spec : {M : Type 1} → statement M
 rank-on-spec = tie.close (tie.spec (λ c. search rules) (λ c κs. search rules) key-at-requires sub-result returns)

@@ -4,7 +4,7 @@ use native.Mathlib.Omega.{arith}
 use native.Mathlib.Nat.{mul-le-mul}
 use borrow.Author.Rules.{rules}
 use lib.Ieee.{lt}
-use Rattle.join_spec.specs.Node.{goesOn}
+use Rattle.join_spec.specs.Node.{goes_on}
 use Rattle.join_nodes.proofs.decide.weigh.Statement.{statement}
 use Rattle.join_nodes.proofs.decide.weigh.Tie as tie
 
@@ -12,7 +12,7 @@ mul-product : tie.Need-overflow-mul-product
 mul-product c = omega (arith, mul-le-mul c.requires.0 c.requires.1)
 
 returns : tie.Need-returns
-unfolding lt goesOn
+unfolding lt goes_on
 returns c = search rules
 
 pub weigh-spec : {M : Type 1} → statement M

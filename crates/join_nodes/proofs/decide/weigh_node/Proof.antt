@@ -6,21 +6,21 @@ use native.Mathlib.Omega.{arith}
 use borrow.Author.Rules.{rules}
 use lib.ListN.{length}
 use Rattle.join_spec.specs.declared.Rule.{Rule}
-use Rattle.join_spec.specs.Node.{goesOn, last_of}
-use Rattle.join_nodes.proofs.Asked.{some-path, some-query}
-use Rattle.join_nodes.proofs.NodeFacts.{node-path, first_read, last-read, inverted-there, counted-few}
-use Rattle.join_nodes.proofs.NodeFacts.{counted-goes, weighed-asks}
-use Rattle.join_nodes.proofs.CandidateLaws.{inverted-read}
+use Rattle.join_spec.specs.Node.{goes_on, last_of}
+use Rattle.join_nodes.proofs.Asked.{some_path, some-query}
+use Rattle.join_nodes.proofs.NodeFacts.{node_path, first_read, last_read, inverted-there, counted_few}
+use Rattle.join_nodes.proofs.NodeFacts.{counted_goes, weighed_asks}
+use Rattle.join_nodes.proofs.CandidateLaws.{inverted_read}
 use Rattle.join_nodes.proofs.decide.weigh_node.Statement.{statement}
 use Rattle.join_nodes.proofs.decide.weigh_node.Tie as tie
 
 rank-on-requires : tie.Need-rank-on-requires
-rank-on-requires c κs = some-path c.before.requires (λ q path node. node-path node 0 node.candidates.deep)
+rank-on-requires c κs = some_path c.before.requires (λ q path node. node_path node 0 node.candidates.deep)
 
 rank-on-requires-2 : tie.Need-rank-on-requires-2
 rank-on-requires-2 c κs =
     let start = c.before.before in
-    some-path start.requires (λ q path node. node-path node (start.args.d - 1) (omega (arith, node.candidates.deep)))
+    some_path start.requires (λ q path node. node_path node (start.args.d - 1) (omega (arith, node.candidates.deep)))
 
 -- both words of the last rank's offsets lie in the work list
 rank-low : (c : tie.After-rank-on2)
@@ -30,9 +30,9 @@ rank-low c =
     let cands = node.candidates in
     omega (
       arith,
-      last-read node c.rank-on2.ensures,
+      last_read node c.rank-on2.ensures,
       cands.last,
-      cands.index.ground.offsetsWithin,
+      cands.index.ground.offsets_within,
       cands.index.room,
     )
 
@@ -61,7 +61,7 @@ list-low c =
     let node = ranked.before.before.before.requires.holds in
     let cands = node.candidates in
     let held =
-    inverted-read cands (last-read node ranked.rank-on2.ensures) first.word_at.ensures c.word-at2.ensures in
+    inverted_read cands (last_read node ranked.rank-on2.ensures) first.word_at.ensures c.word-at2.ensures in
     (omega (arith, held.rise), omega (arith, held.within, cands.index.room))
 
 add-count-seen : tie.Need-overflow-add-count-seen
@@ -77,13 +77,13 @@ count-seen-requires c κs =
     some-query ranked.before.before.before.requires (λ q path node.
     inverted-there (last_of path) first.word_at.result c.word-at2.result node.candidates.index
     node.candidates.last
-    (inverted-read node.candidates (last-read node ranked.rank-on2.ensures) first.word_at.ensures
+    (inverted_read node.candidates (last_read node ranked.rank-on2.ensures) first.word_at.ensures
     c.word-at2.ensures))
 
 cast-weigh : tie.Need-overflow-cast-weigh
 cast-weigh c =
     let node = c.before.before.before.before.before.before.requires.holds in
-    omega (arith, node.candidates.few, node.candidates.index.ground.rightFew)
+    omega (arith, node.candidates.few, node.candidates.index.ground.right_few)
 
 cast-weigh-2 : tie.Need-overflow-cast-weigh-2
 cast-weigh-2 c =
@@ -92,16 +92,16 @@ cast-weigh-2 c =
     let ranked = first.before in
     let rooted = ranked.before in
     let node = rooted.before.before.requires.holds in
-    let rank = last-read node ranked.rank-on2.ensures in
-    let held = inverted-read node.candidates rank first.word_at.ensures last.word-at2.ensures in
-    let few = counted-few rooted.rank-on.result _ _ node held c.count-seen.ensures in
-    omega (arith, few, node.candidates.index.ground.rightFew)
+    let rank = last_read node ranked.rank-on2.ensures in
+    let held = inverted_read node.candidates rank first.word_at.ensures last.word-at2.ensures in
+    let few = counted_few rooted.rank-on.result _ _ node held c.count-seen.ensures in
+    omega (arith, few, node.candidates.index.ground.right_few)
 
 weigh-requires : tie.Need-weigh-requires
 weigh-requires c κs =
     let node = c.before.before.before.before.before.before.requires.holds in
     let ground = node.candidates.index.ground in
-    (omega (arith, node.candidates.few, ground.rightFew), omega (arith, node.few, ground.leftFew))
+    (omega (arith, node.candidates.few, ground.right_few), omega (arith, node.few, ground.left_few))
 
 returns : tie.Need-returns
 returns c =
@@ -112,11 +112,11 @@ returns c =
     let rooted = ranked.before in
     let a = rooted.before.before.args in
     λ q path node weighed.
-    let rank = last-read node ranked.rank-on2.ensures in
-    let held = inverted-read node.candidates rank first.word_at.ensures last.word-at2.ensures in
+    let rank = last_read node ranked.rank-on2.ensures in
+    let held = inverted_read node.candidates rank first.word_at.ensures last.word-at2.ensures in
     c.weigh.ensures
-    ∙ sym (counted-goes _ _ _ node held counted.count-seen.ensures (weighed-asks q weighed) (first_read node rooted.rank-on.ensures)
-    ∙ ap (λ (rule : Rule). goesOn rule (a.to - a.from) counted.count-seen.result (a.hi - a.lo)) weighed)
+    ∙ sym (counted_goes _ _ _ node held counted.count-seen.ensures (weighed_asks q weighed) (first_read node rooted.rank-on.ensures)
+    ∙ ap (λ (rule : Rule). goes_on rule (a.to - a.from) counted.count-seen.result (a.hi - a.lo)) weighed)
 
 pub weigh-node-spec : {M : Type 1} → statement M
 weigh-node-spec =

@@ -9,15 +9,15 @@ use borrow.Author.Rules.{rules}
 use Rattle.join_spec.specs.Query.{Query}
 use Rattle.join_nodes.specs.Visiting.{RangeVisited}
 use Rattle.join_nodes.proofs.Asked.{some-path, some-query}
-use Rattle.join_nodes.proofs.NodeFacts.{node-path, last-read}
+use Rattle.join_nodes.proofs.NodeFacts.{node_path, last_read}
 use Rattle.join_nodes.specs.blocks.Blocks.{Going}
-use Rattle.join_nodes.proofs.blocks.GoingLaws.{going-range}
-use Rattle.join_nodes.proofs.blocks.NodeRows.{empty-list}
+use Rattle.join_nodes.proofs.blocks.GoingLaws.{going_range}
+use Rattle.join_nodes.proofs.blocks.NodeRows.{empty_list}
 use Rattle.join_nodes.specs.lone.Lone.{Lone}
 use Rattle.join_nodes.specs.enter.Entering.{GoesOn}
-use Rattle.join_nodes.proofs.enter.NodeSteps.{Onward, onward-read, onward-going, node-limit, limit-visited}
-use Rattle.join_nodes.proofs.enter.EmptyNodes.{empty-kept}
-use Rattle.join_nodes.proofs.enter.NodeEntries.{entered-over, entered-settled}
+use Rattle.join_nodes.proofs.enter.NodeSteps.{Onward, onward_read, onward_going, node_limit, limit_visited}
+use Rattle.join_nodes.proofs.enter.EmptyNodes.{empty_kept}
+use Rattle.join_nodes.proofs.enter.NodeEntries.{entered_over, entered-settled}
 use Rattle.join_nodes.proofs.enter.enter_node.Statement.{statement}
 use Rattle.join_nodes.proofs.enter.enter_node.Tie as tie
 
@@ -29,14 +29,14 @@ rank-on-requires c κs =
     let start = c.before.before.before in
     some-path start.requires.0
     (λ q path going.
-    node-path going.node.at (start.args.d - 1) (omega (arith, going.node.at.candidates.deep)))
+    node_path going.node.at (start.args.d - 1) (omega (arith, going.node.at.candidates.deep)))
 
 narrow-requires : tie.Need-narrow-requires
 narrow-requires c κs =
     let ranked = c.before.before in
     let asked = ranked.before.before.before.before.requires in (
       some-path asked.0
-          (λ q path going. (going.node.at.candidates, last-read going.node.at ranked.rank-on.ensures)),
+          (λ q path going. (going.node.at.candidates, last_read going.node.at ranked.rank-on.ensures)),
       asked.1,
     )
 
@@ -53,7 +53,7 @@ onward : (c : tie.After-narrow) (q : Query) (path : List ℕ) → Begun (begun c
     → let a = (begun c).args in
     Onward a.lay a.st q path a.work.now c.narrow.new.0 a.d a.lo a.hi a.from a.to a.p
     c.narrow.result a.p.top
-onward c q path going = onward-read going.node going.on c.before.before.before.rank-on.ensures c.narrow.ensures.0
+onward c q path going = onward_read going.node going.on c.before.before.before.rank-on.ensures c.narrow.ensures.0
 
 -- no candidate is left
 keep-list-requires : tie.Need-keep-list-requires
@@ -61,7 +61,7 @@ keep-list-requires c κs =
     let none = c.before.before in
     let part = none.before.before.before.before.before in
     some-query (begun part).requires.0
-    (λ q path going. empty-list (onward-going (onward part q path going)) none.if1.true)
+    (λ q path going. empty_list (onward_going (onward part q path going)) none.if1.true)
 
 returns : tie.Need-returns
 returns c =
@@ -70,7 +70,7 @@ returns c =
     let part = none.before.before.before.before.before in (
       λ q path going.
           let so = onward part q path going in
-          entered-over refl (limit-visited so (empty-kept so none.if1.true kept.keep-list.ensures)),
+          entered_over refl (limit_visited so (empty_kept so none.if1.true kept.keep-list.ensures)),
       part.narrow.ensures.1,
     )
 
@@ -79,7 +79,7 @@ finish-requires : tie.Need-finish-requires
 finish-requires c κs =
     let deep = c.before in
     let part = deep.before.before.before.before.before.before in
-    some-path (begun part).requires.0 (λ q path going. node-limit (onward part q path going) (omega (arith, deep.if2.true)))
+    some-path (begun part).requires.0 (λ q path going. node_limit (onward part q path going) (omega (arith, deep.if2.true)))
 
 returns-2 : tie.Need-returns-2
 returns-2 c =
@@ -88,7 +88,7 @@ returns-2 c =
     let part = deep.before.before.before.before.before.before in (
       λ q path going.
           let so = onward part q path going in
-          entered-over refl (limit-visited so (done.finish.ensures q path (node-limit so (omega (arith, deep.if2.true))))),
+          entered_over refl (limit_visited so (done.finish.ensures q path (node_limit so (omega (arith, deep.if2.true))))),
       part.narrow.ensures.1,
     )
 
@@ -99,7 +99,7 @@ is-lone-requires c κs =
     let some = (begun part).requires.0 in
     let so = onward part some.query some.path some.holds in (
       some-query some
-          (λ q path going. going-range (onward-going (onward part q path going)) going.node.at.some),
+          (λ q path going. going_range (onward_going (onward part q path going)) going.node.at.some),
       (so.rise, so.rows.high),
     )
 
@@ -114,7 +114,7 @@ pair-lone-requires c κs =
       some-path (begun part).requires.0
           (λ q path going.
           subst (λ (n : ℕ). Going a.lay a.st q path w a.d a.lo n p.from p.to a.p) lone.one
-          (onward-going (onward part q path going))),
+          (onward_going (onward part q path going))),
       subst (λ (n : ℕ). Lone a.lay a.st w a.lo n p.from p.to a.p.top) lone.one lone,
     )
 
@@ -129,15 +129,15 @@ returns-3 c =
     let lone = yes.before.is-lone.ensures yes.if3.true in (
       λ q path going.
           let so = onward part q path going in
-          entered-over refl
-          (limit-visited so
+          entered_over refl
+          (limit_visited so
           (subst
           (λ (n : ℕ). RangeVisited a.lay q a.st.budget a.lay.row_starts a.d w paired.pair-lone.new.0 a.lo n
           a.p.tally (record { at = paired.pair-lone.result; spent = false }))
           (sym lone.one)
           (paired.pair-lone.ensures q path
           (subst (λ (n : ℕ). Going a.lay a.st q path w a.d a.lo n p.from p.to a.p) lone.one
-          (onward-going so))))),
+          (onward_going so))))),
       part.narrow.ensures.1,
     )
 
@@ -146,7 +146,7 @@ settle-requires : tie.Need-settle-requires
 settle-requires c κs =
     let part = c.before.before.before.before.before.before.before.before.before.before in
     let asked = (begun part).requires.0 in
-    (some-path asked (λ q path going. onward-going (onward part q path going)), asked.holds.node.at.some)
+    (some-path asked (λ q path going. onward_going (onward part q path going)), asked.holds.node.at.some)
 
 returns-4 : tie.Need-returns-4
 returns-4 c =

@@ -7,8 +7,8 @@ use borrow.Author.Tests.{eqb-true}
 use lib.ListN.{length}
 use Rattle.lists.proofs.Bools.{true-false}
 use Rattle.join_index.specs.Grouping.{left_at}
-use Rattle.join_index.proofs.Orders.{range-left}
-use Rattle.join_nodes.proofs.lone.LoneSets.{key-within}
+use Rattle.join_index.proofs.Orders.{range_left}
+use Rattle.join_nodes.proofs.lone.LoneSets.{key_within}
 use Rattle.join_nodes.proofs.lone.is_lone.Statement.{statement}
 use Rattle.join_nodes.proofs.lone.is_lone.Tie as tie
 
@@ -23,7 +23,7 @@ key-at-requires c κs =
     let some = c.before.before.before.before.before.before.before.requires.0 in
     record {
       query = some.query;
-      holds = range-left some.holds c.before.before.before.before.before.before.before.args.lo some.holds.some c.word_at.ensures;
+      holds = range_left some.holds c.before.before.before.before.before.before.before.args.lo some.holds.some c.word_at.ensures;
     }
 
 returns-3 : tie.Need-returns-3
@@ -38,9 +38,9 @@ returns-3 c =
       merge = merge.enum_told.given.1;
       short = λ q there.
           subst (λ (k : ℕ). length (left_at q k) ≤ start.args.st.limit) read.word_at.ensures.is
-          (key-within q start.args.st.limit read.word_at.result
-          (sym (c.key-at.ensures q (range-left there start.args.lo there.some read.word_at.ensures))
-          ∙ eqb-true c.key-at.result 0 yes));
+          (key_within q start.args.st.limit read.word_at.result
+          (sym (c.key_at.ensures q (range_left there start.args.lo there.some read.word_at.ensures))
+          ∙ eqb-true c.key_at.result 0 yes));
       room = omega (arith, roomy.if2.false, start.requires.1.1);
     }
 

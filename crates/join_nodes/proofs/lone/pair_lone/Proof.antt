@@ -4,8 +4,8 @@ use native.Mathlib.Omega.{arith}
 use borrow.Author.Rules.{rules}
 use Rattle.lists.specs.Lists.{sum}
 use Rattle.join_nodes.proofs.Asked.{some-query}
-use Rattle.join_nodes.proofs.blocks.GoingLaws.{going-few}
-use Rattle.join_nodes.proofs.lone.LoneSets.{lone-record, lone_room, lone-kept}
+use Rattle.join_nodes.proofs.blocks.GoingLaws.{going_few}
+use Rattle.join_nodes.proofs.lone.LoneSets.{lone_record, lone_room, lone_kept}
 use Rattle.join_nodes.proofs.lone.pair_lone.Statement.{statement}
 use Rattle.join_nodes.proofs.lone.pair_lone.Tie as tie
 
@@ -15,8 +15,8 @@ record-row-requires c κs =
     let read = c.before.word_at in
     let start = c.before.before.before.before in
     let going = start.requires.0.holds in (
-      some-query start.requires.0 (λ q path going. lone-record going start.requires.1 read.ensures),
-      omega (arith, going-few going, going.index.ground.rightFew),
+      some-query start.requires.0 (λ q path going. lone_record going start.requires.1 read.ensures),
+      omega (arith, going_few going, going.index.ground.right_few),
     )
 
 sub-add-paths : tie.Need-overflow-sub-add-paths
@@ -27,7 +27,7 @@ sub-add-paths c =
     let some = start.requires.0 in
     omega (
       arith,
-      recorded.record-row.ensures.past some.query (lone-record some.holds start.requires.1 read.ensures),
+      recorded.record-row.ensures.past some.query (lone_record some.holds start.requires.1 read.ensures),
     )
 
 add-paths-requires : tie.Need-add-paths-requires
@@ -43,7 +43,7 @@ returns c =
     let read = recorded.before.before.word_at in
     let start = recorded.before.before.before.before.before in
     λ q path going.
-    lone-kept going start.requires.1 read.ensures recorded.record-row.ensures c.add-paths.ensures
+    lone_kept going start.requires.1 read.ensures recorded.record-row.ensures c.add-paths.ensures
 
 pub pair-lone-spec : {M : Type 1} → statement M
 pair-lone-spec =

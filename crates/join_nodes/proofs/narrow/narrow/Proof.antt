@@ -4,9 +4,9 @@ use Prim.Native.Nat.{◌+◌, ◌≤◌}
 use native.Mathlib.Omega.{arith}
 use lib.ListN.{length}
 use borrow.Author.Rules.{rules}
-use Rattle.join_nodes.proofs.CandidateLaws.{first_word, last_word, inverted-read, narrowed-first, narrowed-further}
-use Rattle.join_nodes.proofs.CandidateLaws.{before-rising, inverted-rising, slot_apart}
-use Rattle.join_nodes.proofs.CandidateLaws.{before_small, inverted-small}
+use Rattle.join_nodes.proofs.CandidateLaws.{first_word, last_word, inverted_read, narrowed_first, narrowed_further}
+use Rattle.join_nodes.proofs.CandidateLaws.{before_rising, inverted_rising, slot_apart}
+use Rattle.join_nodes.proofs.CandidateLaws.{before_small, inverted_small}
 use Rattle.join_nodes.proofs.narrow.narrow.Statement.{statement}
 use Rattle.join_nodes.proofs.narrow.narrow.Tie as tie
 
@@ -18,7 +18,7 @@ list-low c =
     let first = c.before.before in
     let start = first.before.before.before.before in
     let cands = start.requires.0.holds.0 in
-    let held = inverted-read cands start.requires.0.holds.1 first.word_at.ensures c.word-at2.ensures in
+    let held = inverted_read cands start.requires.0.holds.1 first.word_at.ensures c.word-at2.ensures in
     (omega (arith, held.rise), omega (arith, held.within, cands.index.room))
 
 add-t22 : tie.Need-overflow-add-t22
@@ -34,7 +34,7 @@ returns c =
     let last = c.before in
     let first = last.before.before in (
       λ q path cands is.
-          narrowed-first cands (first_word cands first.word_at.ensures is) (last_word cands last.word-at2.ensures is)
+          narrowed_first cands (first_word cands first.word_at.ensures is) (last_word cands last.word-at2.ensures is)
           c.if1.true,
       c.before.before.before.before.before.before.before.requires.1,
     )
@@ -55,14 +55,14 @@ intersect-requires c κs =
     let cands = start.requires.0.holds.0 in
     let at_first = first_word cands first.word_at.ensures start.requires.0.holds.1 in
     let at_last = last_word cands last.word-at2.ensures start.requires.0.holds.1 in (
-      before-rising cands at_first at_last (omega (arith, cands.deep)),
+      before_rising cands at_first at_last (omega (arith, cands.deep)),
       (
-        inverted-rising cands at_first at_last,
+        inverted_rising cands at_first at_last,
         (
           slot_apart cands at_first at_last,
           (
             before_small cands at_first at_last (omega (arith, cands.deep)),
-            (inverted-small cands at_first at_last, start.requires.1),
+            (inverted_small cands at_first at_last, start.requires.1),
           ),
         ),
       ),
@@ -74,7 +74,7 @@ returns-2 c =
     let last = met.before.before.before.before in
     let first = last.before.before in (
       λ q path cands is.
-          narrowed-further cands (first_word cands first.word_at.ensures is) (last_word cands last.word-at2.ensures is)
+          narrowed_further cands (first_word cands first.word_at.ensures is) (last_word cands last.word-at2.ensures is)
           (omega (arith, cands.deep)) met.intersect.ensures.0,
       met.intersect.ensures.1,
     )

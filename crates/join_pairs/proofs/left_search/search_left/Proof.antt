@@ -2,8 +2,8 @@
 -- it.
 use mathlib.Core.Path.{refl}
 use native.Mathlib.Omega.{arith}
-use Rattle.lists.proofs.Slices.{changed-none}
-use Rattle.join_pairs.proofs.left_search.Finding.{ranks-there, find-there, empty-put, shortlist-room, shortlist-put}
+use Rattle.lists.proofs.Slices.{changed_none}
+use Rattle.join_pairs.proofs.left_search.Finding.{ranks_there, find_there, empty_put, shortlist_room, shortlist_put}
 use borrow.Author.Rules.{rules}
 use Rattle.join_pairs.proofs.left_search.search_left.Statement.{statement}
 use Rattle.join_pairs.proofs.left_search.search_left.Tie as tie
@@ -25,8 +25,8 @@ returns c =
     let found = c.before.before in
     let a = (start found).args in (
       record {
-        changed = changed-none a.lay.slots a.lay.row_starts a.work.now;
-        wrote = λ q there. empty-put found.probe-left.ensures there (omega (arith, c.if1.true));
+        changed = changed_none a.lay.slots a.lay.row_starts a.work.now;
+        wrote = λ q there. empty_put found.probe-left.ensures there (omega (arith, c.if1.true));
       },
       (start found).requires.1,
     )
@@ -37,7 +37,7 @@ pivot-requires c κs =
     let asked = (start found).requires.0 in
     record {
       query = asked.query;
-      holds = ranks-there found.probe-left.ensures asked.holds.left (omega (arith, c.before.if1.false));
+      holds = ranks_there found.probe-left.ensures asked.holds.left (omega (arith, c.before.if1.false));
     }
 
 find-candidates-requires : tie.Need-find-candidates-requires
@@ -47,7 +47,7 @@ find-candidates-requires c κs =
     let asked = (start found).requires.0 in (
       record {
         query = asked.query;
-        holds = find-there found.probe-left.ensures asked.holds.left chosen.pivot.ensures;
+        holds = find_there found.probe-left.ensures asked.holds.left chosen.pivot.ensures;
       },
       (start found).requires.1,
     )
@@ -61,7 +61,7 @@ write-row-requires c κs =
     record {
       query = asked.query;
       holds =
-          shortlist-room found.probe-left.ensures chosen.pivot.ensures listed.find-candidates.ensures.0
+          shortlist_room found.probe-left.ensures chosen.pivot.ensures listed.find-candidates.ensures.0
           asked.holds;
     }
 
@@ -75,8 +75,8 @@ returns-2 c =
       record {
         changed = list.0.changed;
         wrote = λ q there.
-            shortlist-put found chosen.pivot.ensures list.0 there
-            (wrote.write-row.ensures q (shortlist-room found chosen.pivot.ensures list.0 there));
+            shortlist_put found chosen.pivot.ensures list.0 there
+            (wrote.write-row.ensures q (shortlist_room found chosen.pivot.ensures list.0 there));
       },
       list.1,
     )

@@ -7,7 +7,7 @@ use native.Mathlib.Numerals.{add-one}
 use native.Mathlib.Omega.{arith}
 use lib.ListN.{length, set, length-set}
 use Rattle.lists.specs.Writing.{Put}
-use Rattle.join_spec.specs.PairList.{ontoPair}
+use Rattle.join_spec.specs.PairList.{onto_pair}
 use Rattle.join_pairs.specs.row_pairs.Writing.{PushRoom}
 use borrow.Author.Rules.{rules}
 use Rattle.join_pairs.proofs.row_pairs.push.Statement.{statement}
@@ -17,10 +17,10 @@ pair-room : {at k s : ℕ} {b : Bool} {w : List ℕ} → PushRoom at k s b w →
 pair-room r e = rw e at r.room
 
 put-pair : (at k s : ℕ) (b : Bool) (w : List ℕ) → b ≡ true
-    → Put w at (ontoPair b k s []) (at + 2) (set (set w at k) (at + 1) s)
+    → Put w at (onto_pair b k s []) (at + 2) (set (set w at k) (at + 1) s)
 put-pair at k s b w e = rw (e, add-one at) (record { written = refl; past = refl })
 
-put-none : (at k s : ℕ) (b : Bool) (w : List ℕ) → b ≡ false → Put w at (ontoPair b k s []) at w
+put-none : (at k s : ℕ) (b : Bool) (w : List ℕ) → b ≡ false → Put w at (onto_pair b k s []) at w
 put-none at k s b w e = rw e (record { written = refl; past = omega arith })
 
 slice-write-pairs : tie.Need-slice-write-pairs

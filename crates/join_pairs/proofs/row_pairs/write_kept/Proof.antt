@@ -6,16 +6,16 @@ use mathlib.Core.List.{[], ◌++◌}
 use mathlib.Core.Bool.{true}
 use native.Mathlib.Omega.{arith}
 use Rattle.lists.specs.Lists.{slice}
-use Rattle.lists.proofs.Writing.{Writing, writing_start, writing_step, writing-end, writing-room}
-use Rattle.join_spec.specs.PairList.{ontoPair}
+use Rattle.lists.proofs.Writing.{Writing, writing_start, writing_step, writing_end, writing_room}
+use Rattle.join_spec.specs.PairList.{onto_pair}
 use Rattle.words.proofs.flags.Flagging.{word_below}
-use Rattle.join_pairs.specs.row_pairs.Containing.{pairsWith}
-use Rattle.join_pairs.proofs.row_pairs.RowPairs.{kept_next, kept-none}
+use Rattle.join_pairs.specs.row_pairs.Containing.{pairs_with}
+use Rattle.join_pairs.proofs.row_pairs.RowPairs.{kept_next, kept_none}
 use Rattle.join_pairs.proofs.row_pairs.write_kept.Statement.{statement}
 use Rattle.join_pairs.proofs.row_pairs.write_kept.Tie as tie
 
 abbrev invariant-loop : tie.invariant-loop
-invariant-loop work from to k pairs₀ at n₀ place₀ pairs n place = (from ≤ place) × Writing pairs₀ at (pairsWith k (slice from to work)) pairs n (pairsWith k (slice place to work))
+invariant-loop work from to k pairs₀ at n₀ place₀ pairs n place = (from ≤ place) × Writing pairs₀ at (pairs_with k (slice from to work)) pairs n (pairs_with k (slice place to work))
 
 abbrev decreases-loop : tie.decreases-loop
 decreases-loop work from to k pairs₀ at n₀ place₀ pairs n place = to - place
@@ -24,7 +24,7 @@ loop-holds : tie.Need-loop-init invariant-loop decreases-loop
 loop-holds c =
     let start = c.before.before in
     let a = start.args in
-    (omega arith, writing_start a.pairs.now a.at (pairsWith a.k (slice a.from a.to a.work.now)) start.requires.room)
+    (omega arith, writing_start a.pairs.now a.at (pairs_with a.k (slice a.from a.to a.work.now)) start.requires.room)
 
 word-at-requires : tie.Need-word-at-requires invariant-loop decreases-loop
 word-at-requires c κs = omega (arith, c.loop-test.true, c.before.before.before.before.requires.right.within)
@@ -33,8 +33,8 @@ word-at-requires c κs = omega (arith, c.loop-test.true, c.before.before.before.
 next : (c : tie.After-word-at invariant-loop decreases-loop)
     → let at-loop = c.before.before in
     let a = at-loop.before.before.before.args in
-    pairsWith a.k (slice at-loop.loop.place a.to a.work.now)
-    ≡ ontoPair true a.k c.word_at.result [] ++ pairsWith a.k (slice (at-loop.loop.place + 1) a.to a.work.now)
+    pairs_with a.k (slice at-loop.loop.place a.to a.work.now)
+    ≡ onto_pair true a.k c.word_at.result [] ++ pairs_with a.k (slice (at-loop.loop.place + 1) a.to a.work.now)
 next c =
     let at-loop = c.before.before in
     let start = at-loop.before.before.before in
@@ -55,8 +55,8 @@ push-requires c κs =
             word_below start.requires.right at-loop.loop.place at-loop.loop.invariant.0 read.before.loop-test.true,
           );
       room =
-          writing-room at-loop.loop.invariant.1 (ontoPair true a.k read.word_at.result [])
-          (pairsWith a.k (slice (at-loop.loop.place + 1) a.to a.work.now)) (next read);
+          writing_room at-loop.loop.invariant.1 (onto_pair true a.k read.word_at.result [])
+          (pairs_with a.k (slice (at-loop.loop.place + 1) a.to a.work.now)) (next read);
     }
 
 add-place : tie.Need-overflow-add-place invariant-loop decreases-loop
@@ -77,7 +77,7 @@ same_length c = c.before.loop.invariant.1.same
 returns : tie.Need-returns invariant-loop decreases-loop
 returns c =
     let a = c.before.before.before.before.args in
-    writing-end c.before.loop.invariant.1 (kept-none a.k a.work.now c.before.loop.place a.to c.loop-test.false)
+    writing_end c.before.loop.invariant.1 (kept_none a.k a.work.now c.before.loop.place a.to c.loop-test.false)
 
 pub write-kept-spec : {M : Type 1} → statement M
 write-kept-spec =

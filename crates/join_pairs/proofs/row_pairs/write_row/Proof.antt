@@ -7,18 +7,18 @@ use mathlib.Core.Bool.{Bool}
 use native.Mathlib.Omega.{arith}
 use Rattle.lists.specs.Lists.{slice}
 use Rattle.lists.specs.Writing.{Put}
-use Rattle.lists.proofs.Slices.{slice-past, slice-next}
-use Rattle.lists.proofs.Writing.{Writing, writing_start, writing_step, writing-end, writing-room}
+use Rattle.lists.proofs.Slices.{slice_past, slice_next}
+use Rattle.lists.proofs.Writing.{Writing, writing_start, writing_step, writing_end, writing-room}
 use Rattle.join_spec.specs.Query.{Query}
-use Rattle.join_spec.specs.PairList.{ontoPair}
+use Rattle.join_spec.specs.PairList.{onto_pair}
 use Rattle.join_index.specs.declared.Layout.{Layout}
 use Rattle.join_check.specs.declared.Probe.{Probe}
 use Rattle.words.specs.Words.{Word}
-use Rattle.join_index.proofs.Places.{place-right}
-use Rattle.kept_rows.specs.Kept.{containedAt}
-use Rattle.join_pairs.specs.row_pairs.Containing.{rowAmong, CheckThere}
+use Rattle.join_index.proofs.Places.{place_right}
+use Rattle.kept_rows.specs.Kept.{contained_at}
+use Rattle.join_pairs.specs.row_pairs.Containing.{row_among, CheckThere}
 use Rattle.join_pairs.specs.row_pairs.Writing.{PushRoom, RowRoom}
-use Rattle.join_pairs.proofs.row_pairs.RowPairs.{row_next, row-none}
+use Rattle.join_pairs.proofs.row_pairs.RowPairs.{row_next, row_none}
 use Rattle.join_pairs.proofs.shortlists.Inverted.{slice-memb}
 use Rattle.join_pairs.proofs.row_pairs.write_row.Statement.{statement}
 use Rattle.join_pairs.proofs.row_pairs.write_row.Tie as tie
@@ -28,30 +28,30 @@ record RowWriting (lay : Layout) (w : List ℕ) (p : Probe) (k from to at : ℕ)
   low : from ≤ i
   written :
       (q : Query) → RowRoom lay q w p k from to at was
-      → Writing was at (rowAmong q k (slice from to w)) pairs n (rowAmong q k (slice i to w))
+      → Writing was at (row_among q k (slice from to w)) pairs n (row_among q k (slice i to w))
 
-row-past : (q : Query) (k : ℕ) (w : List ℕ) (i to : ℕ) → to ≤ i → rowAmong q k (slice i to w) ≡ []
+row-past : (q : Query) (k : ℕ) (w : List ℕ) (i to : ℕ) → to ≤ i → row_among q k (slice i to w) ≡ []
 row-past q k w i to past =
-    ap (rowAmong q k) (slice-past i to w past) ∙ row-none (containedAt q k) k
+    ap (row_among q k) (slice_past i to w past) ∙ row_none (contained_at q k) k
 
 module _ {lay : Layout} {w : List ℕ} {p : Probe} {k from to at : ℕ} {was : List ℕ} {n : ℕ} {pairs : List ℕ} {i s : ℕ} {b : Bool}
     (writing : RowWriting lay w p k from to at was n pairs i) (more : i < to) (word : Word w i s)
-    (tested : (q : Query) (k : ℕ) → CheckThere lay q w p k s → b ≡ containedAt q k s)
+    (tested : (q : Query) (k : ℕ) → CheckThere lay q w p k s → b ≡ contained_at q k s)
   where
     -- what remains begins with the pair, if it is one
     row-split : (q : Query) → RowRoom lay q w p k from to at was
-        → rowAmong q k (slice i to w) ≡ ontoPair b k s [] ++ rowAmong q k (slice (i + 1) to w)
+        → row_among q k (slice i to w) ≡ onto_pair b k s [] ++ row_among q k (slice (i + 1) to w)
     row-split q there =
-        let right = place-right there.places i s writing.low more word in
+        let right = place_right there.places i s writing.low more word in
         let here = slice-memb word from to writing.low more there.places.within in
-        let test : containedAt q k s ≡ b =
+        let test : contained_at q k s ≡ b =
         sym (tested q k (record { right = right; signed = there.signed; decides = there.decides s here })) in
-        ap (rowAmong q k)
-        (slice-next i to w more there.places.within ∙ ap (λ (x : ℕ). x ∷ slice (i + 1) to w) (sym word.is))
-        ∙ row_next (containedAt q k) k s (slice (i + 1) to w)
-        ∙ ap (λ (t : Bool). ontoPair t k s [] ++ rowAmong q k (slice (i + 1) to w)) test
+        ap (row_among q k)
+        (slice_next i to w more there.places.within ∙ ap (λ (x : ℕ). x ∷ slice (i + 1) to w) (sym word.is))
+        ∙ row_next (contained_at q k) k s (slice (i + 1) to w)
+        ∙ ap (λ (t : Bool). onto_pair t k s [] ++ row_among q k (slice (i + 1) to w)) test
 
-    row_step : {r : ℕ} {u : List ℕ} → Put pairs n (ontoPair b k s []) r u → RowWriting lay w p k from to at was r u (i + 1)
+    row_step : {r : ℕ} {u : List ℕ} → Put pairs n (onto_pair b k s []) r u → RowWriting lay w p k from to at was r u (i + 1)
     row_step put =
         record {
           low = omega (arith, writing.low);
@@ -60,12 +60,12 @@ module _ {lay : Layout} {w : List ℕ} {p : Probe} {k from to at : ℕ} {was : L
 
     row_room : {q : Query} → RowRoom lay q w p k from to at was → PushRoom n k s b pairs
     row_room {q} there =
-        let right = place-right there.places i s writing.low more word in
+        let right = place_right there.places i s writing.low more word in
         record {
-          left = omega (arith, there.left.below, there.left.index.ground.leftFew);
-          right = omega (arith, right.below, right.index.ground.rightFew);
+          left = omega (arith, there.left.below, there.left.index.ground.left_few);
+          right = omega (arith, right.below, right.index.ground.right_few);
           room =
-              writing-room (writing.written q there) (ontoPair b k s []) (rowAmong q k (slice (i + 1) to w)) (row-split q there);
+              writing-room (writing.written q there) (onto_pair b k s []) (row_among q k (slice (i + 1) to w)) (row-split q there);
         }
 
 abbrev invariant-loop : tie.invariant-loop
@@ -83,7 +83,7 @@ loop-holds c =
     record {
       low = omega arith;
       written = λ q there.
-          writing_start a.pairs.now a.at (rowAmong q a.k (slice a.from a.to a.work.now)) there.room;
+          writing_start a.pairs.now a.at (row_among q a.k (slice a.from a.to a.work.now)) there.room;
     }
 
 word-at-requires : tie.Need-word-at-requires invariant-loop decreases-loop
@@ -100,7 +100,7 @@ is-contained-requires c κs =
       record {
         query = start.requires.query;
         holds =
-            place-right there.places at-loop.i word.result at-loop.invariant.low c.before.loop-test.true
+            place_right there.places at-loop.i word.result at-loop.invariant.low c.before.loop-test.true
             word.ensures;
       },
       there.rising,
@@ -132,7 +132,7 @@ returns c =
     let start = c.before.before.before.before in
     let a = start.args in
     let loop = c.before.loop in
-    λ q there. writing-end (loop.invariant.written q there) (row-past q a.k a.work.now loop.i a.to c.loop-test.false)
+    λ q there. writing_end (loop.invariant.written q there) (row-past q a.k a.work.now loop.i a.to c.loop-test.false)
 
 pub write-row-spec : {M : Type 1} → statement M
 write-row-spec =

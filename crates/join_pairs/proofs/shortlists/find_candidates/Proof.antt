@@ -4,7 +4,7 @@ use Prim.Native.Nat.{ℕ, ◌+◌, ◌-◌, ◌≤◌, ◌<◌}
 use mathlib.Core.List.{List}
 use native.Mathlib.Omega.{arith}
 use Rattle.lists.specs.Parts.{Changed}
-use Rattle.lists.proofs.Slices.{changed-none}
+use Rattle.lists.proofs.Slices.{changed_none}
 use Rattle.join_spec.specs.Query.{Query}
 use Rattle.join_index.specs.declared.Layout.{Layout}
 use Rattle.words.specs.Words.{Word}
@@ -12,7 +12,7 @@ use Rattle.words.specs.flags.Flags.{Clear}
 use Rattle.join_pairs.specs.declared.shortlists.Span.{Span}
 use Rattle.join_pairs.specs.shortlists.Shortlists.{SpanThere, RankMet, FindThere, Shortlisted}
 use Rattle.join_pairs.proofs.shortlists.Meeting.{changed_then}
-use Rattle.join_pairs.proofs.shortlists.Sifting.{Sifting, pivot-there, sifting-start, sifting-span, sifting-step, sifting-end}
+use Rattle.join_pairs.proofs.shortlists.Sifting.{Sifting, pivot_there, sifting_start, sifting_span, sifting_step, sifting_end}
 use Rattle.join_pairs.proofs.shortlists.find_candidates.Statement.{statement}
 use Rattle.join_pairs.proofs.shortlists.find_candidates.Tie as tie
 
@@ -28,12 +28,12 @@ module _ {lay : Layout} {w : List ℕ} {from to pivot : ℕ} {v : List ℕ} {a b
       record {
         changed = searching.changed;
         low = searching.low;
-        is = λ q there. sifting-end there (searching.sifting q there);
+        is = λ q there. sifting_end there (searching.sifting q there);
       }
 
   module _ (more : i < to) {r : ℕ} (word : Word v i r) where
     searching-span : {q : Query} → FindThere lay q w from to pivot → SpanThere lay q v r pivot a b
-    searching-span {q} there = sifting-span there searching.changed.low (searching.sifting q there) searching.low more word
+    searching-span {q} there = sifting_span there searching.changed.low (searching.sifting q there) searching.low more word
 
     searching-step : {u : List ℕ} {s : Span} → RankMet lay v r pivot a b u s
         → Searching lay w from to pivot u s.from s.to (i + 1)
@@ -42,7 +42,7 @@ module _ {lay : Layout} {w : List ℕ} {from to pivot : ℕ} {v : List ℕ} {a b
           low = omega (arith, searching.low);
           changed = changed_then searching.changed met.changed;
           sifting = λ q there.
-              sifting-step there searching.changed.low (searching.sifting q there) searching.low more word met;
+              sifting_step there searching.changed.low (searching.sifting q there) searching.low more word met;
         }
 
 abbrev invariant-loop : tie.invariant-loop
@@ -53,15 +53,15 @@ decreases-loop work₀ flags₀ lay from to pivot a₀ b₀ i₀ work flags a b 
 
 list-of-requires : tie.Need-list-of-requires invariant-loop decreases-loop
 list-of-requires c κs =
-    let start = c.before.before.before in record { query = start.requires.0.query; holds = pivot-there start.requires.0.holds }
+    let start = c.before.before.before in record { query = start.requires.0.query; holds = pivot_there start.requires.0.holds }
 
 loop-holds : tie.Need-loop-init invariant-loop decreases-loop
 loop-holds c =
     let start = c.before.before.before.before in (
       record {
         low = omega arith;
-        changed = changed-none start.args.lay.slots start.args.lay.row_starts start.args.work.now;
-        sifting = λ q there. sifting-start there c.list_of.ensures;
+        changed = changed_none start.args.lay.slots start.args.lay.row_starts start.args.work.now;
+        sifting = λ q there. sifting_start there c.list_of.ensures;
       },
       start.requires.1,
     )

@@ -1,17 +1,17 @@
 -- `join_pairs::shortlists::list_of` meets its contract: the inverted list of a rank lies between two offsets.
 use native.Mathlib.Omega.{arith}
-use Rattle.join_pairs.proofs.shortlists.Inverted.{inverted-stored}
+use Rattle.join_pairs.proofs.shortlists.Inverted.{inverted_stored}
 use borrow.Author.Rules.{rules}
 use Rattle.join_pairs.proofs.shortlists.list_of.Statement.{statement}
 use Rattle.join_pairs.proofs.shortlists.list_of.Tie as tie
 
 add-from : tie.Need-overflow-add-from
 add-from c =
-    let s = inverted-stored c.before.before.requires.holds in omega arith
+    let s = inverted_stored c.before.before.requires.holds in omega arith
 
 add-to : tie.Need-overflow-add-to
 add-to c =
-    let s = inverted-stored c.before.before.before.requires.holds in omega arith
+    let s = inverted_stored c.before.before.before.requires.holds in omega arith
 
 pub list-of-spec : {M : Type 1} → statement M
 list-of-spec =

@@ -1,7 +1,7 @@
 -- `join_pairs::shortlists::meet` meets its contract: all candidates hold the pivot; any other rank is met by its inverted list.
-use Rattle.join_index.proofs.Places.{places-below}
-use Rattle.join_pairs.proofs.shortlists.Inverted.{list-rising, list-below}
-use Rattle.join_pairs.proofs.shortlists.Meeting.{met-same, met-apart, met-other}
+use Rattle.join_index.proofs.Places.{places_below}
+use Rattle.join_pairs.proofs.shortlists.Inverted.{list_rising, list_below}
+use Rattle.join_pairs.proofs.shortlists.Meeting.{met_same, met_apart, met_other}
 use borrow.Author.Rules.{rules}
 use Rattle.join_pairs.proofs.shortlists.meet.Statement.{statement}
 use Rattle.join_pairs.proofs.shortlists.meet.Tie as tie
@@ -9,7 +9,7 @@ use Rattle.join_pairs.proofs.shortlists.meet.Tie as tie
 returns : tie.Need-returns
 returns c =
     let start = c.before.before.before in
-    (met-same start.requires.0.holds c.if1.true, start.requires.1)
+    (met_same start.requires.0.holds c.if1.true, start.requires.1)
 
 intersect-requires : tie.Need-intersect-requires
 intersect-requires c κs =
@@ -19,10 +19,10 @@ intersect-requires c κs =
     let list = found.list_of.ensures in (
       record { within = there.places.within; rise = there.rise },
       (
-        list-rising list there.rank,
+        list_rising list there.rank,
         (
-          met-apart there list c.before.before.word_at.ensures,
-          (places-below there.places there.order, (list-below list there.rank, start.requires.1)),
+          met_apart there list c.before.before.word_at.ensures,
+          (places_below there.places there.order, (list_below list there.rank, start.requires.1)),
         ),
       ),
     )
@@ -33,7 +33,7 @@ returns-2 c =
     let read = met.before.before.before in
     let found = read.before.before in
     let start = found.before.before.before.before.before in
-    (met-other start.requires.0.holds found.list_of.ensures read.word_at.ensures met.intersect.ensures.0, met.intersect.ensures.1)
+    (met_other start.requires.0.holds found.list_of.ensures read.word_at.ensures met.intersect.ensures.0, met.intersect.ensures.1)
 
 pub meet-spec : {M : Type 1} → statement M
 meet-spec =

@@ -7,7 +7,7 @@ use mathlib.Core.List.{List}
 use mathlib.Core.Bool.{true}
 use native.Mathlib.Omega.{arith}
 use Rattle.lists.specs.Lists.{memb, slice}
-use Rattle.join_pairs.proofs.shortlists.Inverted.{slice-memb, slice-rank}
+use Rattle.join_pairs.proofs.shortlists.Inverted.{slice-memb, slice_rank}
 use Rattle.join_pairs.proofs.shortlists.pivot.Statement.{statement}
 use Rattle.join_pairs.proofs.shortlists.pivot.Tie as tie
 
@@ -26,7 +26,7 @@ decreases-loop work lay from to rank₀ least₀ i₀ rank least i =
 count-holders-requires : tie.Need-count-holders-requires invariant-loop decreases-loop
 count-holders-requires c κs =
     let asked = c.before.before.requires in
-    record { query = asked.query; holds = slice-rank asked.holds c.word_at.ensures (omega arith) asked.holds.some }
+    record { query = asked.query; holds = slice_rank asked.holds c.word_at.ensures (omega arith) asked.holds.some }
 
 loop-holds : tie.Need-loop-init invariant-loop decreases-loop
 loop-holds c =
@@ -46,7 +46,7 @@ count-holders-requires-2 c κs =
     record {
       query = asked.query;
       holds =
-          slice-rank asked.holds c.word-at2.ensures at-loop.loop.invariant.low c.before.loop-test.true;
+          slice_rank asked.holds c.word-at2.ensures at-loop.loop.invariant.low c.before.loop-test.true;
     }
 
 loop-again : tie.Need-loop-preserved invariant-loop decreases-loop

@@ -1,19 +1,19 @@
 -- `join_words` meets its contract: a case for each variant.
 use mathlib.Core.Path.{sym, ap, ◌∙◌}
-use Rattle.join_spec.specs.Answer.{joinWords}
-use Rattle.sets.proofs.Words.{refused-words}
+use Rattle.join_spec.specs.Answer.{join_words}
+use Rattle.sets.proofs.Words.{refused_words_lem}
 use borrow.Author.Rules.{rules}
 use Rattle.join_spec.proofs.answers.join_words.Statement.{statement}
 use Rattle.join_spec.proofs.answers.join_words.Tie as tie
 
 returns : tie.Need-returns
-returns c = sym (ap joinWords c.before.before.before.before.before.before.before.answer.given.1)
+returns c = sym (ap join_words c.before.before.before.before.before.before.before.answer.given.1)
 
 returns-2 : tie.Need-returns-2
 returns-2 c =
     let a = c.before.before.answer2.given in
     let e = c.head_of.ensures in
-    refused-words a.0.0 6 e.0 e.1 e.2 ∙ sym (ap joinWords a.1)
+    refused_words_lem a.0.0 6 e.0 e.1 e.2 ∙ sym (ap join_words a.1)
 
 pub join-words-spec : {M : Type 1} → statement M
 join-words-spec =

@@ -8,12 +8,12 @@ use native.Mathlib.Omega.{arith}
 use borrow.Author.Rules.{rules}
 use Rattle.join_spec.specs.declared.Rule.{Rule}
 use Rattle.join_spec.specs.Query.{Query}
-use Rattle.join_index.specs.Ground.{invertedList, seen_count, asksSeen}
+use Rattle.join_index.specs.Ground.{inverted_list, seen_count, asks_seen}
 use Rattle.join_index.specs.Asking.{RankThere}
-use Rattle.join_index.proofs.Orders.{range-left}
+use Rattle.join_index.proofs.Orders.{range_left}
 use Rattle.join_walk.specs.partition.Partition.{Partition}
-use Rattle.join_walk.proofs.partition.PartitionSteps.{partition-range, partition-key, seen-word, partition-node, partition-visited}
-use Rattle.join_walk.proofs.partition.PartitionSteps.{unasked-node, unheld-list, unheld-visited}
+use Rattle.join_walk.proofs.partition.PartitionSteps.{partition_range, partition_key, seen_word, partition_node, partition-visited}
+use Rattle.join_walk.proofs.partition.PartitionSteps.{unasked_node, unheld_list, unheld_visited}
 use Rattle.join_walk.proofs.partition.visit_partition.Statement.{statement}
 use Rattle.join_walk.proofs.partition.visit_partition.Tie as tie
 
@@ -24,7 +24,7 @@ key-at-requires c κs =
     let part = start.requires.0.holds in
     record {
       query = start.requires.0.query;
-      holds = range-left (partition-range part) start.args.lo part.some read.word_at.ensures;
+      holds = range_left (partition_range part) start.args.lo part.some read.word_at.ensures;
     }
 
 -- the partition that is asked of, at the start
@@ -35,24 +35,24 @@ abbrev begun : tie.After-key-at → tie.Start
 begun c = c.before.before.before.before.before.before
 
 -- the key that was read, one more than the partition's rank
-key-is : (c : tie.After-key-at) (q : Query) (r : ℕ) → Asked (begun c) q r → c.key-at.result ≡ suc r
-key-is c q r part = partition-key part c.before.before.word_at.ensures c.key-at.ensures
+key-is : (c : tie.After-key-at) (q : Query) (r : ℕ) → Asked (begun c) q r → c.key_at.result ≡ suc r
+key-is c q r part = partition_key part c.before.before.word_at.ensures c.key_at.ensures
 
 -- whether the query's rule asks for the seen right sets
-asks-is : (c : tie.After-asks-seen) (q : Query) (r : ℕ) → Asked (begun c.before) q r → asksSeen q.rule ≡ c.asks-seen.result
+asks-is : (c : tie.After-asks-seen) (q : Query) (r : ℕ) → Asked (begun c.before) q r → asks_seen q.rule ≡ c.asks-seen.result
 asks-is c q r part =
-    subst (λ (rule : Rule). asksSeen rule ≡ c.asks-seen.result) part.underway.rule (sym c.asks-seen.ensures)
+    subst (λ (rule : Rule). asks_seen rule ≡ c.asks-seen.result) part.underway.rule (sym c.asks-seen.ensures)
 
 -- it does
 abbrev read-seen : tie.After-word-at2 → tie.Then1
 read-seen c = c.before.before
 
-asked : (c : tie.Then1) (q : Query) (r : ℕ) → Asked (begun c.before.before) q r → asksSeen q.rule ≡ true
+asked : (c : tie.Then1) (q : Query) (r : ℕ) → Asked (begun c.before.before) q r → asks_seen q.rule ≡ true
 asked c q r part = asks-is c.before q r part ∙ c.if1.true
 
 seen-is : (c : tie.After-word-at2) (q : Query) (r : ℕ) → Asked (begun (read-seen c).before.before) q r
     → let a = (begun (read-seen c).before.before).args in c.word-at2.result ≡ seen_count a.lay a.work.now r
-seen-is c q r part = seen-word part (key-is (read-seen c).before.before q r part) c.word-at2.ensures
+seen-is c q r part = seen_word part (key-is (read-seen c).before.before q r part) c.word-at2.ensures
 
 add-word-at-2 : tie.Need-overflow-add-word-at-2
 add-word-at-2 c =
@@ -60,14 +60,14 @@ add-word-at-2 c =
     let start = begun key in
     let some = start.pre.0 in
     let part = some.holds in
-    omega (arith, key-is key some.query some.rank part, part.last, part.index.ground.leastOffsetsWithin, part.index.room, start.good.0)
+    omega (arith, key-is key some.query some.rank part, part.last, part.index.ground.least_offsets_within, part.index.room, start.good.0)
 
 word-at-requires-2 : tie.Need-word-at-requires-2
 word-at-requires-2 c κs =
     let key = c.before.before.before in
     let some = (begun key).requires.0 in
     let part = some.holds in
-    omega (arith, key-is key some.query some.rank part, part.last, part.index.ground.leastOffsetsWithin, part.index.room)
+    omega (arith, key-is key some.query some.rank part, part.last, part.index.ground.least_offsets_within, part.index.room)
 
 add-visit-node : tie.Need-overflow-add-visit-node
 add-visit-node c =
@@ -79,7 +79,7 @@ add-visit-node c =
     omega (
       arith,
       seen-is seen some.query some.rank part,
-      part.index.ground.seenWithin (asked test some.query some.rank part) some.rank part.last,
+      part.index.ground.seen_within (asked test some.query some.rank part) some.rank part.last,
       part.index.room,
       start.good.0,
     )
@@ -94,7 +94,7 @@ visit-node-requires c κs =
         query = some.query;
         path = some.rank ∷ [];
         holds =
-            partition-node some.holds (asked test some.query some.rank some.holds)
+            partition_node some.holds (asked test some.query some.rank some.holds)
             (seen-is seen some.query some.rank some.holds);
       },
       pre.1,
@@ -107,17 +107,17 @@ returns c =
     let test = read-seen seen in (
       λ q r part.
           partition-visited (begun test.before.before).args.st r
-          (visited.visit-node.ensures.0 q (r ∷ []) (partition-node part (asked test q r part) (seen-is seen q r part))),
+          (visited.visit-node.ensures.0 q (r ∷ []) (partition_node part (asked test q r part) (seen-is seen q r part))),
       visited.visit-node.ensures.1,
     )
 
 -- it does not
-unasked : (c : tie.Else1) (q : Query) (r : ℕ) → Asked (begun c.before.before) q r → asksSeen q.rule ≡ false
+unasked : (c : tie.Else1) (q : Query) (r : ℕ) → Asked (begun c.before.before) q r → asks_seen q.rule ≡ false
 unasked c q r part = asks-is c.before q r part ∙ c.if1.false
 
 rank-there : (c : tie.Else1) (q : Query) (r : ℕ) → Asked (begun c.before.before) q r
     → let a = (begun c.before.before).args in
-    RankThere a.lay q a.work.now (c.before.before.key-at.result - 1)
+    RankThere a.lay q a.work.now (c.before.before.key_at.result - 1)
 rank-there c q r part =
     record { index = part.index; below = omega (arith, key-is c.before.before q r part, part.last) }
 
@@ -141,7 +141,7 @@ visit-node-requires-2 c κs =
       record {
         query = some.query;
         path = some.rank ∷ [];
-        holds = unasked-node some.holds (unasked test some.query some.rank some.holds);
+        holds = unasked_node some.holds (unasked test some.query some.rank some.holds);
       },
       pre.1,
     )
@@ -152,7 +152,7 @@ returns-2 c =
     let test = visited.before.before.before.before.before.before in (
       λ q r part.
           partition-visited (begun test.before.before).args.st r
-          (visited.visit-node2.ensures.0 q (r ∷ []) (unasked-node part (unasked test q r part))),
+          (visited.visit-node2.ensures.0 q (r ∷ []) (unasked_node part (unasked test q r part))),
       visited.visit-node2.ensures.1,
     )
 
@@ -160,12 +160,12 @@ returns-2 c =
 abbrev held_test : tie.Else2 → tie.Else1
 held_test c = c.before.before.before
 
-unheld : (c : tie.Else2) (q : Query) (r : ℕ) → Asked (begun (held_test c).before.before) q r → invertedList q r ≡ []
+unheld : (c : tie.Else2) (q : Query) (r : ℕ) → Asked (begun (held_test c).before.before) q r → inverted_list q r ≡ []
 unheld c q r part =
     let test = held_test c in
     let key = key-is test.before.before q r part in
-    let rank : test.before.before.key-at.result - 1 ≡ r = omega (arith, key) in
-    subst (λ (n : ℕ). invertedList q n ≡ []) rank
+    let rank : test.before.before.key_at.result - 1 ≡ r = omega (arith, key) in
+    subst (λ (n : ℕ). inverted_list q n ≡ []) rank
     (c.before.is_held_lem.ensures q (rank-there test q r part) c.if2.false)
 
 keep-list-requires : tie.Need-keep-list-requires
@@ -176,7 +176,7 @@ keep-list-requires c κs =
     record {
       query = some.query;
       holds =
-          unheld-list some.holds (unasked test some.query some.rank some.holds)
+          unheld_list some.holds (unasked test some.query some.rank some.holds)
           (unheld none some.query some.rank some.holds);
     }
 
@@ -188,7 +188,7 @@ returns-3 c =
     let start = begun test.before.before in (
       λ q r part.
           partition-visited start.args.st r
-          (unheld-visited part (unasked test q r part) (unheld none q r part) kept.keep-list.ensures),
+          (unheld_visited part (unasked test q r part) (unheld none q r part) kept.keep-list.ensures),
       start.pre.1,
     )
 

@@ -18,12 +18,12 @@ use Rattle.join_nodes.specs.Narrowing.{slot_of, SomePath}
 use Rattle.join_nodes.specs.Visiting.{Node, ChildrenAt, NodeVisited}
 use Rattle.join_nodes.specs.declared.Walked.{Walked}
 use Rattle.join_nodes.proofs.Asked.{some-path, some-query}
-use Rattle.join_nodes.proofs.PartLoop.{Continuing, continuing-start, continuing-step, continuing-spent, continuing-end}
-use Rattle.join_nodes.proofs.blocks.NodeStops.{goes_on, goes-not, stop-there, stop-small, stop-visited}
+use Rattle.join_nodes.proofs.PartLoop.{Continuing, continuing_start, continuing_step, continuing_spent, continuing_end}
+use Rattle.join_nodes.proofs.blocks.NodeStops.{goes_on, goes_not, stop_there, stop_small, stop_visited}
 use Rattle.join_nodes.specs.enter.Entering.{NodeEntered}
-use Rattle.join_walk.proofs.visit.ChildSteps.{kids-range, childPath}
-use Rattle.join_walk.proofs.visit.ChildNodes.{next-node, children-done}
-use Rattle.join_walk.proofs.visit.Descents.{Descending, descending-start, node-left, descending-end, ask-below, spent-below, ask-above, spent-above, descending-step, descending-only}
+use Rattle.join_walk.proofs.visit.ChildSteps.{kids_range, child_path}
+use Rattle.join_walk.proofs.visit.ChildNodes.{next_node, children_done}
+use Rattle.join_walk.proofs.visit.Descents.{Descending, descending_start, node_left, descending_end, ask_below, spent_below, ask_above, spent_above, descending-step, descending-only}
 use Rattle.join_check.proofs.keys.range_end.Reads as range-end
 use Rattle.join_nodes.proofs.block_checks.check_block.Reads as check-block
 use Rattle.join_nodes.proofs.decide.decide.Reads as decide
@@ -97,11 +97,11 @@ module _ (t : ℕ) where
   loop-holds : children-lts.Need-loop-init (children-callees t) (children-at t) visit-children.Post invariant-loop decreases-loop
   loop-holds c =
       let asked = c.before.before.requires.1 in
-      (continuing-start _ _ _ _ _ _ asked.0, asked.1)
+      (continuing_start _ _ _ _ _ _ asked.0, asked.1)
 
   range-end-requires : children-lts.Need-range-end-requires (children-callees t) (children-at t) visit-children.Post invariant-loop decreases-loop
   range-end-requires c κs =
-      some-query c.before.before.loop.invariant.0.some (λ q path at. kids-range at.kids c.before.loop-test.true)
+      some-query c.before.before.loop.invariant.0.some (λ q path at. kids_range at.kids c.before.loop-test.true)
 
   add-visit-node : children-lts.Need-overflow-add-visit-node (children-callees t) (children-at t) visit-children.Post invariant-loop decreases-loop
   add-visit-node c =
@@ -120,8 +120,8 @@ module _ (t : ℕ) where
         (
           record {
             query = some.query;
-            path = childPath kids test.loop-test.true;
-            holds = next-node some.holds test.loop-test.true end.range-end.ensures;
+            path = child_path kids test.loop-test.true;
+            holds = next_node some.holds test.loop-test.true end.range-end.ensures;
           },
           at-loop.loop.invariant.1,
         ),
@@ -145,8 +145,8 @@ module _ (t : ℕ) where
       let visit = c.before.before.before.before.before in
       let end = visit.before.before.before in
       let test = end.before.before in (
-        continuing-spent test.before.loop.invariant.0 (omega (arith, end.range-end.ensures.more)) end.range-end.ensures.within
-            (children-done test.loop-test.true end.range-end.ensures visit.visit-node.ensures.0) c.if1.true,
+        continuing_spent test.before.loop.invariant.0 (omega (arith, end.range-end.ensures.more)) end.range-end.ensures.within
+            (children_done test.loop-test.true end.range-end.ensures visit.visit-node.ensures.0) c.if1.true,
         visit.visit-node.ensures.1,
       )
 
@@ -162,8 +162,8 @@ module _ (t : ℕ) where
       let visit = calm.before.before.before.before.before in
       let end = visit.before.before.before in
       let test = end.before.before in (
-        continuing-step test.before.loop.invariant.0 (omega (arith, end.range-end.ensures.more)) end.range-end.ensures.within
-            (children-done test.loop-test.true end.range-end.ensures visit.visit-node.ensures.0)
+        continuing_step test.before.loop.invariant.0 (omega (arith, end.range-end.ensures.more)) end.range-end.ensures.within
+            (children_done test.loop-test.true end.range-end.ensures visit.visit-node.ensures.0)
             visit.visit-node.auto.0 calm.if1.false,
         visit.visit-node.ensures.1,
       )
@@ -179,7 +179,7 @@ module _ (t : ℕ) where
   children-returns-2 : children-lts.Need-returns-2 (children-callees t) (children-at t) visit-children.Post invariant-loop decreases-loop
   children-returns-2 c =
       let inv = c.before.loop.invariant in (
-        continuing-end inv.0 c.loop-test.false inv.0.some.holds.kids.underway.budget
+        continuing_end inv.0 c.loop-test.false inv.0.some.holds.kids.underway.budget
             (λ q path at. at.kids.rows),
         inv.1,
       )
@@ -188,7 +188,7 @@ module _ (t : ℕ) where
   node-loop-holds c =
       let start = c.before.before in
       let a = start.args in
-      (descending-start a.lay a.st a.work.now a.d a.lo a.hi a.from a.to a.p, start.requires.1.1)
+      (descending_start a.lay a.st a.work.now a.d a.lo a.hi a.from a.to a.p, start.requires.1.1)
 
   -- the node visit: in its loop some node is left
   abbrev begun : node-lts.In-loop (node-callees t) (node_at t) visit-node.Post invariant-down decreases-down → node-lts.Start (node-callees t) (node_at t) visit-node.Post invariant-down decreases-down
@@ -201,7 +201,7 @@ module _ (t : ℕ) where
       Node a.lay a.st q path l.work l.e l.i l.j l.first l.last l.r
 
   here : (c : node-lts.In-loop (node-callees t) (node_at t) visit-node.Post invariant-down decreases-down) → SomePath (Here c)
-  here c = node-left c.before.loop.invariant.0 c.loop-test.true (begun c).requires.1.0
+  here c = node_left c.before.loop.invariant.0 c.loop-test.true (begun c).requires.1.0
 
   -- its visit ends the whole
   ends : (c : node-lts.In-loop (node-callees t) (node_at t) visit-node.Post invariant-down decreases-down) {w : List ℕ} {one : Walked}
@@ -211,7 +211,7 @@ module _ (t : ℕ) where
       → NodeVisited a.lay a.st q path l.work w l.e l.i l.j l.r.tally one)
       → (q : Query) (path : List ℕ) → Node a.lay a.st q path a.work.now a.d a.lo a.hi a.from a.to a.p
       → NodeVisited a.lay a.st q path a.work.now w a.d a.lo a.hi a.p.tally one
-  ends c = descending-end c.before.loop.invariant.0 c.loop-test.true
+  ends c = descending_end c.before.loop.invariant.0 c.loop-test.true
 
   -- flags that are clear are as many as were passed
   as_many : (c : node-lts.In-loop (node-callees t) (node_at t) visit-node.Post invariant-down decreases-down) {f : List ℕ} → Clear f
@@ -232,8 +232,8 @@ module _ (t : ℕ) where
       let stop = c.before in
       let some = here stop.before.before.before in (
         some-query some
-            (λ q path node. stop-there node (goes-not node stop.before.decide.ensures stop.if1.true)),
-        stop-small some.holds,
+            (λ q path node. stop_there node (goes_not node stop.before.decide.ensures stop.if1.true)),
+        stop_small some.holds,
       )
 
   node-same-length : node-lts.Need-same-length (node-callees t) (node_at t) visit-node.Post invariant-down decreases-down
@@ -248,7 +248,7 @@ module _ (t : ℕ) where
       let stop = c.before.before in
       let test = stop.before.before.before in (
         ends test (λ q path node.
-            stop-visited node (goes-not node stop.before.decide.ensures stop.if1.true) c.check-block.ensures),
+            stop_visited node (goes_not node stop.before.decide.ensures stop.if1.true) c.check-block.ensures),
         test.before.loop.invariant.1,
       )
 
@@ -300,7 +300,7 @@ module _ (t : ℕ) where
       let more = c.before in
       let over = more.before.before.before.before.before.before in
       some-query (here (in-loop over))
-      (λ q path node. kids-range (entered over q path node .kids more.if2.false .kids) more.if2.false)
+      (λ q path node. kids_range (entered over q path node .kids more.if2.false .kids) more.if2.false)
 
   sub-if3 : node-lts.Need-overflow-sub-if3 (node-callees t) (node_at t) visit-node.Post invariant-down decreases-down
   sub-if3 c = omega (arith, c.before.heaviest-range.ensures)
@@ -315,7 +315,7 @@ module _ (t : ℕ) where
       let test = in-loop over in (
         omega (arith, (begun test).pre.0, test.before.loop.inv.0.deeper),
         (
-          some-path (here test) (ask-below (entered over) chosen.before.before.if2.false chosen.heaviest-range.ensures),
+          some-path (here test) (ask_below (entered over) chosen.before.before.if2.false chosen.heaviest-range.ensures),
           over.enter-node.ensures.1,
         ),
       )
@@ -337,7 +337,7 @@ module _ (t : ℕ) where
       let chosen = chosen_at low in
       let over = inside chosen in (
         ends (in-loop over)
-            (spent-below (entered over) chosen.before.before.if2.left chosen.heaviest-range.ensures
+            (spent_below (entered over) chosen.before.before.if2.left chosen.heaviest-range.ensures
             low.visit-children.ensures.0 c.if4.true),
         low.visit-children.ensures.1,
       )
@@ -352,7 +352,7 @@ module _ (t : ℕ) where
         omega (arith, (begun test).pre.0, test.before.loop.inv.0.deeper),
         (
           some-path (here test)
-              (ask-above (entered over) chosen.before.before.if2.left chosen.heaviest-range.ensures
+              (ask_above (entered over) chosen.before.before.if2.left chosen.heaviest-range.ensures
               low.visit-children.ensures.0 calm.if4.false),
           low.visit-children.ensures.1,
         ),
@@ -379,7 +379,7 @@ module _ (t : ℕ) where
       let chosen = chosen_at low in
       let over = inside chosen in (
         ends (in-loop over)
-            (spent-above (entered over) chosen.before.before.if2.left chosen.heaviest-range.ensures
+            (spent_above (entered over) chosen.before.before.if2.left chosen.heaviest-range.ensures
             low.visit-children.ensures.0 calm.if4.false high.visit-children2.ensures.0 c.if5.true),
         high.visit-children2.ensures.1,
       )

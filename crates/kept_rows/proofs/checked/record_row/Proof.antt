@@ -3,9 +3,9 @@
 use Prim.Native.Nat.{◌+◌, ◌-◌, ◌<◌}
 use native.Mathlib.Omega.{arith}
 use lib.ListN.{length, set}
-use Rattle.sets.specs.Limits.{fullWords}
-use Rattle.kept_rows.proofs.checked.RecordLaws.{Recording, recording-start, recording-step, recording-end, recording-grows}
-use Rattle.kept_rows.proofs.checked.RecordLaws.{recording-read, recording-room, recording-right, recording-rising, row_room}
+use Rattle.sets.specs.Limits.{full_words}
+use Rattle.kept_rows.proofs.checked.RecordLaws.{Recording, recording_start, recording_step, recording_end, recording_grows}
+use Rattle.kept_rows.proofs.checked.RecordLaws.{recording_read, recording_room, recording_right, recording_rising, row_room}
 use Rattle.kept_rows.proofs.checked.record_row.Statement.{statement}
 use Rattle.kept_rows.proofs.checked.record_row.Tie as tie
 
@@ -21,13 +21,13 @@ probe-left-requires c κs =
     record { query = some.query; holds = some.holds.row.left }
 
 loop-holds : tie.Need-loop-init invariant-loop decreases-loop
-loop-holds c = recording-start
+loop-holds c = recording_start
 
 word-at-requires : tie.Need-word-at-requires invariant-loop decreases-loop
 word-at-requires c κs =
     let at-loop = c.before.before in
     let start = at-loop.before.before.before.before in
-    recording-read at-loop.loop.invariant start.requires.0.holds c.before.loop-test.true
+    recording_read at-loop.loop.invariant start.requires.0.holds c.before.loop-test.true
 
 check-one-requires : tie.Need-check-one-requires invariant-loop decreases-loop
 check-one-requires c κs =
@@ -37,10 +37,10 @@ check-one-requires c κs =
     let there = start.requires.0.holds in (
       record {
         query = start.requires.0.query;
-        holds = recording-right at-loop.loop.invariant there test.loop-test.true c.before.word_at.ensures;
+        holds = recording_right at-loop.loop.invariant there test.loop-test.true c.before.word_at.ensures;
       },
       (
-        recording-rising at-loop.loop.invariant there at-loop.before.probe-left.ensures,
+        recording_rising at-loop.loop.invariant there at-loop.before.probe-left.ensures,
         omega (arith, at-loop.loop.invariant.checking.grown, start.requires.1, test.loop-test.true),
       ),
     )
@@ -54,7 +54,7 @@ room : (c : tie.After-check-one invariant-loop decreases-loop)
 room c =
     let test = c.before.before.before.before in
     let at-loop = test.before in
-    recording-room at-loop.loop.invariant at-loop.before.before.before.before.requires.0.holds test.loop-test.true
+    recording_room at-loop.loop.invariant at-loop.before.before.before.before.requires.0.holds test.loop-test.true
 
 mul-work : tie.Need-overflow-mul-work invariant-loop decreases-loop
 mul-work c = omega (arith, room c)
@@ -73,22 +73,22 @@ stepped : (c : tie.After-struct-known invariant-loop decreases-loop)
 stepped c =
     let test = c.before.before.before.before.before in
     let at-loop = test.before in
-    recording-step at-loop.loop.invariant at-loop.before.before.before.before.requires.0 test.loop-test.true
+    recording_step at-loop.loop.invariant at-loop.before.before.before.before.requires.0 test.loop-test.true
     c.before.before.before.word_at.ensures at-loop.before.probe-left.ensures c.before.check-one.ensures
 
 -- up to where it may be left
 last : (c : tie.After-struct-known invariant-loop decreases-loop)
     → let a = c.before.before.before.before.before.before.before.before.before.before.args in
-    a.top + (a.to - a.from) < fullWords
+    a.top + (a.to - a.from) < full_words
 last c =
     let there = c.before.before.before.before.before.before.before.before.before.before.requires.0.holds in
-    omega (arith, there.room, there.row.left.index.ground.endSmall)
+    omega (arith, there.room, there.row.left.index.ground.end_small)
 
 sub-n : tie.Need-overflow-sub-n invariant-loop decreases-loop
 sub-n c =
     let test = c.before.before.before.before.before in
     let at-loop = test.before in
-    recording-grows at-loop.loop.invariant at-loop.before.before.before.before.requires.0 test.loop-test.true
+    recording_grows at-loop.loop.invariant at-loop.before.before.before.before.requires.0 test.loop-test.true
     c.before.before.before.word_at.ensures at-loop.before.probe-left.ensures c.before.check-one.ensures
 
 cast-n : tie.Need-overflow-cast-n invariant-loop decreases-loop
@@ -121,7 +121,7 @@ returns c =
     let kept = c.before.before in
     let test = kept.before.before in
     let at-loop = test.before in
-    recording-end at-loop.loop.invariant at-loop.before.before.before.before.requires.0 test.loop-test.false
+    recording_end at-loop.loop.invariant at-loop.before.before.before.before.requires.0 test.loop-test.false
     kept.keep_row.ensures
 
 pub record-row-spec : {M : Type 1} → statement M

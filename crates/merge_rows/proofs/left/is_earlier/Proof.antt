@@ -5,7 +5,7 @@ use native.Mathlib.Omega.{arith}
 use borrow.Author.Rules.{rules}
 use lib.ListN.{get_or}
 use Rattle.lists.proofs.Bools.{true-false}
-use Rattle.sets.specs.Collections.{between, setsOf}
+use Rattle.sets.specs.Collections.{between, sets_of}
 use Rattle.side_index.specs.inverted.Placing.{start_at}
 use Rattle.side_index.proofs.inverted.Collected.{SetAt, set_at}
 use Rattle.merge_rows.proofs.left.is_earlier.Statement.{statement}
@@ -16,7 +16,7 @@ set_there : (c : tie.After-start-of)
     → let start = c.before.before.before.before.before in
     let a = start.args in
     SetAt start.requires.T a.j (start_at a.ends.now a.j) (get_or a.ends.now a.j 0)
-    (get_or (setsOf a.ends.now a.items.now) a.j []) a.items.now
+    (get_or (sets_of a.ends.now a.items.now) a.j []) a.items.now
 set_there c =
     let start = c.before.before.before.before.before in
     let a = start.args in

@@ -9,9 +9,9 @@ use lib.ListN.{length}
 use lib.Seq.{take-length}
 use Rattle.sets.specs.Collections.{between}
 use Rattle.sets.specs.Signatures.{signature}
-use Rattle.merge_rows.proofs.SignedLaws.{signs-none}
-use Rattle.merge_rows.proofs.BlockSteps.{row_small, row_room, block-places, block-signs, held_small, block-whole}
-use Rattle.merge_rows.proofs.BlockSteps.{others-places, drops-within, drops-small, falses-small, block-checked}
+use Rattle.merge_rows.proofs.SignedLaws.{signs_none}
+use Rattle.merge_rows.proofs.BlockSteps.{row_small, row_room, block_places, block_signs, held_small, block_whole}
+use Rattle.merge_rows.proofs.BlockSteps.{others_places, drops_within, drops_small, falses_small, block_checked}
 use borrow.Author.Rules.{rules}
 use Rattle.merge_rows.proofs.left.meet_block.Statement.{statement}
 use Rattle.merge_rows.proofs.left.meet_block.Tie as tie
@@ -39,20 +39,20 @@ list-word-requires : tie.Need-list-word-requires
 list-word-requires c κs =
     let shared = c.before in
     let there = (start shared).requires.0 in
-    (block-places there, held_small there shared.shared.result shared.shared.ensures)
+    (block_places there, held_small there shared.shared.result shared.shared.ensures)
 
 returns : tie.Need-returns
 returns c =
     let listed = c.before.before.before in
     let shared = listed.before.before in
     let there = (start shared).requires.0 in
-    (block-whole there shared.shared.result shared.shared.ensures c.if1.true listed.list-word.ensures, signs-none there.ground.signed)
+    (block_whole there shared.shared.result shared.shared.ensures c.if1.true listed.list-word.ensures, signs_none there.ground.signed)
 
 count-drops-requires : tie.Need-count-drops-requires
 count-drops-requires c κs =
     let shared = c.before.before.before.before.before.before.before in
     let s = start shared in
-    (block-signs s.pre.0, (s.pre.1, others-places s.pre.0 shared.shared.result shared.shared.ensures))
+    (block_signs s.pre.0, (s.pre.1, others_places s.pre.0 shared.shared.result shared.shared.ensures))
 
 add-t22 : tie.Need-overflow-add-t22
 add-t22 c =
@@ -62,7 +62,7 @@ add-t22 c =
     let s = start shared in
     omega (
       arith,
-      drops-small s.pre.0 shared.shared.result shared.shared.ensures (signed-whole s.args.more.now signed.sign_set.ensures)
+      drops_small s.pre.0 shared.shared.result shared.shared.ensures (signed-whole s.args.more.now signed.sign_set.ensures)
           counted.count-drops.ensures.0,
     )
 
@@ -72,7 +72,7 @@ sub-t28 c =
     let signed = counted.before.before in
     let shared = signed.before.before.before.before.before.before in
     let s = start shared in
-    drops-within s.pre.0 shared.shared.result shared.shared.ensures (signed-whole s.args.more.now signed.sign_set.ensures)
+    drops_within s.pre.0 shared.shared.result shared.shared.ensures (signed-whole s.args.more.now signed.sign_set.ensures)
     counted.count-drops.ensures.0 c.ones-of.ensures
 
 add-t29 : tie.Need-overflow-add-t29
@@ -83,7 +83,7 @@ add-t29 c =
     let s = start shared in
     omega (
       arith,
-      falses-small s.pre.0 shared.shared.result shared.shared.ensures (signed-whole s.args.more.now signed.sign_set.ensures)
+      falses_small s.pre.0 shared.shared.result shared.shared.ensures (signed-whole s.args.more.now signed.sign_set.ensures)
           counted.count-drops.ensures.0 c.before.ones-of.ensures,
     )
 
@@ -94,7 +94,7 @@ returns-2 c =
     let listed = signed.before.before.before.before in
     let shared = listed.before.before in
     let s = start shared in (
-      block-checked s.pre.0 shared.shared.result shared.shared.ensures (signed-whole s.args.more.now signed.sign_set.ensures)
+      block_checked s.pre.0 shared.shared.result shared.shared.ensures (signed-whole s.args.more.now signed.sign_set.ensures)
           counted.count-drops.ensures.0 c.before.ones-of.ensures listed.list-word.ensures,
       counted.count-drops.ensures.1,
     )

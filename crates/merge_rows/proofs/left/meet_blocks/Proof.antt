@@ -5,17 +5,17 @@ use mathlib.Core.Logic.{⊎_elim}
 use native.Mathlib.Omega.{arith}
 use lib.Bits.{and_le_r}
 use lib.Count.{trailing_le}
-use Rattle.sets.specs.Collections.{setsOf}
-use Rattle.merge_rows.proofs.RowReads.{ground-signs}
-use Rattle.merge_rows.proofs.BlockSteps.{BlocksMet, blocks_start, blocks_end, first_block, block-there}
-use Rattle.merge_rows.proofs.BlockSteps.{blocks-none, blocks_step, blocks-same}
+use Rattle.sets.specs.Collections.{sets_of}
+use Rattle.merge_rows.proofs.RowReads.{ground_signs}
+use Rattle.merge_rows.proofs.BlockSteps.{BlocksMet, blocks_start, blocks_end, first_block, block_there}
+use Rattle.merge_rows.proofs.BlockSteps.{blocks_none, blocks_step, blocks_same}
 use Rattle.merge_rows.proofs.BlockSteps.{row_small, row_room}
 use Rattle.merge_rows.proofs.left.meet_blocks.Statement.{statement}
 use Rattle.merge_rows.proofs.left.meet_blocks.Tie as tie
 
 abbrev invariant-loop : tie.invariant-loop
 invariant-loop work₀ r table ends items k path more blocks pairs₀ t met₀ rest₀ work pairs met rest =
-    BlocksMet r (setsOf ends items) k path more met₀ work₀ pairs₀ work pairs met rest
+    BlocksMet r (sets_of ends items) k path more met₀ work₀ pairs₀ work pairs met rest
 
 abbrev decreases-loop : tie.decreases-loop
 decreases-loop work₀ r table ends items k path more blocks pairs₀ t met₀ rest₀ work pairs met rest = rest
@@ -48,14 +48,14 @@ shared-requires c κs =
     let in-loop = c.before in
     let inv = in-loop.before.loop.invariant in
     let there = (start in-loop.before).pre.0 in
-    row_room (ground-signs there.ground inv.signs) _ _ (first_block there inv in-loop.loop-test.true) there.along
+    row_room (ground_signs there.ground inv.signs) _ _ (first_block there inv in-loop.loop-test.true) there.along
 
 meet-block-requires : tie.Need-meet-block-requires invariant-loop decreases-loop
 meet-block-requires c κs =
     let shared = c.before.before.before in
     let in-loop = shared.before.before in
     let s = start in-loop.before in
-    (block-there s.pre.0 in-loop.before.loop.invariant in-loop.loop-test.true shared.shared.result shared.shared.ensures, s.pre.1.1)
+    (block_there s.pre.0 in-loop.before.loop.invariant in-loop.loop-test.true shared.shared.result shared.shared.ensures, s.pre.1.1)
 
 loop-less : tie.Need-loop-smaller invariant-loop decreases-loop
 loop-less c =
@@ -70,11 +70,11 @@ loop-again c =
     let some = in-loop.loop-test.true in
     ⊎_elim
     (λ w.
-    blocks-same w.8 w.9 w.10
+    blocks_same w.8 w.9 w.10
     (blocks_step there inv some shared.shared.result shared.shared.ensures w.3.ensures.0 w.3.ensures.1))
     (λ w.
-    blocks-same w.1 w.2 w.3
-    (blocks-none there inv some shared.shared.result shared.shared.ensures w.0.left))
+    blocks_same w.1 w.2 w.3
+    (blocks_none there inv some shared.shared.result shared.shared.ensures w.0.left))
     c.if1.branch
 
 same_length : tie.Need-same-length invariant-loop decreases-loop

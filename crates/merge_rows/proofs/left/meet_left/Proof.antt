@@ -3,9 +3,9 @@
 use Prim.Native.Nat.{◌<◌}
 use native.Mathlib.Omega.{arith}
 use lib.ListN.{length, length-take}
-use Rattle.merge_rows.proofs.SignedLaws.{signs-none}
-use Rattle.merge_rows.proofs.LeftSteps.{set-hint, set-lefts, empty-added, short-path, short-alike, short-added}
-use Rattle.merge_rows.proofs.LeftSteps.{long-room, long_path, long-alike, long_order, long-small, long-added}
+use Rattle.merge_rows.proofs.SignedLaws.{signs_none}
+use Rattle.merge_rows.proofs.LeftSteps.{set_hint, set_lefts, empty_added, short_path, short_alike, short_added}
+use Rattle.merge_rows.proofs.LeftSteps.{long_room, long_path, long_alike, long_order, long_small, long_added}
 use borrow.Author.Rules.{rules}
 use Rattle.merge_rows.proofs.left.meet_left.Statement.{statement}
 use Rattle.merge_rows.proofs.left.meet_left.Tie as tie
@@ -20,7 +20,7 @@ longer c = omega (arith, c.if2.false)
 returns : tie.Need-returns
 returns c =
     let there = c.before.before.before.before.before.before.before.before.before.before.requires.0 in
-    (empty-added there (omega (arith, c.if1.true)), signs-none there.over.ground.signed)
+    (empty_added there (omega (arith, c.if1.true)), signs_none there.over.ground.signed)
 
 meet-path-requires : tie.Need-meet-path-requires
 meet-path-requires c κs =
@@ -28,8 +28,8 @@ meet-path-requires c κs =
     let there = s.requires.0 in
     let some = has_some c.before.before.before.before in
     let few = c.before.before.before.if2.true in (
-      short-path there some few,
-      (there.over.laid, (set-hint there some, (set-lefts there, (short-alike there some few, s.requires.1)))),
+      short_path there some few,
+      (there.over.laid, (set_hint there some, (set_lefts there, (short_alike there some few, s.requires.1)))),
     )
 
 returns-2 : tie.Need-returns-2
@@ -37,11 +37,11 @@ returns-2 c =
     let met = c.before.before.before.before in
     let chosen = c.before.before.before.before.before.before.before.before in
     let there = c.before.before.before.before.before.before.before.before.before.before.before.before.before.before.before.before.before.before.before.requires.0 in
-    (short-added there (has_some chosen.before) chosen.if2.true met.meet-path.ensures.0, met.meet-path.ensures.1)
+    (short_added there (has_some chosen.before) chosen.if2.true met.meet-path.ensures.0, met.meet-path.ensures.1)
 
 take-path-requires : tie.Need-take-path-requires
 take-path-requires c κs =
-    long-room c.before.before.before.before.before.before.before.before.before.before.before.before.requires.0 (longer c.before)
+    long_room c.before.before.before.before.before.before.before.before.before.before.before.before.requires.0 (longer c.before)
 
 slice-aggregate-meet-path-2 : tie.Need-slice-aggregate-meet-path-2
 slice-aggregate-meet-path-2 c =
@@ -56,7 +56,7 @@ meet-path-requires-2 c κs =
     let many = longer taken.before.before in
     let first = taken.take-path.ensures in (
       long_path there many first,
-      (there.over.laid, (set-hint there (omega arith), (set-lefts there, (long-alike there many first, s.requires.1)))),
+      (there.over.laid, (set_hint there (omega arith), (set_lefts there, (long_alike there many first, s.requires.1)))),
     )
 
 confirm-requires : tie.Need-confirm-requires
@@ -66,7 +66,7 @@ confirm-requires c κs =
     let there = c.before.before.before.before.before.before.before.before.before.before.before.before.before.before.before.before.before.before.before.before.before.before.before.requires.0 in
     let many = longer taken.before.before in
     let first = taken.take-path.ensures in
-    (long_order there many first met.meet-path2.ensures.0, long-small there many first met.meet-path2.ensures.0)
+    (long_order there many first met.meet-path2.ensures.0, long_small there many first met.meet-path2.ensures.0)
 
 returns-3 : tie.Need-returns-3
 returns-3 c =
@@ -74,7 +74,7 @@ returns-3 c =
     let taken = c.before.before.before.before.before.before.before.before.before.before.before in
     let there = c.before.before.before.before.before.before.before.before.before.before.before.before.before.before.before.before.before.before.before.before.before.before.before.before.requires.0 in
     let many = longer taken.before.before in (
-      long-added there many taken.take-path.ensures met.meet-path2.ensures.0 c.confirm.ensures,
+      long_added there many taken.take-path.ensures met.meet-path2.ensures.0 c.confirm.ensures,
       met.meet-path2.ensures.1,
     )
 

@@ -1,7 +1,7 @@
 -- `merge_rows::left::meet_path` meets its contract: no block has all of the path; or an equal left set came before, whose counters is told by its
 -- words; or the blocks are met one by one.
-use Rattle.merge_rows.proofs.SignedLaws.{signs-none, signs-then}
-use Rattle.merge_rows.proofs.PathSteps.{path-sums, path-blocks, path-nothing, path-hinted, hint-signs, counters-hinted, counters-there}
+use Rattle.merge_rows.proofs.SignedLaws.{signs_none, signs_then}
+use Rattle.merge_rows.proofs.PathSteps.{path_sums, path_blocks, path_nothing, path_hinted, hint_signs, counters_hinted, counters_there}
 use borrow.Author.Rules.{rules}
 use Rattle.merge_rows.proofs.left.meet_path.Statement.{statement}
 use Rattle.merge_rows.proofs.left.meet_path.Tie as tie
@@ -15,14 +15,14 @@ start-hint c = start c.before.before.before
 
 shared-requires : tie.Need-shared-requires
 shared-requires c κs =
-    path-sums c.before.before.before.before.before.before.before.before.before.before.requires.0
+    path_sums c.before.before.before.before.before.before.before.before.before.before.requires.0
 
 returns : tie.Need-returns
 returns c =
     let shared = c.before in
     let s = start shared in
     let there = s.pre.0 in
-    (path-nothing there s.args.pairs.now (path-blocks there shared.shared.result shared.shared.ensures) c.if1.true, signs-none there.ground.signed)
+    (path_nothing there s.args.pairs.now (path_blocks there shared.shared.result shared.shared.ensures) c.if1.true, signs_none there.ground.signed)
 
 repeat-left-requires : tie.Need-repeat-left-requires
 repeat-left-requires c κs =
@@ -30,7 +30,7 @@ repeat-left-requires c κs =
     let hinted = chosen.before.before.before.before in
     let s = start-hint hinted in
     let before = chosen.before.is-earlier.ensures chosen.if2.true in
-    counters-there s.pre.0 s.pre.1.0 hinted.swap-hint.ensures before.before s.pre.1.1.0.place
+    counters_there s.pre.0 s.pre.1.0 hinted.swap-hint.ensures before.before s.pre.1.1.0.place
     (s.pre.1.1.1.1.0 _ before.before before.is)
 
 returns-2 : tie.Need-returns-2
@@ -41,9 +41,9 @@ returns-2 c =
     let s = start-hint hinted in
     let before = chosen.before.is-earlier.ensures chosen.if2.true in (
       repeated.repeat-left.ensures _
-          (counters-hinted s.pre.0 s.pre.1.0 hinted.swap-hint.ensures before.before s.pre.1.1.0.place
+          (counters_hinted s.pre.0 s.pre.1.0 hinted.swap-hint.ensures before.before s.pre.1.1.0.place
           (s.pre.1.1.1.1.0 _ before.before before.is)),
-      hint-signs s.pre.0 s.pre.1.0 hinted.swap-hint.ensures,
+      hint_signs s.pre.0 s.pre.1.0 hinted.swap-hint.ensures,
     )
 
 meet-blocks-requires : tie.Need-meet-blocks-requires
@@ -51,14 +51,14 @@ meet-blocks-requires c κs =
     let hinted = c.before.before.before.before.before.before in
     let shared = hinted.before.before.before in
     let s = start shared in
-    (path-hinted s.pre.0 s.pre.1.0 hinted.swap-hint.ensures, (path-blocks s.pre.0 shared.shared.result shared.shared.ensures, s.pre.1.1.1.1.1))
+    (path_hinted s.pre.0 s.pre.1.0 hinted.swap-hint.ensures, (path_blocks s.pre.0 shared.shared.result shared.shared.ensures, s.pre.1.1.1.1.1))
 
 returns-3 : tie.Need-returns-3
 returns-3 c =
     let met = c.before.before.before.before in
     let hinted = met.before.before.before.before.before.before.before in
     let s = start-hint hinted in
-    (met.meet-blocks.ensures.0, signs-then (hint-signs s.pre.0 s.pre.1.0 hinted.swap-hint.ensures) met.meet-blocks.ensures.1)
+    (met.meet-blocks.ensures.0, signs_then (hint_signs s.pre.0 s.pre.1.0 hinted.swap-hint.ensures) met.meet-blocks.ensures.1)
 
 pub meet-path-spec : {M : Type 1} → statement M
 meet-path-spec =

@@ -2,7 +2,7 @@
 -- how many of its checks dropped and failed.
 use Prim.Native.Nat.{◌+◌, ◌*◌}
 use native.Mathlib.Omega.{arith}
-use Rattle.merge_rows.proofs.RepeatLaws.{counters-after, counters-dropped, counters-falses, counters-source, counters-drops, counters-fails, counters-again}
+use Rattle.merge_rows.proofs.RepeatLaws.{counters_after, counters_dropped, counters_falses, counters_source, counters_drops, counters_fails, counters_again}
 use borrow.Author.Rules.{rules}
 use Rattle.merge_rows.proofs.left.repeat_left.Statement.{statement}
 use Rattle.merge_rows.proofs.left.repeat_left.Tie as tie
@@ -13,39 +13,39 @@ cast-to c =
 
 sub-dropped : tie.Need-overflow-sub-dropped
 sub-dropped c =
-    omega (arith, counters-dropped c.before.before.before.before.before.before.requires.held)
+    omega (arith, counters_dropped c.before.before.before.before.before.before.requires.held)
 
 cast-dropped : tie.Need-overflow-cast-dropped
 cast-dropped c =
-    omega (arith, counters-drops c.before.before.before.before.before.before.requires)
+    omega (arith, counters_drops c.before.before.before.before.before.before.requires)
 
 sub-falses : tie.Need-overflow-sub-falses
 sub-falses c =
-    omega (arith, counters-falses c.before.before.before.before.before.before.before.before.requires.held)
+    omega (arith, counters_falses c.before.before.before.before.before.before.before.before.requires.held)
 
 cast-falses : tie.Need-overflow-cast-falses
 cast-falses c =
-    omega (arith, counters-fails c.before.before.before.before.before.before.before.before.requires)
+    omega (arith, counters_fails c.before.before.before.before.before.before.before.before.requires)
 
 sub-list-copy : tie.Need-overflow-sub-list-copy
 sub-list-copy c =
-    omega (arith, counters-after c.before.before.before.before.before.before.before.before.before.requires.held)
+    omega (arith, counters_after c.before.before.before.before.before.before.before.before.before.requires.held)
 
 list-copy-requires : tie.Need-list-copy-requires
 list-copy-requires c κs =
-    counters-source c.before.before.before.before.before.before.before.before.before.requires
+    counters_source c.before.before.before.before.before.before.before.before.before.requires
 
 add-t20 : tie.Need-overflow-add-t20
 add-t20 c =
-    omega (arith, counters-drops c.before.before.before.before.before.before.before.before.before.before.before.before.before.requires)
+    omega (arith, counters_drops c.before.before.before.before.before.before.before.before.before.before.before.before.before.requires)
 
 add-t16 : tie.Need-overflow-add-t16
 add-t16 c =
-    omega (arith, counters-fails c.before.before.before.before.before.before.before.before.before.before.before.before.before.before.requires)
+    omega (arith, counters_fails c.before.before.before.before.before.before.before.before.before.before.before.before.before.before.requires)
 
 returns : tie.Need-returns
 returns c =
-    counters-again c.before.before.before.before.list_copy.ensures
+    counters_again c.before.before.before.before.list_copy.ensures
 
 pub repeat-left-spec : {M : Type 1} → statement M
 repeat-left-spec =

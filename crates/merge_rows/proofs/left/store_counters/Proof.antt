@@ -6,7 +6,7 @@ use native.Mathlib.Omega.{arith}
 use borrow.Author.Rules.{rules}
 use lib.ListN.{length, set, length-set}
 use lib.Seq.{get_or-set_same, get_or-set_other}
-use Rattle.lists.proofs.Slices.{changed-none, changed-store}
+use Rattle.lists.proofs.Slices.{changed_none, changed-store}
 use Rattle.merge_rows.specs.declared.Met.{Met}
 use Rattle.merge_rows.specs.Meeting.{CountersStored}
 use Rattle.merge_rows.proofs.left.store_counters.Statement.{statement}
@@ -26,7 +26,7 @@ stored w counters k m room =
       changed =
           changed-store (i + 2) m.falses (omega arith) (omega arith)
           (changed-store (i + 1) m.dropped (omega arith) (omega arith)
-          (changed-store i m.at (omega arith) (omega arith) (changed-none i (i + 3) w)));
+          (changed-store i m.at (omega arith) (omega arith) (changed_none i (i + 3) w)));
       at =
           get_or-set_other two (i + 2) i m.falses 0 (λ e. omega arith)
           ∙ get_or-set_other one (i + 1) i m.dropped 0 (λ e. omega arith)

@@ -8,28 +8,28 @@ use native.Mathlib.Omega.{arith}
 use lib.ListN.{get_or, take, drop, set, length-set, drop_of_length-le}
 use lib.Seq.{drop-cons, take-set-le}
 use Rattle.lists.specs.Writing.{Put}
-use Rattle.lists.proofs.Ranges.{length-table, getD-table}
+use Rattle.lists.proofs.Ranges.{length_table, getD-table}
 use Rattle.lists.proofs.Slices.{frame_at}
-use Rattle.lists.proofs.Writing.{Writing, writing_start, writing_step, writing-end}
-use Rattle.merge_rows.specs.ShortLists.{pairsWith, rightPlaces, CopyRoom}
-use Rattle.merge_rows.proofs.ShortWriting.{put-pair, length_pairs}
+use Rattle.lists.proofs.Writing.{Writing, writing_start, writing_step, writing_end}
+use Rattle.merge_rows.specs.ShortLists.{pairs_with, right_places, CopyRoom}
+use Rattle.merge_rows.proofs.ShortWriting.{put_pair, length_pairs}
 use Rattle.merge_rows.proofs.listed.put_copy.Statement.{statement}
 use Rattle.merge_rows.proofs.listed.put_copy.Tie as tie
 
 record CopyLeft (was : List ℕ) (from n k at : ℕ) (is : List ℕ) (i : ℕ) : Type 0 where
-  writing : Writing was at (pairsWith k (rightPlaces was from n)) is (at + 2 * i) (pairsWith k (drop i (rightPlaces was from n)))
+  writing : Writing was at (pairs_with k (right_places was from n)) is (at + 2 * i) (pairs_with k (drop i (right_places was from n)))
   low : take at is ≡ take at was
   within : i ≤ n
 
 copy_start : {from n k at : ℕ} {was : List ℕ} → CopyRoom from n k at was → CopyLeft was from n k at was 0
 copy_start {from} {n} {k} {at} {was} room =
     let here : at ≡ at + 2 * 0 = omega arith in
-    let long = length_pairs k (rightPlaces was from n) in
-    let table = length-table (λ i. get_or was (from + 2 * i + 1) 0) n in
+    let long = length_pairs k (right_places was from n) in
+    let table = length_table (λ i. get_or was (from + 2 * i + 1) 0) n in
     record {
       writing =
-          subst (λ (e : ℕ). Writing was at (pairsWith k (rightPlaces was from n)) was e (pairsWith k (rightPlaces was from n))) here
-          (writing_start was at (pairsWith k (rightPlaces was from n)) (omega (arith, room.room)));
+          subst (λ (e : ℕ). Writing was at (pairs_with k (right_places was from n)) was e (pairs_with k (right_places was from n))) here
+          (writing_start was at (pairs_with k (right_places was from n)) (omega (arith, room.room)));
       low = refl;
       within = omega arith;
     }
@@ -40,40 +40,40 @@ module _ {was : List ℕ} {from n k at : ℕ} {is : List ℕ} {i : ℕ} (room : 
     abbrev right : ℕ
     right = get_or is (from + 2 * i + 1) 0
 
-    read : get_or (rightPlaces was from n) i 0 ≡ right
+    read : get_or (right_places was from n) i 0 ≡ right
     read =
         getD-table (λ j. get_or was (from + 2 * j + 1) 0) n i 0 more
         ∙ sym (frame_at 0 (from + 2 * i + 1) at was is (omega (arith, room.source.below)) left.low)
 
-    next : pairsWith k (drop i (rightPlaces was from n)) ≡ (k ∷ right ∷ []) ++ pairsWith k (drop (i + 1) (rightPlaces was from n))
-    unfolding pairsWith
+    next : pairs_with k (drop i (right_places was from n)) ≡ (k ∷ right ∷ []) ++ pairs_with k (drop (i + 1) (right_places was from n))
+    unfolding pairs_with
     next =
-        let table = length-table (λ j. get_or was (from + 2 * j + 1) 0) n in
+        let table = length_table (λ j. get_or was (from + 2 * j + 1) 0) n in
         rw (add-one i)
-        (ap (pairsWith k) (drop-cons (rightPlaces was from n) i 0 (omega arith))
-        ∙ ap (λ (s : ℕ). k ∷ s ∷ pairsWith k (drop (suc i) (rightPlaces was from n))) read)
+        (ap (pairs_with k) (drop-cons (right_places was from n) i 0 (omega arith))
+        ∙ ap (λ (s : ℕ). k ∷ s ∷ pairs_with k (drop (suc i) (right_places was from n))) read)
 
     copy_step : CopyLeft was from n k at (set (set is (at + 2 * i) k) (at + 2 * i + 1) right) (i + 1)
     copy_step =
         let end : at + 2 * i + 2 ≡ at + 2 * (i + 1) = omega arith in
         record {
           writing =
-              subst (λ (e : ℕ). Writing was at (pairsWith k (rightPlaces was from n)) (set (set is (at + 2 * i) k) (at + 2 * i + 1) right) e
-              (pairsWith k (drop (i + 1) (rightPlaces was from n)))) end
-              (writing_step left.writing next (put-pair is (at + 2 * i) k right));
+              subst (λ (e : ℕ). Writing was at (pairs_with k (right_places was from n)) (set (set is (at + 2 * i) k) (at + 2 * i + 1) right) e
+              (pairs_with k (drop (i + 1) (right_places was from n)))) end
+              (writing_step left.writing next (put_pair is (at + 2 * i) k right));
           low =
               take-set-le at (set is (at + 2 * i) k) (at + 2 * i + 1) right (omega arith)
               ∙ take-set-le at is (at + 2 * i) k (omega arith) ∙ left.low;
           within = omega arith;
         }
 
-  copy-end : n ≤ i → Put was at (pairsWith k (rightPlaces was from n)) (at + 2 * n) is
-  unfolding pairsWith
+  copy-end : n ≤ i → Put was at (pairs_with k (right_places was from n)) (at + 2 * n) is
+  unfolding pairs_with
   copy-end past =
-      let table = length-table (λ j. get_or was (from + 2 * j + 1) 0) n in
+      let table = length_table (λ j. get_or was (from + 2 * j + 1) 0) n in
       let here : at + 2 * i ≡ at + 2 * n = omega (arith, left.within) in
-      subst (λ (e : ℕ). Put was at (pairsWith k (rightPlaces was from n)) e is) here
-      (writing-end left.writing (ap (pairsWith k) (drop_of_length-le (rightPlaces was from n) {i = i} (omega arith))))
+      subst (λ (e : ℕ). Put was at (pairs_with k (right_places was from n)) e is) here
+      (writing_end left.writing (ap (pairs_with k) (drop_of_length-le (right_places was from n) {i = i} (omega arith))))
 
 abbrev invariant-loop : tie.invariant-loop
 invariant-loop pairs₀ from n k at i₀ pairs i = CopyLeft pairs₀ from n k at pairs i

@@ -8,17 +8,17 @@ use lib.Bits.{bit_and, and_le_l}
 use lib.Count.{count_trailing_zeros, trailing_le}
 use lib.ListN.{length, set, length-set}
 use Rattle.lists.specs.Writing.{Put}
-use Rattle.lists.proofs.Writing.{Writing, writing_start, writing-room, writing_step, writing-end}
-use Rattle.bit_sets.specs.BitSets.{digitsFrom}
-use Rattle.bit_sets.proofs.Digits.{digits-none}
-use Rattle.bit_sets.proofs.Lowest.{digits-lowest}
-use Rattle.merge_rows.specs.ShortLists.{pairsWith}
-use Rattle.merge_rows.proofs.ShortWriting.{put-pair}
+use Rattle.lists.proofs.Writing.{Writing, writing_start, writing_room, writing_step, writing_end}
+use Rattle.bit_sets.specs.BitSets.{digits_from}
+use Rattle.bit_sets.proofs.Digits.{digits_none}
+use Rattle.bit_sets.proofs.Lowest.{digits_lowest}
+use Rattle.merge_rows.specs.ShortLists.{pairs_with}
+use Rattle.merge_rows.proofs.ShortWriting.{put_pair}
 use Rattle.merge_rows.proofs.listed.put_pairs.Statement.{statement}
 use Rattle.merge_rows.proofs.listed.put_pairs.Tie as tie
 
 record PairsLeft (was : List ℕ) (at word k base : ℕ) (is : List ℕ) (rest end : ℕ) : Type 0 where
-  writing : Writing was at (pairsWith k (digitsFrom 64 base word)) is end (pairsWith k (digitsFrom 64 base rest))
+  writing : Writing was at (pairs_with k (digits_from 64 base word)) is end (pairs_with k (digits_from 64 base rest))
   small : rest < 2 ^ 64
 
 module _ {was : List ℕ} {at word k base : ℕ} {is : List ℕ} {rest end : ℕ} (left : PairsLeft was at word k base is rest end) where
@@ -29,41 +29,41 @@ module _ {was : List ℕ} {at word k base : ℕ} {is : List ℕ} {rest end : ℕ
     abbrev fewer : ℕ
     fewer = bit_and rest (rest - 1)
 
-    lowest : digitsFrom 64 base rest ≡ right ∷ digitsFrom 64 base fewer
-    lowest = digits-lowest 64 64 base rest (omega arith) (omega (arith, some)) left.small
+    lowest : digits_from 64 base rest ≡ right ∷ digits_from 64 base fewer
+    lowest = digits_lowest 64 64 base rest (omega arith) (omega (arith, some)) left.small
 
-    next : pairsWith k (digitsFrom 64 base rest) ≡ (k ∷ right ∷ []) ++ pairsWith k (digitsFrom 64 base fewer)
-    unfolding pairsWith
-    next = ap (pairsWith k) lowest
+    next : pairs_with k (digits_from 64 base rest) ≡ (k ∷ right ∷ []) ++ pairs_with k (digits_from 64 base fewer)
+    unfolding pairs_with
+    next = ap (pairs_with k) lowest
 
     pair-room : end + 2 ≤ length is
-    pair-room = writing-room left.writing (k ∷ right ∷ []) (pairsWith k (digitsFrom 64 base fewer)) next
+    pair-room = writing_room left.writing (k ∷ right ∷ []) (pairs_with k (digits_from 64 base fewer)) next
 
     pair_step : PairsLeft was at word k base (set (set is end k) (end + 1) right) fewer (end + 2)
     pair_step =
         record {
-          writing = writing_step left.writing next (put-pair is end k right);
+          writing = writing_step left.writing next (put_pair is end k right);
           small = omega (arith, and_le_l rest (rest - 1), left.small);
         }
 
-    pair-fewer : length (digitsFrom 64 base fewer) < length (digitsFrom 64 base rest)
+    pair-fewer : length (digits_from 64 base fewer) < length (digits_from 64 base rest)
     pair-fewer = omega (arith, ap length lowest)
 
-  pairs_end : rest ≡ 0 → Put was at (pairsWith k (digitsFrom 64 base word)) end is
-  unfolding pairsWith
-  pairs_end none = writing-end left.writing (ap (λ (r : ℕ). pairsWith k (digitsFrom 64 base r)) none ∙ ap (pairsWith k) (digits-none 64 base))
+  pairs_end : rest ≡ 0 → Put was at (pairs_with k (digits_from 64 base word)) end is
+  unfolding pairs_with
+  pairs_end none = writing_end left.writing (ap (λ (r : ℕ). pairs_with k (digits_from 64 base r)) none ∙ ap (pairs_with k) (digits_none 64 base))
 
 abbrev invariant-loop : tie.invariant-loop
 invariant-loop word k base pairs₀ at rest₀ end₀ pairs rest end = PairsLeft pairs₀ at word k base pairs rest end
 
 abbrev decreases-loop : tie.decreases-loop
-decreases-loop word k base pairs₀ at rest₀ end₀ pairs rest end = length (digitsFrom 64 base rest)
+decreases-loop word k base pairs₀ at rest₀ end₀ pairs rest end = length (digits_from 64 base rest)
 
 loop-holds : tie.Need-loop-init invariant-loop decreases-loop
 loop-holds c =
     let a = c.args in
     record {
-      writing = writing_start a.pairs.now a.at (pairsWith a.k (digitsFrom 64 a.base a.word)) c.requires.room;
+      writing = writing_start a.pairs.now a.at (pairs_with a.k (digits_from 64 a.base a.word)) c.requires.room;
       small = c.ranges.word.fits;
     }
 

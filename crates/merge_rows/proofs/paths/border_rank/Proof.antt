@@ -8,12 +8,12 @@ use borrow.Author.Tests.{lt-ltb}
 use lib.Dec.{ltb}
 use lib.ListN.{length, get_or, replicate}
 use Rattle.lists.specs.Lists.{count, upto}
-use Rattle.lists.proofs.Counting.{count-agree, count-true}
+use Rattle.lists.proofs.Counting.{count_agree, count-true}
 use Rattle.bit_sets.specs.BitSets.{member}
 use Rattle.bit_sets.proofs.Members.{no_member}
 use Rattle.merge_rows.specs.FirstRanks.{Ranked, RanksMarked}
-use Rattle.merge_rows.proofs.RankCounts.{rank-low}
-use Rattle.merge_rows.proofs.PathLaws.{marked-below, nth-border}
+use Rattle.merge_rows.proofs.RankCounts.{rank_low}
+use Rattle.merge_rows.proofs.PathLaws.{marked_below, nth_border}
 use borrow.Author.Rules.{rules}
 use Rattle.merge_rows.proofs.paths.border_rank.Statement.{statement}
 use Rattle.merge_rows.proofs.paths.border_rank.Tie as tie
@@ -22,10 +22,10 @@ use Rattle.merge_rows.proofs.paths.border_rank.Tie as tie
 marks-all : {ranks set is : List ℕ} (n : ℕ) → Ranked ranks set → RanksMarked ranks set (replicate n 0) is → length ranks ≤ 64 * length is
     → count (member is) (upto (64 * length is)) ≡ length set
 marks-all {ranks} {set} {is} n ranked marked wide =
-    marked-below ranked marked (no_member n) (64 * length is)
-    ∙ count-agree (λ x. ltb (get_or ranks x 0) (64 * length is)) (λ x. true) set
+    marked_below ranked marked (no_member n) (64 * length is)
+    ∙ count_agree (λ x. ltb (get_or ranks x 0) (64 * length is)) (λ x. true) set
     (λ x there.
-    let low = rank-low (length ranks) ranks ranked.permutation set ranked.good x there in
+    let low = rank_low (length ranks) ranks ranked.permutation set ranked.good x there in
     lt-ltb (get_or ranks x 0) (64 * length is) (omega arith))
     ∙ count-true set
 
@@ -42,7 +42,7 @@ nth-member-requires c κs =
 returns : tie.Need-returns
 returns c =
     let start = c.before.before.before.before.before.before.before in
-    nth-border start.requires.0 c.before.before.before.mark-ranks.ensures (no_member 64) c.nth-member.ensures
+    nth_border start.requires.0 c.before.before.before.mark-ranks.ensures (no_member 64) c.nth-member.ensures
 
 pub border-rank-spec : {M : Type 1} → statement M
 border-rank-spec =

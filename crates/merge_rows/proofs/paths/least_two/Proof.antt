@@ -11,8 +11,8 @@ use lib.Seq.{take_all}
 use Rattle.lists.specs.Lists.{one, count}
 use Rattle.lists.proofs.Bools.{by-test, same_test}
 use Rattle.lists.proofs.Counting.{count-take}
-use Rattle.merge_rows.specs.FirstRanks.{key_of, keysBelow, FewerBelow, LeastTwo}
-use Rattle.merge_rows.proofs.RankCounts.{RankAt, rank-at}
+use Rattle.merge_rows.specs.FirstRanks.{key_of, keys_below, FewerBelow, LeastTwo}
+use Rattle.merge_rows.proofs.RankCounts.{RankAt, rank_at}
 use Rattle.merge_rows.proofs.paths.least_two.Statement.{statement}
 use Rattle.merge_rows.proofs.paths.least_two.Tie as tie
 
@@ -81,14 +81,14 @@ least_step {ranks} {set} {first} {second} {e} so_far more {high} {low} {lowest} 
           record {
             upto = λ b small.
                 ap (leb b) is-lowest
-                ∙ lower-step b first key (keysBelow ranks (take e set) b) (so_far.one_below.upto b small)
+                ∙ lower-step b first key (keys_below ranks (take e set) b) (so_far.one_below.upto b small)
                 ∙ ap (λ (n : ℕ). ltb n 1) (sym (count-take (λ x. ltb (key_of ranks x) b) 0 set e more));
           };
       two-below =
           record {
             upto = λ b small.
                 ap (leb b) (is-low ∙ ap (min second) is-high)
-                ∙ second-step b first second key (keysBelow ranks (take e set) b) (so_far.one_below.upto b small)
+                ∙ second-step b first second key (keys_below ranks (take e set) b) (so_far.one_below.upto b small)
                 (so_far.two-below.upto b small)
                 ∙ ap (λ (n : ℕ). ltb n 2) (sym (count-take (λ x. ltb (key_of ranks x) b) 0 set e more));
           };
@@ -113,7 +113,7 @@ decreases-loop set ranks first₀ second₀ e₀ e-end first second e = length s
 -- the item and its rank
 here : (c : tie.In-loop invariant-loop decreases-loop)
     → RankAt c.before.before.before.before.args.ranks.now c.before.before.before.before.args.set.now c.before.loop.e
-here c = rank-at c.before.before.before.before.requires c.before.loop.e c.loop-test.true
+here c = rank_at c.before.before.before.before.requires c.before.loop.e c.loop-test.true
 
 loop-holds : tie.Need-loop-init invariant-loop decreases-loop
 loop-holds c = let a = c.before.before.args in least_start a.ranks.now a.set.now

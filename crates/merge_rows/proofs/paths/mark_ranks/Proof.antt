@@ -10,10 +10,10 @@ use lib.Dec.{eqb}
 use lib.ListN.{length, get_or, take}
 use lib.Seq.{take_all, take-suc}
 use Rattle.lists.specs.Lists.{memb}
-use Rattle.lists.proofs.Membership.{memb-append}
+use Rattle.lists.proofs.Membership.{memb_append}
 use Rattle.bit_sets.specs.BitSets.{member, Inserted}
 use Rattle.merge_rows.specs.FirstRanks.{RanksMarked}
-use Rattle.merge_rows.proofs.RankCounts.{RankAt, rank-at}
+use Rattle.merge_rows.proofs.RankCounts.{RankAt, rank_at}
 use Rattle.merge_rows.proofs.paths.mark_ranks.Statement.{statement}
 use Rattle.merge_rows.proofs.paths.mark_ranks.Tie as tie
 
@@ -45,7 +45,7 @@ marked_step {ranks} {set} {was} {is} {e} so_far more {next} one =
                 one.holds r ∙ ap (λ (b : Bool). eqb r rank || b) (so_far.marked.holds r)
                 ∙ turn (eqb r rank) (memb r before) (member was r)
                 ∙ ap (λ (b : Bool). b || member was r)
-                (sym (memb-append r before (rank ∷ []))
+                (sym (memb_append r before (rank ∷ []))
                 ∙ ap (memb r)
                 (sym (map-append (λ x. get_or ranks x 0) (take e set) (get_or set e 0 ∷ []))
                 ∙ ap (map (λ x. get_or ranks x 0)) (sym (take-suc set e 0 more) ∙ ap (λ (n : ℕ). take n set) (sym (add-one e)))));
@@ -67,7 +67,7 @@ decreases-loop words₀ set ranks e₀ e-end words e = length set - e
 here : (c : tie.In-loop invariant-loop decreases-loop)
     → RankAt c.before.before.before.before.before.args.ranks.now c.before.before.before.before.before.args.set.now
     c.before.loop.e
-here c = rank-at c.before.before.before.before.before.requires.0 c.before.loop.e c.loop-test.true
+here c = rank_at c.before.before.before.before.before.requires.0 c.before.loop.e c.loop-test.true
 
 loop-holds : tie.Need-loop-init invariant-loop decreases-loop
 loop-holds c = let a = c.before.before.before.args in marked_start a.ranks.now a.set.now a.words.now

@@ -6,8 +6,8 @@ use mathlib.Core.List.{List, ◌++◌}
 use native.Mathlib.Omega.{arith}
 use lib.ListN.{length, get_or}
 use Rattle.lists.specs.Lists.{count, range, upto}
-use Rattle.lists.proofs.Counting.{count-append}
-use Rattle.lists.proofs.Ranges.{range-append}
+use Rattle.lists.proofs.Counting.{count_append}
+use Rattle.lists.proofs.Ranges.{range_append}
 use Rattle.bit_sets.specs.BitSets.{bit_at, member}
 use Rattle.bit_sets.proofs.Counted.{count_word}
 use Rattle.merge_rows.specs.FirstRanks.{NthDigit, NthMember}
@@ -28,8 +28,8 @@ count-upto-digit : (words : List ℕ) (w d : ℕ) → d ≤ 64
     → count (member words) (upto (64 * w + d)) ≡ count (member words) (upto (64 * w)) + count (bit_at (get_or words w 0)) (upto d)
 count-upto-digit words w d small =
     let from : 0 + 64 * w ≡ 64 * w = omega arith in
-    ap (count (member words)) (range-append 0 (64 * w) d ∙ ap (λ (k : ℕ). upto (64 * w) ++ range k d) from)
-    ∙ count-append (member words) (upto (64 * w)) (range (64 * w) d)
+    ap (count (member words)) (range_append 0 (64 * w) d ∙ ap (λ (k : ℕ). upto (64 * w) ++ range k d) from)
+    ∙ count_append (member words) (upto (64 * w)) (range (64 * w) d)
     ∙ ap (λ (k : ℕ). count (member words) (upto (64 * w)) + k) (count_word words w d small)
 
 module _ {words : List ℕ} {n left w : ℕ} (m : MembersLeft words n left w) where

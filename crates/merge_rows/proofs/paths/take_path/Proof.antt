@@ -9,18 +9,18 @@ use lib.Dec.{eqb, leb}
 use lib.ListN.{length, get_or}
 use Rattle.lists.specs.Lists.{keep, memb}
 use Rattle.lists.proofs.Bools.{and_both}
-use Rattle.lists.proofs.Counting.{count-bound}
-use Rattle.lists.proofs.Filtering.{keep-agree, memb-keep, length-keep}
+use Rattle.lists.proofs.Counting.{count_bound}
+use Rattle.lists.proofs.Filtering.{keep_agree, memb-keep, length-keep}
 use Rattle.lists.proofs.Membership.{memb-some}
 use Rattle.lists.proofs.Throughout.{any-elim}
-use Rattle.merge_rows.specs.FirstRanks.{on_path, pathOf, PathRoom, PathTaken, Border, UpToTaken}
+use Rattle.merge_rows.specs.FirstRanks.{on_path, path_of, PathRoom, PathTaken, Border, UpToTaken}
 use borrow.Author.Rules.{rules}
 use Rattle.merge_rows.proofs.paths.take_path.Statement.{statement}
 use Rattle.merge_rows.proofs.paths.take_path.Tie as tie
 
 path-taken : {limit : ℕ} {ranks set was is : List ℕ} {last n : ℕ} → PathRoom limit ranks set was → Border limit ranks set last
     → UpToTaken ranks set last is n → length is ≡ length was → PathTaken limit ranks set is n
-unfolding pathOf
+unfolding path_of
 path-taken {limit} {ranks} {set} {was} {is} {last} {n} room border taken same =
     record {
       some =
@@ -32,10 +32,10 @@ path-taken {limit} {ranks} {set} {was} {is} {last} {n} room border taken same =
           let kept = keep (λ y. leb (get_or ranks y 0) last) set in
           let in-it : memb x kept ≡ true = memb-keep (λ y. leb (get_or ranks y 0) last) set x ∙ and_both there up in
           omega (arith, memb-some x kept in-it, length-keep (λ y. leb (get_or ranks y 0) last) set, taken.size));
-      within = omega (arith, taken.size, count-bound (λ x. leb (get_or ranks x 0) last) set, room.room);
+      within = omega (arith, taken.size, count_bound (λ x. leb (get_or ranks x 0) last) set, room.room);
       members = λ x.
           ap (memb x)
-          (taken.is ∙ keep-agree (λ y. leb (get_or ranks y 0) last) (on_path limit ranks set) set border.upto);
+          (taken.is ∙ keep_agree (λ y. leb (get_or ranks y 0) last) (on_path limit ranks set) set border.upto);
     }
 
 returns-2 : tie.Need-returns-2

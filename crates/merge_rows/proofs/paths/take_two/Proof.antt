@@ -5,10 +5,10 @@ use mathlib.Core.List.{List, [], ◌∷◌}
 use native.Mathlib.Omega.{arith}
 use lib.ListN.{length, take, set, length-set}
 use Rattle.lists.specs.Lists.{memb}
-use Rattle.sets.specs.Limits.{halfWords}
+use Rattle.sets.specs.Limits.{half_words}
 use Rattle.merge_rows.specs.declared.paths.Two.{Two}
-use Rattle.merge_rows.specs.FirstRanks.{pathOf, PathRoom, PathTaken, LeastTwo}
-use Rattle.merge_rows.proofs.LeastKeys.{one-path, two-path}
+use Rattle.merge_rows.specs.FirstRanks.{path_of, PathRoom, PathTaken, LeastTwo}
+use Rattle.merge_rows.proofs.LeastKeys.{one_path, two_path}
 use borrow.Author.Rules.{rules}
 use Rattle.merge_rows.proofs.paths.take_two.Statement.{statement}
 use Rattle.merge_rows.proofs.paths.take_two.Tie as tie
@@ -24,18 +24,18 @@ front-two (x ∷ []) a b more = absurd (omega arith)
 front-two (x ∷ y ∷ l) a b more = refl
 
 abbrev after : Two → List ℕ → List ℕ
-after r path = set (set path 0 (r.first % halfWords)) 1 (r.second % halfWords)
+after r path = set (set path 0 (r.first % half_words)) 1 (r.second % half_words)
 
 module _ {ranks items path : List ℕ} (r : Two) (least : LeastTwo ranks items r) where
   two-members : (limit : ℕ) → PathRoom limit ranks items path → limit ≤ 2
-      → (x : ℕ) → memb x (take limit (after r path)) ≡ memb x (pathOf limit ranks items)
+      → (x : ℕ) → memb x (take limit (after r path)) ≡ memb x (path_of limit ranks items)
   two-members zero room few x = absurd (omega (arith, room.some))
   two-members (suc zero) room few x =
-      ap (memb x) (front-one path (r.first % halfWords) (r.second % halfWords) (omega (arith, room.longer, room.room)))
-      ∙ one-path room.ranked r least room.longer x
+      ap (memb x) (front-one path (r.first % half_words) (r.second % half_words) (omega (arith, room.longer, room.room)))
+      ∙ one_path room.ranked r least room.longer x
   two-members (suc (suc zero)) room few x =
-      ap (memb x) (front-two path (r.first % halfWords) (r.second % halfWords) (omega (arith, room.longer, room.room)))
-      ∙ two-path room.ranked r least room.longer x
+      ap (memb x) (front-two path (r.first % half_words) (r.second % half_words) (omega (arith, room.longer, room.room)))
+      ∙ two_path room.ranked r least room.longer x
   two-members (suc (suc (suc limit))) room few x = absurd (omega arith)
 
   two-taken : (limit : ℕ) → PathRoom limit ranks items path → limit ≤ 2 → PathTaken limit ranks items (after r path) limit
@@ -47,8 +47,8 @@ module _ {ranks items path : List ℕ} (r : Two) (least : LeastTwo ranks items r
               arith,
               room.longer,
               room.room,
-              length-set (set path 0 (r.first % halfWords)) 1 (r.second % halfWords),
-              length-set path 0 (r.first % halfWords),
+              length-set (set path 0 (r.first % half_words)) 1 (r.second % half_words),
+              length-set path 0 (r.first % half_words),
             );
         members = two-members limit room few;
       }

@@ -11,9 +11,9 @@ use lib.Dec.{leb}
 use lib.ListN.{length, get_or, take, drop, set, length-set, drop_of_length-le}
 use lib.Seq.{drop-cons, take-set-le, take-suc-set}
 use Rattle.lists.specs.Lists.{one, onto, count, keep}
-use Rattle.lists.proofs.Counting.{one-bound, count-drop, count-drop-end}
+use Rattle.lists.proofs.Counting.{one_bound, count-drop, count-drop_end}
 use Rattle.merge_rows.specs.FirstRanks.{UpToTaken}
-use Rattle.merge_rows.proofs.RankCounts.{RankAt, rank-at}
+use Rattle.merge_rows.proofs.RankCounts.{RankAt, rank_at}
 use Rattle.merge_rows.proofs.paths.take_up_to.Statement.{statement}
 use Rattle.merge_rows.proofs.paths.take_up_to.Tie as tie
 
@@ -50,7 +50,7 @@ module _ {ranks items : List ℕ} {last : ℕ} {was is : List ℕ} {n e : ℕ} (
             ∙ sym (ap (keep (passes ranks last)) (drop-cons items e 0 more)))
             ∙ t.taken;
         total = omega (arith, t.total, number, count-drop (passes ranks last) 0 items e more);
-        low = omega (arith, t.low, number, one-bound (passes ranks last x));
+        low = omega (arith, t.low, number, one_bound (passes ranks last x));
         within = omega arith;
         same = length-set is n x ∙ t.same;
       }
@@ -59,7 +59,7 @@ module _ {ranks items : List ℕ} {last : ℕ} {was is : List ℕ} {n e : ℕ} (
   unfolding keep
   taking-end past =
       record {
-        size = omega (arith, t.total, count-drop-end (passes ranks last) items e past);
+        size = omega (arith, t.total, count-drop_end (passes ranks last) items e past);
         is =
             sym (append-nil (take n is))
             ∙ ap (λ (l : List ℕ). take n is ++ keep (passes ranks last) l) (sym (drop_of_length-le items {i = e} past))
@@ -80,7 +80,7 @@ decreases-loop set ranks last path₀ n₀ e₀ e-end path n e = length set - e
 here : (c : tie.In-loop invariant-loop decreases-loop)
     → RankAt c.before.before.before.before.before.args.ranks.now c.before.before.before.before.before.args.set.now
     c.before.loop.e
-here c = rank-at c.before.before.before.before.before.requires.0 c.before.loop.e c.loop-test.true
+here c = rank_at c.before.before.before.before.before.requires.0 c.before.loop.e c.loop-test.true
 
 -- the path has room for it
 room-here : (c : tie.In-loop invariant-loop decreases-loop) → c.before.loop.n < length c.before.loop.path

@@ -8,9 +8,9 @@ use borrow.Author.Tests.{ltb-true}
 use lib.Dec.{ltb}
 use lib.ListN.{length, take, get_or}
 use lib.Seq.{take_all}
-use Rattle.lists.proofs.Throughout.{all-at}
+use Rattle.lists.proofs.Throughout.{all_at}
 use Rattle.merge_rows.specs.Filled.{Added}
-use Rattle.merge_rows.proofs.FillSteps.{row_small, added-start, added-step}
+use Rattle.merge_rows.proofs.FillSteps.{row_small, added_start, added_step}
 use Rattle.merge_rows.proofs.rows.add_right.Statement.{statement}
 use Rattle.merge_rows.proofs.rows.add_right.Tie as tie
 
@@ -33,13 +33,13 @@ item-low c =
     let s = start c.before in
     let a = s.args in
     ltb-true (get_or a.set.now c.before.loop.e 0) a.t
-    (all-at (λ x. ltb x a.t) 0 a.set.now s.pre.items c.before.loop.e (omega arith))
+    (all_at (λ x. ltb x a.t) 0 a.set.now s.pre.items c.before.loop.e (omega arith))
 
 mul-row : tie.Need-overflow-mul-row invariant-loop decreases-loop
 mul-row c = omega (arith, row_fits c.before.before)
 
 loop-holds : tie.Need-loop-init invariant-loop decreases-loop
-loop-holds c = (refl, omega arith, added-start)
+loop-holds c = (refl, omega arith, added_start)
 
 cast-x : tie.Need-overflow-cast-x invariant-loop decreases-loop
 cast-x c = omega (arith, c.shared-slice-known2.given c.before.before.loop.e)
@@ -72,7 +72,7 @@ loop-again c =
     let cell = sum.before.before.before.before in
     let at-loop = cell.before.before.before.before in
     let l = at-loop.loop in
-    (refl, omega arith, added-step l.e (start at-loop).args.set.now (omega arith) l.invariant.2 cell.set-digit.ensures sum.set-digit2.ensures)
+    (refl, omega arith, added_step l.e (start at-loop).args.set.now (omega arith) l.invariant.2 cell.set-digit.ensures sum.set-digit2.ensures)
 
 same_length : tie.Need-same-length invariant-loop decreases-loop
 same_length c = c.before.loop.invariant.2.size

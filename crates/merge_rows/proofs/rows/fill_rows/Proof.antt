@@ -5,10 +5,10 @@ use mathlib.Core.Path.{◌≡◌, refl, ◌∙◌}
 use mathlib.Core.List.{[]}
 use native.Mathlib.Omega.{arith}
 use lib.ListN.{length, get_or}
-use Rattle.sets.specs.Collections.{setsOf}
+use Rattle.sets.specs.Collections.{sets_of}
 use Rattle.side_index.proofs.inverted.Collected.{SetAt}
-use Rattle.merge_rows.specs.Filled.{rowWords, BlockRoom}
-use Rattle.merge_rows.proofs.FillSteps.{RowsFilling, rows_none, set_next, block_room, filling_step, filling-end}
+use Rattle.merge_rows.specs.Filled.{row_words, BlockRoom}
+use Rattle.merge_rows.proofs.FillSteps.{RowsFilling, rows_none, set_next, block_room, filling_step, filling_end}
 use Rattle.merge_rows.proofs.rows.fill_rows.Statement.{statement}
 use Rattle.merge_rows.proofs.rows.fill_rows.Tie as tie
 
@@ -24,7 +24,7 @@ entry c = c.before.before.before.before.before.before.before.before
 
 -- after the sums are cleared there is still room
 room-there : (c : tie.At-loop invariant-loop decreases-loop)
-    → 2 * rowWords (entry c).args.t (length (entry c).args.ends.now) ≤ length c.before.before.before.clear.new.0
+    → 2 * row_words (entry c).args.t (length (entry c).args.ends.now) ≤ length c.before.before.before.clear.new.0
 room-there c = omega (arith, (entry c).requires.room, c.before.before.before.clear.ensures.changed.size)
 
 -- the right set at hand, and room for its block
@@ -32,7 +32,7 @@ set_here : (c : tie.In-loop invariant-loop decreases-loop)
     → let at-loop = c.before in
     let a = (entry at-loop).args in
     let l = at-loop.loop in
-    SetAt a.t l.s l.start (get_or a.ends.now l.s 0) (get_or (setsOf a.ends.now a.items.now) l.s []) a.items.now
+    SetAt a.t l.s l.start (get_or a.ends.now l.s 0) (get_or (sets_of a.ends.now a.items.now) l.s []) a.items.now
 set_here c =
     let at-loop = c.before in
     let pre = (entry at-loop).requires in
@@ -104,7 +104,7 @@ same_length c =
     let at-loop = c.before in at-loop.loop.invariant.1.size ∙ at-loop.before.before.before.clear.ensures.changed.size
 
 returns : tie.Need-returns invariant-loop decreases-loop
-returns c = filling-end c.before.loop.invariant.1 (omega arith)
+returns c = filling_end c.before.loop.invariant.1 (omega arith)
 
 pub fill-rows-spec : {M : Type 1} → statement M
 fill-rows-spec =

@@ -11,8 +11,8 @@ use lib.ListN.{length, get_or, drop, drop_of_length-le}
 use lib.Seq.{drop-cons}
 use Rattle.lists.specs.Lists.{all}
 use Rattle.bit_sets.specs.BitSets.{bit_at}
-use Rattle.bit_sets.proofs.Digits.{bit-of-zero}
-use Rattle.bit_sets.proofs.Lowest.{bit-and}
+use Rattle.bit_sets.proofs.Digits.{bit_of_zero}
+use Rattle.bit_sets.proofs.Lowest.{bit_and_lem}
 use Rattle.signatures.specs.Signing.{double}
 use Rattle.merge_rows.specs.Words.{digit}
 use Rattle.merge_rows.proofs.shared.shared.Statement.{statement}
@@ -29,7 +29,7 @@ module _ (w : List ℕ) (from : ℕ) (list : List ℕ) (e rest j : ℕ) where
   step below =
       let here = digit w (from + get_or list e 0) j in
       let later = all (λ x. digit w (from + x) j) (drop (e + 1) list) in
-      ap (λ (b : Bool). b && later) (bit-and rest (double w (2 * (from + get_or list e 0))) j) ∙ and_assoc (bit_at rest j) here later
+      ap (λ (b : Bool). b && later) (bit_and_lem rest (double w (2 * (from + get_or list e 0))) j) ∙ and_assoc (bit_at rest j) here later
       ∙ sym (rw (drop-cons list e 0 below, add-one e))
 
   end : length list ≤ e → bit_at rest j ≡ sharedFrom w from list e rest j
@@ -37,7 +37,7 @@ module _ (w : List ℕ) (from : ℕ) (list : List ℕ) (e rest j : ℕ) where
   end past = sym (rw (drop_of_length-le list {i = e} past, and-true (bit_at rest j)))
 
   none : rest ≡ 0 → bit_at 0 j ≡ sharedFrom w from list e rest j
-  none is = bit-of-zero j ∙ sym (rw (is, bit-of-zero j))
+  none is = bit_of_zero j ∙ sym (rw (is, bit_of_zero j))
 
 abbrev invariant-loop : tie.invariant-loop
 invariant-loop work from list word rest₀ e₀ rest e =

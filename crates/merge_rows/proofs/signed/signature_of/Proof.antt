@@ -5,12 +5,12 @@ use mathlib.Core.List.{List, []}
 use native.Mathlib.Omega.{arith}
 use borrow.Author.Rules.{rules}
 use lib.ListN.{length, get_or}
-use Rattle.sets.specs.Collections.{between, setsOf}
+use Rattle.sets.specs.Collections.{between, sets_of}
 use Rattle.sets.specs.Signatures.{signature}
 use Rattle.sets.proofs.Between.{length-sets}
 use Rattle.side_index.specs.inverted.Placing.{start_at}
 use Rattle.side_index.proofs.inverted.Collected.{SetAt, set_at}
-use Rattle.merge_rows.proofs.SignedLaws.{signs-none, signs-store}
+use Rattle.merge_rows.proofs.SignedLaws.{signs_none, signs_store}
 use Rattle.merge_rows.proofs.signed.signature_of.Statement.{statement}
 use Rattle.merge_rows.proofs.signed.signature_of.Tie as tie
 
@@ -18,11 +18,11 @@ use Rattle.merge_rows.proofs.signed.signature_of.Tie as tie
 set_there : (c : tie.Start)
     → let a = c.args in
     SetAt c.requires.0.T a.s (start_at a.ends.now a.s) (get_or a.ends.now a.s 0)
-    (get_or (setsOf a.ends.now a.items.now) a.s []) a.items.now
+    (get_or (sets_of a.ends.now a.items.now) a.s []) a.items.now
 set_there c =
     let a = c.args in set_at c.requires.0.T a.ends.now a.items.now c.requires.0.good a.s c.requires.1.1
 
-place : (c : tie.Start) → c.args.s < length (setsOf c.args.ends.now c.args.items.now)
+place : (c : tie.Start) → c.args.s < length (sets_of c.args.ends.now c.args.items.now)
 place c = omega (arith, c.requires.1.1, length-sets 0 c.args.ends.now c.args.items.now)
 
 room : (c : tie.Start) → c.args.at + 2 * c.args.s + 2 ≤ length c.args.work.now
@@ -40,7 +40,7 @@ returns c =
     let s = start read in
     let signed = s.pre.0.signed in
     let is = read.double-at.ensures in
-    (is ∙ signed.each s.args.s (place s) (λ none. c.if1.true (is ∙ none)), signs-none signed)
+    (is ∙ signed.each s.args.s (place s) (λ none. c.if1.true (is ∙ none)), signs_none signed)
 
 cast-end : tie.Need-overflow-cast-end
 cast-end c = omega (arith, (set_there (start c.before.before.before)).good.entries)
@@ -64,7 +64,7 @@ returns-2 c =
     ∙ ap (λ (n : ℕ). signature (between n (get_or a.ends.now a.s 0) a.items.now)) started.start_of.ensures
     ∙ sym (ap (λ (set : List ℕ). signature set) (set_there s).is)
     in
-    (is, signs-store s.pre.0.signed (place s) is stored.store-double.ensures)
+    (is, signs_store s.pre.0.signed (place s) is stored.store-double.ensures)
 
 pub signature-of-spec : {M : Type 1} → statement M
 signature-of-spec =

@@ -4,8 +4,8 @@ use Prim.Native.Nat.{ℕ, ◌+◌, ◌-◌}
 use native.Mathlib.Omega.{arith}
 use lib.ListN.{length, get_or, set}
 use Rattle.bit_sets.specs.BitSets.{members}
-use Rattle.tag_loader.proofs.record_items.Marks.{unmarked-zeros}
-use Rattle.pool_fill.specs.own_sets.Own.{lengthBy, placeWord}
+use Rattle.tag_loader.proofs.record_items.Marks.{unmarked_zeros}
+use Rattle.pool_fill.specs.own_sets.Own.{length_by, place_word}
 use borrow.Author.Rules.{rules}
 use Rattle.pool_fill.proofs.own_sets.put_own.Statement.{statement}
 use Rattle.pool_fill.proofs.own_sets.put_own.Tie as tie
@@ -19,10 +19,10 @@ owned c = omega (arith, c.before.before.before.before.before.drain.ensures.0.pas
 
 taken : (c : tie.After-length-by)
     → let a = c.before.before.before.before.before.before.before.before.before.before.before.before.before.before.args in
-    c.length-by.result ≡ lengthBy (get_or a.slots.now a.slot 0) (length (members a.marks.now))
+    c.length-by.result ≡ length_by (get_or a.slots.now a.slot 0) (length (members a.marks.now))
 taken c =
     let a = c.before.before.before.before.before.before.before.before.before.before.before.before.before.before.args in
-    c.length-by.ensures ∙ ap (λ (k : ℕ). lengthBy (get_or a.slots.now a.slot 0) k) (owned c)
+    c.length-by.ensures ∙ ap (λ (k : ℕ). length_by (get_or a.slots.now a.slot 0) k) (owned c)
 
 add-end : tie.Need-overflow-add-end
 add-end c =
@@ -41,15 +41,15 @@ returns c =
     let start = c.before.before.before.before.before.before.before.before.before.before.before.before.before.before in
     let a = start.args in
     let d = c.before.before.before.before.before.drain.ensures in (
-      rw d.1 (unmarked-zeros (length a.marks.now) start.requires.0),
+      rw d.1 (unmarked_zeros (length a.marks.now) start.requires.0),
       record {
-        put-slot = ap (λ (k : ℕ). set a.slots.now a.slot (placeWord a.done.entries k)) (owned c);
-        put-number = record { written = refl; past = refl };
-        put-end = record {
+        put_slot = ap (λ (k : ℕ). set a.slots.now a.slot (place_word a.done.entries k)) (owned c);
+        put_number = record { written = refl; past = refl };
+        put_end = record {
           written = ap (λ (k : ℕ). set a.ends.now a.done.sets (a.done.entries + k)) (taken c);
           past = refl;
         };
-        put-items = d.0.written;
+        put_items = d.0.written;
         past = ap (λ (k : ℕ). a.done.entries + k) (taken c);
       },
     )

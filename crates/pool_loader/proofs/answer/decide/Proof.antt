@@ -1,5 +1,5 @@
 -- `pool_loader::answer::decide` meets its contract: case by case.
-use Rattle.pool_loader.proofs.answer.Cases.{decided-short, decided-long, decided-loaded}
+use Rattle.pool_loader.proofs.answer.Cases.{decided_short, decided_long, decided_loaded}
 use borrow.Author.Rules.{rules}
 use Rattle.pool_loader.proofs.answer.decide.Statement.{statement}
 use Rattle.pool_loader.proofs.answer.decide.Tie as tie
@@ -10,15 +10,15 @@ has-room-requires c κs =
 
 returns-2 : tie.Need-returns-2
 returns-2 c =
-    decided-short _ _ _ c.before.before.before.answer.given.1 c.before.has_room.ensures c.if1.true
+    decided_short _ _ _ c.before.before.before.answer.given.1 c.before.has_room.ensures c.if1.true
 
 returns-3 : tie.Need-returns-3
 returns-3 c =
-    decided-long _ _ _ c.before.before.before.before.before.before.answer.given.1 c.before.before.before.before.has_room.ensures c.before.before.before.if1.false c.before.long.given.1
+    decided_long _ _ _ c.before.before.before.before.before.before.answer.given.1 c.before.before.before.before.has_room.ensures c.before.before.before.if1.false c.before.long.given.1
 
 returns-4 : tie.Need-returns-4
 returns-4 c =
-    decided-loaded _ _ _ c.before.before.before.before.before.answer.given.1 c.before.before.before.has_room.ensures c.before.before.if1.false c.enum-told2.given.1
+    decided_loaded _ _ _ c.before.before.before.before.before.answer.given.1 c.before.before.before.has_room.ensures c.before.before.if1.false c.enum-told2.given.1
 
 pub decide-spec : {M : Type 1} → statement M
 decide-spec =

@@ -1,9 +1,9 @@
 -- `pool_loader::second_file::fill_pooled` meets its contract.
 use Prim.Native.Nat.{ℕ}
 use lib.ListN.{length-replicate}
-use Rattle.tag_index.specs.Index.{indexRoom}
-use Rattle.pool_loader.proofs.second_file.Filling.{sorted-here, tags-room, tags-filled, left-ready, right-ready, left-numbers-filled}
-use Rattle.pool_loader.proofs.second_file.Filling.{left-ends-filled, left-items-filled, right-ends-filled, right-items-filled}
+use Rattle.tag_index.specs.Index.{index_room}
+use Rattle.pool_loader.proofs.second_file.Filling.{sorted_here, tags_room, tags_filled, left-ready, right-ready, left_numbers_filled}
+use Rattle.pool_loader.proofs.second_file.Filling.{left_ends_filled, left_items_filled, right_ends_filled, right_items_filled}
 use Rattle.pool_loader.proofs.second_file.fill_pooled.Statement.{statement}
 use Rattle.pool_loader.proofs.second_file.fill_pooled.Tie as tie
 
@@ -13,10 +13,10 @@ start r = r.before.before.before.before.before.before.before.before.before.befor
 
 rank-ids-requires : tie.Need-rank-ids-requires
 rank-ids-requires c κs =
-    ((sorted-here c.before.before.before.before.before.before.before.before.before.before.requires).listed, length-replicate {A = ℕ} indexRoom 0)
+    ((sorted_here c.before.before.before.before.before.before.before.before.before.before.requires).listed, length-replicate {A = ℕ} index_room 0)
 
 fill-tags-requires : tie.Need-fill-tags-requires
-fill-tags-requires c κs = let s = start c.before in (sorted-here s.pre, tags-room s.pre)
+fill-tags-requires c κs = let s = start c.before in (sorted_here s.pre, tags_room s.pre)
 
 fill-side-requires : tie.Need-fill-side-requires
 fill-side-requires c κs =
@@ -70,13 +70,13 @@ returns c =
     let l = (filled-left c).fill-side.ensures in
     let r = (filled-right c).fill-right.ensures in
     record {
-      tags-filled = tags-filled start.pre start.args.tags.now (filled-tags c).fill-tags.ensures;
-      leftNumbers-filled = left-numbers-filled start.pre start.args.left-numbers.now l.0;
-      leftEnds-filled = left-ends-filled start.pre start.args.left-ends.now l.1.0;
-      leftItems-filled = left-items-filled start.pre start.args.left-items.now l.1.1;
-      rightNumbers-filled = r.0;
-      rightEnds-filled = right-ends-filled start.pre start.args.right-ends.now r.1.0;
-      rightItems-filled = right-items-filled start.pre start.args.right-items.now r.1.1;
+      tags_filled = tags_filled start.pre start.args.tags.now (filled-tags c).fill-tags.ensures;
+      left_numbers_filled = left_numbers_filled start.pre start.args.left-numbers.now l.0;
+      left_ends_filled = left_ends_filled start.pre start.args.left-ends.now l.1.0;
+      left_items_filled = left_items_filled start.pre start.args.left-items.now l.1.1;
+      right_numbers_filled = r.0;
+      right_ends_filled = right_ends_filled start.pre start.args.right-ends.now r.1.0;
+      right_items_filled = right_items_filled start.pre start.args.right-items.now r.1.1;
     }
 
 pub fill-pooled-spec : {M : Type 1} → statement M

@@ -1,6 +1,6 @@
 -- `pool_loader::second_file::judge` meets its contract: by the first file, or by both.
 use Rattle.pool_scan.proofs.right_slots.Accepted.{slottable}
-use Rattle.pool_loader.proofs.second_file.Answers.{first_taken, first-refused, second-limited, second-decided}
+use Rattle.pool_loader.proofs.second_file.Answers.{first_taken, first_refused, second-limited, second-decided}
 use borrow.Author.Rules.{rules}
 use Rattle.pool_loader.proofs.second_file.judge.Statement.{statement}
 use Rattle.pool_loader.proofs.second_file.judge.Tie as tie
@@ -9,7 +9,7 @@ returns : tie.Need-returns
 returns c lent lengths =
     let s = c.before.before.before.before in
     let told = c.enum_told.given in
-    first-refused s.args.first.now s.args.second.now lent told.0.0 s.requires.scanned told.1
+    first_refused s.args.first.now s.args.second.now lent told.0.0 s.requires.scanned told.1
 
 -- the function's start, from where the first file has no fault, and that place from later ones
 abbrev start : tie.After-answer → tie.Start
@@ -28,9 +28,9 @@ index-right-requires c κs =
     let t = first_taken s.args.first.now _ _ s.pre.scanned at-answer.answer.given.1 in (
       s.pre.unused,
       (
-        s.pre.counts-size,
+        s.pre.counts_size,
         (
-          s.pre.slots-size,
+          s.pre.slots_size,
           slottable s.args.first.now t.clean (λ i. (at-answer.before.before.before.shared-slice-known.given i).fits),
         ),
       ),

@@ -2,10 +2,10 @@
 use mathlib.Core.Path.{refl, sym, ◌∙◌}
 use Prim.Native.Nat.{ℕ}
 use lib.ListN.{length-replicate}
-use Rattle.sets.specs.Limits.{maxSets}
+use Rattle.sets.specs.Limits.{max_sets}
 use Rattle.tag_file.specs.Loading.{Lists, lists_of}
 use Rattle.pool_scan.specs.right_slots.Slots.{blocks}
-use Rattle.pool_loader.proofs.second_file.Ends.{call-refused, call-filled}
+use Rattle.pool_loader.proofs.second_file.Ends.{call_refused, call_filled}
 use borrow.Author.Rules.{rules}
 use Rattle.pool_loader.proofs.second_file.pool_second.Statement.{statement}
 use Rattle.pool_loader.proofs.second_file.pool_second.Tie as tie
@@ -26,8 +26,8 @@ judge-requires c κs =
     record {
       scanned = c.before.before.before.before.before.before.before.before.before.before.before.before.before.before.before.before.requires;
       unused = refl;
-      counts-size = length-replicate {A = ℕ} blocks 0;
-      slots-size = length-replicate {A = ℕ} maxSets 0;
+      counts_size = length-replicate {A = ℕ} blocks 0;
+      slots_size = length-replicate {A = ℕ} max_sets 0;
     }
 
 -- where `clear_lists` has come back
@@ -62,7 +62,7 @@ returns c =
     let at-judge = at_told.before.before in
     let s = start at-judge in
     let told = at_told.enum_told.given in
-    call-refused s.args.first.now s.args.second.now (lent s) told.0.0 (at-judge.judge.ensures (lent s) refl).answered told.1
+    call_refused s.args.first.now s.args.second.now (lent s) told.0.0 (at-judge.judge.ensures (lent s) refl).answered told.1
     (cleared c).clear-lists.ensures
 
 fill-pooled-requires : tie.Need-fill-pooled-requires
@@ -101,7 +101,7 @@ returns-2 c =
     let at-judged = (filled c).before.before.before.before.before.before.before.before.before.before.before.before.before.before.before.before in
     let at-judge = at-judged.before.before in
     let s = start at-judge in
-    call-filled s.args.first.now s.args.second.now (lent s) _ _
+    call_filled s.args.first.now s.args.second.now (lent s) _ _
     (sym (at-judge.judge.ensures (lent s) refl).answered ∙ at-judged.judged.given.1)
     (filled c).fill-pooled.ensures
 

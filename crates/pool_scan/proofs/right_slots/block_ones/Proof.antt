@@ -1,14 +1,14 @@
 -- `pool_scan::right_slots::block_ones` meets its contract: a block's members are those of its two words.
 use Rattle.std.proofs.Common.{arith, rules}
-use Rattle.bit_sets.proofs.Counted.{ones-bound}
+use Rattle.bit_sets.proofs.Counted.{ones_bound}
 use Rattle.pool_scan.proofs.right_slots.Counting.{block_words}
 use Rattle.pool_scan.proofs.right_slots.block_ones.Statement.{statement}
 use Rattle.pool_scan.proofs.right_slots.block_ones.Tie as tie
 
 add-result : tie.Need-overflow-add-result
 add-result c =
-    let first = ones-bound _ 64 c.before.before.ones-of.ensures in
-    let second = ones-bound _ 64 c.ones-of2.ensures in
+    let first = ones_bound _ 64 c.before.before.ones-of.ensures in
+    let second = ones_bound _ 64 c.ones-of2.ensures in
     record { fits = omega (arith, first, second) }
 
 returns : tie.Need-returns

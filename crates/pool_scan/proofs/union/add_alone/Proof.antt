@@ -1,6 +1,6 @@
 -- `pool_scan::union::add_alone` meets its contract.
 use Rattle.std.proofs.Common.{[], refl, rules}
-use Rattle.pool_scan.proofs.union.Uniting.{start-adding, start-some, start-room, taken-alone}
+use Rattle.pool_scan.proofs.union.Uniting.{start_adding, start_some, start_room, taken_alone}
 use Rattle.pool_scan.proofs.union.add_alone.Statement.{statement}
 use Rattle.pool_scan.proofs.union.add_alone.Tie as tie
 
@@ -8,13 +8,13 @@ add-tags-requires : tie.Need-add-tags-requires
 add-tags-requires c κs =
     let p = c.before.before.before.before.before.before.requires in
     let a = c.before.before.before.before.before.before.args in
-    (start-some p.0 refl, start-room p.0 a.second.now a.start a.count p.1.inside p.1.few)
+    (start_some p.0 refl, start_room p.0 a.second.now a.start a.count p.1.inside p.1.few)
 
 returns : tie.Need-returns
 returns c =
     let p = c.before.before.before.before.before.before.before.before.requires in
     record {
-      taken = taken-alone p.0 (c.before.add-tags.ensures [] (start-adding p.0 refl)) p.1.few refl refl refl refl;
+      taken = taken_alone p.0 (c.before.add-tags.ensures [] (start_adding p.0 refl)) p.1.few refl refl refl refl;
       told = refl;
     }
 

@@ -2,8 +2,8 @@
 use Rattle.std.proofs.Common.{◌≡◌, ℕ, ◌+◌, ◌<◌, true, get_or, set, sym, refl, ap, ◌∙◌, subst, arith, rules}
 use borrow.Author.Tests.{not-true, not-false}
 use Rattle.lists.proofs.Bools.{true-false}
-use Rattle.sets.specs.Limits.{maxSets}
-use Rattle.pool_scan.specs.right_slots.Slots.{numberSlot, pooledMark}
+use Rattle.sets.specs.Limits.{max_sets}
+use Rattle.pool_scan.specs.right_slots.Slots.{number_slot, pooled_mark}
 use Rattle.pool_scan.specs.union.Union.{WholeRecordAt, KnownRecordAt}
 use Rattle.tag_index.specs.Index.{table_of}
 use Rattle.bit_sets.specs.BitSets.{member}
@@ -14,7 +14,7 @@ use Rattle.pool_scan.proofs.union.unite.Tie as tie
 met : (a : tie.After-number-slot) → member a.before.before.before.before.before.before.before.before.args.used.now a.before.before.before.before.before.before.before.before.args.number ≡ true
 met a = sym a.before.before.contains.ensures ∙ not-false _ a.before.if1.false
 
-slot_small : (a : tie.After-number-slot) → a.number-slot.result < maxSets
+slot_small : (a : tie.After-number-slot) → a.number-slot.result < max_sets
 slot_small a = let below = a.before.before.before.before.before.before.before.before.requires.slot (met a) in omega (arith, below, a.number-slot.ensures)
 
 known : (a : tie.After-number-slot)
@@ -27,7 +27,7 @@ known a =
 
 there-at : (a : tie.After-number-slot) {count start : ℕ}
     → let s = a.before.before.before.before.before.before.before.before.args in
-    WholeRecordAt s.first.now (get_or s.slots.now (numberSlot s.used.now s.number) 0) count start
+    WholeRecordAt s.first.now (get_or s.slots.now (number_slot s.used.now s.number) 0) count start
     → WholeRecordAt s.first.now (get_or s.slots.now a.number-slot.result 0) count start
 there-at a {count} {start} there =
     let s = a.before.before.before.before.before.before.before.before.args in
@@ -61,7 +61,7 @@ cast-at c =
 add-both-requires : tie.Need-add-both-requires
 add-both-requires c κs =
     let p = c.before.before.before.before.before.before.before.before.before.before.before.before.before.requires in
-    (p.index, (p.tags-inside, known c.before.before.before.before.before))
+    (p.index, (p.tags_inside, known c.before.before.before.before.before))
 
 mul-slots : tie.Need-overflow-mul-slots
 mul-slots c =
@@ -81,7 +81,7 @@ returns-2 c =
       alone = λ e. true-false (met at_slot) e;
       kept = λ e. true-false (met at_slot) e;
       met = λ e count start there. r.taken count start (there-at at_slot there);
-      noted = λ e. ap (λ (k : ℕ). set c.before.before.before.before.before.before.before.before.before.before.before.before.before.before.before.args.slots.now k (pooledMark + c.before.add-both.result.all)) is;
+      noted = λ e. ap (λ (k : ℕ). set c.before.before.before.before.before.before.before.before.before.before.before.before.before.before.before.args.slots.now k (pooled_mark + c.before.add-both.result.all)) is;
     }
 
 pub unite-spec : {M : Type 1} → statement M

@@ -1,7 +1,7 @@
 -- `read_words` meets its contract: a case for each variant.
 use mathlib.Core.Path.{sym, ap, ◌∙◌}
-use Rattle.tag_file.specs.answers.Words.{wordsRead}
-use Rattle.sets.proofs.Words.{refused-words, side-words}
+use Rattle.tag_file.specs.answers.Words.{words_read}
+use Rattle.sets.proofs.Words.{refused_words_lem, side_words}
 use borrow.Author.Rules.{rules}
 use Rattle.tag_file.proofs.answers.read_words.Statement.{statement}
 use Rattle.tag_file.proofs.answers.read_words.Tie as tie
@@ -9,16 +9,16 @@ use Rattle.tag_file.proofs.answers.read_words.Tie as tie
 returns : tie.Need-returns
 returns c =
     let told = c.before.before in
-    side-words c.side-word.ensures
-    ∙ sym (ap (λ a. wordsRead a told.before.before.args.read.repeats) told.answer.given.1)
+    side_words c.side-word.ensures
+    ∙ sym (ap (λ a. words_read a told.before.before.args.read.repeats) told.answer.given.1)
 
 returns-3 : tie.Need-returns-3
 returns-3 c =
     let told = c.before.before in
     let why = told.answer2.given.0.0 in
     let e = c.head_of.ensures in
-    refused-words why 7 e.0 e.1 e.2
-    ∙ sym (ap (λ a. wordsRead a told.before.before.args.read.repeats) told.answer2.given.1)
+    refused_words_lem why 7 e.0 e.1 e.2
+    ∙ sym (ap (λ a. words_read a told.before.before.args.read.repeats) told.answer2.given.1)
 
 pub read-words-spec : {M : Type 1} → statement M
 read-words-spec =

@@ -4,25 +4,25 @@ use mathlib.Core.Path.{sym, ap}
 use Prim.Native.Nat.{◌+◌, ◌-◌, ◌<◌, ◌≤◌}
 use native.Mathlib.Omega.{arith}
 use lib.ListN.{get_or, drop}
-use Rattle.lists.proofs.Writing.{Writing, writing_start, writing-room, writing_step, writing-end, written-whole}
-use Rattle.tag_file.specs.Format.{bytes_of, tagBytes, tagLength}
-use Rattle.tag_file.proofs.ItemCount.{length-bytesOf}
-use Rattle.tag_index.specs.Index.{indexRoom, table_of}
-use Rattle.tag_index.proofs.Ids.{sorted-size, sorted-at}
-use Rattle.tag_loader.proofs.tag_table.TableBytes.{table-next, table-end}
+use Rattle.lists.proofs.Writing.{Writing, writing_start, writing_room, writing_step, writing_end, written-whole}
+use Rattle.tag_file.specs.Format.{bytes_of, tag_bytes, tag_length}
+use Rattle.tag_file.proofs.ItemCount.{length-bytes_of}
+use Rattle.tag_index.specs.Index.{index_room, table_of}
+use Rattle.tag_index.proofs.Ids.{sorted_size, sorted_at}
+use Rattle.tag_loader.proofs.tag_table.TableBytes.{table_next, table_end}
 use Rattle.tag_loader.proofs.tag_table.fill_tags.Statement.{statement}
 use Rattle.tag_loader.proofs.tag_table.fill_tags.Tie as tie
 
 abbrev invariant-loop : tie.invariant-loop
 invariant-loop heads tails ids n tags₀ i₀ at₀ tags i at =
-    Writing tags₀ 0 (tagBytes (table_of heads tails n ids)) tags at (tagBytes (drop i (table_of heads tails n ids))) × (i ≤ n)
+    Writing tags₀ 0 (tag_bytes (table_of heads tails n ids)) tags at (tag_bytes (drop i (table_of heads tails n ids))) × (i ≤ n)
 
 abbrev decreases-loop : tie.decreases-loop
 decreases-loop heads tails ids n tags₀ i₀ at₀ tags i at =
     n - i
 
 -- the id here lies within the index
-id-low : (t : tie.In-loop invariant-loop decreases-loop) → get_or t.before.before.before.args.ids.now t.before.loop.i 0 < indexRoom
+id-low : (t : tie.In-loop invariant-loop decreases-loop) → get_or t.before.before.before.args.ids.now t.before.loop.i 0 < index_room
 id-low t =
     let listed = t.before.before.before.requires.0.listed in
     omega (arith, listed.small t.before.loop.i t.loop-test.true, listed.room)
@@ -31,7 +31,7 @@ loop-holds : tie.Need-loop-init invariant-loop decreases-loop
 loop-holds c =
     let a = c.before.args in
     let table = table_of a.heads.now a.tails.now a.n a.ids.now in
-    (writing_start a.tags.now 0 (tagBytes table) (omega (arith, c.before.requires.1)), omega arith)
+    (writing_start a.tags.now 0 (tag_bytes table) (omega (arith, c.before.requires.1)), omega arith)
 
 mul-id : tie.Need-overflow-mul-id invariant-loop decreases-loop
 mul-id c =
@@ -65,9 +65,9 @@ put-tag-requires c κs =
     let s = start.requires.0 in
     let table = table_of a.heads.now a.tails.now a.n a.ids.now in
     let i = at-loop.loop.i in
-    let next = table-next table i (omega (arith, sorted-size s, test.loop-test.true)) in
-    let room = writing-room at-loop.loop.invariant.0 (bytes_of tagLength (get_or table i 0)) (tagBytes (drop (i + 1) table)) next in
-    omega (arith, room, length-bytesOf tagLength (get_or table i 0))
+    let next = table_next table i (omega (arith, sorted_size s, test.loop-test.true)) in
+    let room = writing_room at-loop.loop.invariant.0 (bytes_of tag_length (get_or table i 0)) (tag_bytes (drop (i + 1) table)) next in
+    omega (arith, room, length-bytes_of tag_length (get_or table i 0))
 
 loop-again : tie.Need-loop-preserved invariant-loop decreases-loop
 loop-again c =
@@ -79,8 +79,8 @@ loop-again c =
     let table = table_of a.heads.now a.tails.now a.n a.ids.now in
     let i = at-loop.loop.i in
     let inside = test.loop-test.true in
-    let next = table-next table i (omega (arith, sorted-size s)) in
-    let here = ap (bytes_of tagLength) (sym (sorted-at s i inside)) in
+    let next = table_next table i (omega (arith, sorted_size s)) in
+    let here = ap (bytes_of tag_length) (sym (sorted_at s i inside)) in
     (writing_step at-loop.loop.invariant.0 next (rw here at c.before.before.put-tag.ensures), omega arith)
 
 same_length : tie.Need-same-length invariant-loop decreases-loop
@@ -92,8 +92,8 @@ returns c =
     let start = c.before.before.before in
     let a = start.args in
     let table = table_of a.heads.now a.tails.now a.n a.ids.now in
-    let past = table-end table c.before.loop.i (omega (arith, sorted-size start.requires.0, c.loop-test.false)) in
-    written-whole (writing-end c.before.loop.invariant.0 past) (omega (arith, start.requires.1))
+    let past = table_end table c.before.loop.i (omega (arith, sorted_size start.requires.0, c.loop-test.false)) in
+    written-whole (writing_end c.before.loop.invariant.0 past) (omega (arith, start.requires.1))
 
 pub fill-tags-spec : {M : Type 1} → statement M
 fill-tags-spec =

@@ -1,7 +1,7 @@
 -- `tag_loader::tag_table::put_number` meets its contract. The invariant: with the bytes still to come the whole number is written
 -- (`PuttingBytes`). The measure is how many bytes are left.
 use native.Mathlib.Omega.{arith}
-use Rattle.tag_loader.proofs.tag_table.TableBytes.{PuttingBytes, putting-start, putting-step, putting-end}
+use Rattle.tag_loader.proofs.tag_table.TableBytes.{PuttingBytes, putting_start, putting_step, putting_end}
 use Rattle.tag_loader.proofs.tag_table.put_number.Statement.{statement}
 use Rattle.tag_loader.proofs.tag_table.put_number.Tie as tie
 
@@ -15,7 +15,7 @@ decreases-loop number width tags₀ at rest₀ left₀ tags rest left =
 
 loop-holds : tie.Need-loop-init invariant-loop decreases-loop
 loop-holds c =
-    putting-start c.args.tags.now c.args.at c.args.width c.args.number
+    putting_start c.args.tags.now c.args.at c.args.width c.args.number
 
 add-tags : tie.Need-overflow-add-tags invariant-loop decreases-loop
 add-tags c =
@@ -27,7 +27,7 @@ slice-write-tags c =
 
 loop-again : tie.Need-loop-preserved invariant-loop decreases-loop
 loop-again c =
-    putting-step c.before.loop.invariant c.loop-test.true
+    putting_step c.before.loop.invariant c.loop-test.true
 
 add-result : tie.Need-overflow-add-result invariant-loop decreases-loop
 add-result c =
@@ -39,7 +39,7 @@ same_length c =
 
 returns : tie.Need-returns invariant-loop decreases-loop
 returns c =
-    putting-end c.before.loop.invariant (omega (arith, c.loop-test.false))
+    putting_end c.before.loop.invariant (omega (arith, c.loop-test.false))
 
 pub put-number-spec : {M : Type 1} → statement M
 put-number-spec =

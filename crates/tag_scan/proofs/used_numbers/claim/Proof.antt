@@ -1,6 +1,6 @@
 -- `tag_scan::used_numbers::claim` meets its contract.
 use native.Mathlib.Omega.{arith}
-use Rattle.tag_scan.proofs.used_numbers.Numbers.{key-bound}
+use Rattle.tag_scan.proofs.used_numbers.Numbers.{key_bound}
 use borrow.Author.Rules.{rules}
 use Rattle.tag_scan.proofs.used_numbers.claim.Statement.{statement}
 use Rattle.tag_scan.proofs.used_numbers.claim.Tie as tie
@@ -8,7 +8,7 @@ use Rattle.tag_scan.proofs.used_numbers.claim.Tie as tie
 claim-requires : tie.Need-claim-requires
 claim-requires c κs =
     let start = c.before.before.before in
-    let bound = key-bound start.args.side start.args.number start.ranges.number.fits in
+    let bound = key_bound start.args.side start.args.number start.ranges.number.fits in
     omega (arith, start.requires, c.key_of.ensures, bound)
 
 returns : tie.Need-returns

@@ -8,17 +8,17 @@ use lib.ListN.{length, get_or, set, length-set}
 use borrow.Author.Rules.{rules}
 use Rattle.sets.specs.declared.Side.{Side}
 use lib.Seq.{sets}
-use Rattle.tag_file.specs.Format.{mark, headLength, recordHead}
-use Rattle.tag_writer_spec.proofs.Records.{mark-bytes}
+use Rattle.tag_file.specs.Format.{mark, head_length, record_head}
+use Rattle.tag_writer_spec.proofs.Records.{mark_bytes}
 use Rattle.tag_writer.proofs.record_writer.put_head.Statement.{statement}
 use Rattle.tag_writer.proofs.record_writer.put_head.Tie as tie
 
-head-stores : (side : Side) (file : List ℕ) (at number count first second : ℕ) → at + headLength ≤ length file
+head-stores : (side : Side) (file : List ℕ) (at number count first second : ℕ) → at + head_length ≤ length file
     → first ≡ get_or (mark side) 0 0 → second ≡ get_or (mark side) 1 0
     → set (set (set (set (set file at first) (at + 1) second) (at + 2) (number / 256)) (at + 3) (number % 256)) (at + 4) count
-    ≡ sets file at (recordHead side number count)
+    ≡ sets file at (record_head side number count)
 head-stores side file at number count first second room e₁ e₂ =
-    rw (mark-bytes side, ← e₁, ← e₂)
+    rw (mark_bytes side, ← e₁, ← e₂)
     (simp towards_suc)
 
 slice-write-file-2 : tie.Need-slice-write-file-2

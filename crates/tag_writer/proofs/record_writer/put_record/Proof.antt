@@ -6,25 +6,25 @@ use native.Mathlib.Omega.{arith}
 use lib.ListN.{length}
 use Rattle.sets.specs.Collections.{between}
 use Rattle.sets.specs.declared.Side.{Side}
-use Rattle.tag_file.specs.Format.{headLength, recordLength, tagBytes, recordHead, recordBytes}
+use Rattle.tag_file.specs.Format.{head_length, record_length, tag_bytes, record_head, record_bytes}
 use lib.Seq.{sets}
 use Rattle.tag_writer_spec.specs.Inner.{ItemsFit}
-use Rattle.tag_writer_spec.specs.Writer.{itemTags}
+use Rattle.tag_writer_spec.specs.Writer.{item_tags}
 use Rattle.lists.proofs.Filling.{sets_then}
 use Rattle.sets.proofs.Between.{length-between}
-use Rattle.tag_writer_spec.proofs.Records.{length-head, length-itemTags}
+use Rattle.tag_writer_spec.proofs.Records.{length_head, length-item_tags}
 use Rattle.tag_writer.proofs.record_writer.put_record.Statement.{statement}
 use Rattle.tag_writer.proofs.record_writer.put_record.Tie as tie
 
 record-put : (side : Side) (number : ℕ) (tags items : List ℕ) (start end : ℕ) (file : List ℕ) (at : ℕ) (file' file'' : List ℕ)
-    → ItemsFit tags items start end → at + recordLength (end - start) ≤ length file
-    → file' ≡ sets file at (recordHead side number (end - start))
-    → file'' ≡ sets file' (at + headLength) (tagBytes (itemTags tags (between start end items)))
-    → file'' ≡ sets file at (recordBytes side number (itemTags tags (between start end items)))
+    → ItemsFit tags items start end → at + record_length (end - start) ≤ length file
+    → file' ≡ sets file at (record_head side number (end - start))
+    → file'' ≡ sets file' (at + head_length) (tag_bytes (item_tags tags (between start end items)))
+    → file'' ≡ sets file at (record_bytes side number (item_tags tags (between start end items)))
 record-put side number tags items start end file at file' file'' fit room e₁ e₂ =
-    let n : length (itemTags tags (between start end items)) ≡ end - start =
-    length-itemTags tags (between start end items) ∙ length-between start end items fit.inside in
-    e₂ ∙ rw (e₁, n) (sym (sets_then file at (recordHead side number (end - start)) _ headLength (length-head side _ _)))
+    let n : length (item_tags tags (between start end items)) ≡ end - start =
+    length-item_tags tags (between start end items) ∙ length-between start end items fit.inside in
+    e₂ ∙ rw (e₁, n) (sym (sets_then file at (record_head side number (end - start)) _ head_length (length_head side _ _)))
 
 sub-count : tie.Need-overflow-sub-count
 sub-count c = c.before.before.before.requires.0.rise

@@ -5,29 +5,29 @@ use mathlib.Core.List.{List, []}
 use Prim.Native.Nat.{ℕ, ◌+◌, ◌*◌, ◌-◌, ◌/◌, ◌≤◌, ◌<◌}
 use native.Mathlib.Omega.{arith}
 use lib.ListN.{length, drop, get_or, length-append, drop_of_length-le}
-use Rattle.sets.specs.Collections.{between, setsFrom, firstBadFrom}
+use Rattle.sets.specs.Collections.{between, sets_from, first_bad_from}
 use Rattle.sets.specs.declared.Side.{Side}
 use Rattle.sets.specs.declared.Verdict.TheVariants.{Good}
 use Rattle.sets.proofs.Between.{length-between}
-use Rattle.sets.proofs.Good.{GoodSet, good-step, good-next}
-use Rattle.tag_file.specs.Format.{tagLength, recordLength, recordBytes}
+use Rattle.sets.proofs.Good.{GoodSet, good_step, good_next}
+use Rattle.tag_file.specs.Format.{tag_length, record_length, record_bytes}
 use lib.Seq.{sets, length-sets}
 use Rattle.tag_writer_spec.specs.Inner.{ItemsFit, GoodSide}
-use Rattle.tag_writer_spec.specs.Writer.{itemTags, recordsOf}
+use Rattle.tag_writer_spec.specs.Writer.{item_tags, records_of}
 use Rattle.lists.proofs.Filling.{sets_then}
-use Rattle.tag_writer_spec.proofs.Sides.{fit-items, length-record, records-next}
+use Rattle.tag_writer_spec.proofs.Sides.{fit_items, length_record, records_next}
 use Rattle.tag_writer.proofs.record_writer.put_side.Statement.{statement}
 use Rattle.tag_writer.proofs.record_writer.put_side.Tie as tie
 
 -- the records from place k on, the first set beginning at start
 abbrev rest : Side → List ℕ → List ℕ → List ℕ → List ℕ → ℕ → ℕ → List ℕ
-rest side tags numbers ends items k start = recordsOf side tags (drop k numbers) (setsFrom start (drop k ends) items)
+rest side tags numbers ends items k start = records_of side tags (drop k numbers) (sets_from start (drop k ends) items)
 
 record PuttingRecords (side : Side) (tags numbers ends items file₀ : List ℕ) (at : ℕ) (file : List ℕ)
     (k start to : ℕ) : Type 0 where
   within : k ≤ length ends
   long : length file ≡ length file₀
-  good : firstBadFrom (length tags / tagLength) k start (drop k ends) items ≡ Good
+  good : first_bad_from (length tags / tag_length) k start (drop k ends) items ≡ Good
   place : to + length (rest side tags numbers ends items k start) ≡ at + length (rest side tags numbers ends items 0 0)
   together : sets file to (rest side tags numbers ends items k start) ≡ sets file₀ at (rest side tags numbers ends items 0 0)
 
@@ -38,64 +38,64 @@ putting-start side tags numbers ends items file at so =
 
 -- what a turn has: the set at place k is not bad, its tags are in the table, and its record has room
 record Turn (tags items file : List ℕ) (k start end to : ℕ) : Type 0 where
-  set : GoodSet (length tags / tagLength) k start end items
+  set : GoodSet (length tags / tag_length) k start end items
   fit : ItemsFit tags items start end
-  room : to + recordLength (end - start) ≤ length file
+  room : to + record_length (end - start) ≤ length file
 
 module _ (side : Side) (tags numbers ends items file₀ : List ℕ) (at : ℕ) (file : List ℕ) (k start to : ℕ)
     (whole : GoodSide tags numbers ends items)
     (fits : at + length (rest side tags numbers ends items 0 0) ≤ length file₀)
     (more : k < length ends) (so : PuttingRecords side tags numbers ends items file₀ at file k start to) where
   -- the length of the record at place k
-  size : GoodSet (length tags / tagLength) k start (get_or ends k 0) items
-      → length (recordBytes side (get_or numbers k 0) (itemTags tags (between start (get_or ends k 0) items)))
-      ≡ recordLength (get_or ends k 0 - start)
+  size : GoodSet (length tags / tag_length) k start (get_or ends k 0) items
+      → length (record_bytes side (get_or numbers k 0) (item_tags tags (between start (get_or ends k 0) items)))
+      ≡ record_length (get_or ends k 0 - start)
   size here =
-      length-record side (get_or numbers k 0) tags (between start (get_or ends k 0) items)
+      length_record side (get_or numbers k 0) tags (between start (get_or ends k 0) items)
       ∙ rw (length-between start (get_or ends k 0) items here.within)
 
   split : length (rest side tags numbers ends items k start)
-      ≡ length (recordBytes side (get_or numbers k 0) (itemTags tags (between start (get_or ends k 0) items)))
+      ≡ length (record_bytes side (get_or numbers k 0) (item_tags tags (between start (get_or ends k 0) items)))
       + length (rest side tags numbers ends items (k + 1) (get_or ends k 0))
-  split = rw (records-next side tags numbers ends items k start more whole.numbered, length-append)
+  split = rw (records_next side tags numbers ends items k start more whole.numbered, length-append)
 
   turn : Turn tags items file k start (get_or ends k 0) to
   turn =
-      let here = good-step (length tags / tagLength) ends items k start more so.good in
+      let here = good_step (length tags / tag_length) ends items k start more so.good in
       let n = size here in
       let l = split in
       record {
         set = here;
-        fit = fit-items tags items k start (get_or ends k 0) here;
+        fit = fit_items tags items k start (get_or ends k 0) here;
         room = omega (arith, so.place, so.long);
       }
 
   putting-step : (file' : List ℕ) (size' : ℕ)
-      → file' ≡ sets file to (recordBytes side (get_or numbers k 0) (itemTags tags (between start (get_or ends k 0) items)))
-      → size' ≡ recordLength (get_or ends k 0 - start)
+      → file' ≡ sets file to (record_bytes side (get_or numbers k 0) (item_tags tags (between start (get_or ends k 0) items)))
+      → size' ≡ record_length (get_or ends k 0 - start)
       → PuttingRecords side tags numbers ends items file₀ at file' (k + 1) (get_or ends k 0) (to + size')
   putting-step file' size' e long =
       let n = size turn.set ∙ sym long in
       let l = split in
-      let bytes = recordBytes side (get_or numbers k 0) (itemTags tags (between start (get_or ends k 0) items)) in
+      let bytes = record_bytes side (get_or numbers k 0) (item_tags tags (between start (get_or ends k 0) items)) in
       record {
         within = omega arith;
         long = ap length e ∙ length-sets file to bytes ∙ so.long;
-        good = good-next (length tags / tagLength) ends items k start more so.good;
+        good = good_next (length tags / tag_length) ends items k start more so.good;
         place = omega (arith, so.place);
         together =
             rw e
             (sym (sets_then file to bytes (rest side tags numbers ends items (k + 1) (get_or ends k 0)) _ n)
-            ∙ ap (sets file to) (sym (records-next side tags numbers ends items k start more whole.numbered)) ∙ so.together);
+            ∙ ap (sets file to) (sym (records_next side tags numbers ends items k start more whole.numbered)) ∙ so.together);
       }
 
 putting-end : (side : Side) (tags numbers ends items file₀ : List ℕ) (at : ℕ) (file : List ℕ) (k start to : ℕ)
     → GoodSide tags numbers ends items → length ends ≤ k → PuttingRecords side tags numbers ends items file₀ at file k start to
     → file ≡ sets file₀ at (rest side tags numbers ends items 0 0)
-unfolding recordsOf setsFrom
+unfolding records_of sets_from
 putting-end side tags numbers ends items file₀ at file k start to whole done so =
     let none : drop k numbers ≡ [] = drop_of_length-le numbers {i = k} (omega (arith, whole.numbered)) in
-    ap (λ (l : List ℕ). sets file to (recordsOf side tags l (setsFrom start (drop k ends) items))) (sym none) ∙ so.together
+    ap (λ (l : List ℕ). sets file to (records_of side tags l (sets_from start (drop k ends) items))) (sym none) ∙ so.together
 
 abbrev invariant-loop : tie.invariant-loop
 invariant-loop side tags numbers ends items file₀ at k₀ start₀ to₀ file k start to =

@@ -6,8 +6,8 @@ use native.Mathlib.Nat.{add_assoc}
 use native.Mathlib.Omega.{arith}
 use lib.ListN.{length, take, drop, length-take, length-drop}
 use borrow.Author.Rules.{rules}
-use Rattle.tag_file.specs.Format.{tagLength}
-use Rattle.tag_file.proofs.Bytes.{tag-bytes}
+use Rattle.tag_file.specs.Format.{tag_length}
+use Rattle.tag_file.proofs.Bytes.{tag_bytes_lem}
 use lib.Seq.{sets}
 use Rattle.lists.proofs.Filling.{sets_then}
 use Rattle.tag_writer.proofs.record_writer.put_tag.Statement.{statement}
@@ -16,10 +16,10 @@ use Rattle.tag_writer.proofs.record_writer.put_tag.Tie as tie
 length-four : (tags : List ℕ) (from : ℕ) → from + 4 ≤ length tags → length (take 4 (drop from tags)) ≡ 4
 length-four tags from whole = simp (length-take, length-drop) (omega arith)
 
-put-fours : (tags : List ℕ) (from : ℕ) (file : List ℕ) (at : ℕ) → from + tagLength ≤ length tags → at + tagLength ≤ length file
+put-fours : (tags : List ℕ) (from : ℕ) (file : List ℕ) (at : ℕ) → from + tag_length ≤ length tags → at + tag_length ≤ length file
     → sets (sets (sets file at (take 4 (drop from tags))) (at + 4) (take 4 (drop (from + 4) tags))) (at + 8)
     (take 4 (drop (from + 8) tags))
-    ≡ sets file at (take tagLength (drop from tags))
+    ≡ sets file at (take tag_length (drop from tags))
 put-fours tags from file at whole room =
     let a = take 4 (drop from tags) in
     let b = take 4 (drop (from + 4) tags) in
@@ -27,7 +27,7 @@ put-fours tags from file at whole room =
     let first : length a ≡ 4 = length-four tags from (omega arith) in
     let second : length b ≡ 4 = length-four tags (from + 4) (omega arith) in
     sym
-    (ap (sets file at) (tag-bytes tags from)
+    (ap (sets file at) (tag_bytes_lem tags from)
     ∙ sets_then file at a (b ++ c) 4 first
     ∙ sets_then (sets file at a) (at + 4) b c 4 second
     ∙ ap (λ (k : ℕ). sets (sets (sets file at a) (at + 4) b) k c) (add_assoc at 4 4))

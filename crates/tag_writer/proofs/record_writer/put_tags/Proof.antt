@@ -6,24 +6,24 @@ use Prim.Native.Nat.{ℕ, ◌+◌, ◌*◌, ◌-◌, ◌≤◌, ◌<◌}
 use native.Mathlib.Omega.{arith}
 use lib.ListN.{length, take, drop, get_or, length-take, length-drop}
 use Rattle.sets.specs.Collections.{between}
-use Rattle.tag_file.specs.Format.{tagLength, tagBytes}
+use Rattle.tag_file.specs.Format.{tag_length, tag_bytes}
 use lib.Seq.{sets, length-sets}
 use Rattle.tag_writer_spec.specs.Inner.{ItemsFit}
-use Rattle.tag_writer_spec.specs.Writer.{itemTags}
+use Rattle.tag_writer_spec.specs.Writer.{item_tags}
 use Rattle.lists.proofs.Filling.{sets_then}
-use Rattle.tag_writer_spec.proofs.Records.{tags-run}
+use Rattle.tag_writer_spec.proofs.Records.{tags_run}
 use Rattle.tag_writer.proofs.record_writer.put_tags.Statement.{statement}
 use Rattle.tag_writer.proofs.record_writer.put_tags.Tie as tie
 
 -- the tags of the items from start up to end, as bytes
 abbrev run : List ℕ → List ℕ → ℕ → ℕ → List ℕ
-run tags items start end = tagBytes (itemTags tags (between start end items))
+run tags items start end = tag_bytes (item_tags tags (between start end items))
 
 record PuttingTags (tags items : List ℕ) (start end : ℕ) (file₀ : List ℕ) (at : ℕ) (file : List ℕ) (i to : ℕ) : Type 0 where
   above : start ≤ i
   within : i ≤ end
   long : length file ≡ length file₀
-  place : to + tagLength * (end - i) ≡ at + tagLength * (end - start)
+  place : to + tag_length * (end - i) ≡ at + tag_length * (end - start)
   together : sets file to (run tags items i end) ≡ sets file₀ at (run tags items start end)
 
 putting-start : (tags items : List ℕ) (start end : ℕ) (file : List ℕ) (at : ℕ) → start ≤ end
@@ -32,14 +32,14 @@ putting-start tags items start end file at h =
     record { above = omega arith; within = h; long = refl; place = refl; together = refl }
 
 putting-step : (tags items : List ℕ) (start end : ℕ) (file₀ : List ℕ) (at : ℕ) (file : List ℕ) (i to : ℕ) (file' : List ℕ)
-    → ItemsFit tags items start end → at + tagLength * (end - start) ≤ length file₀ → ((k : ℕ) → get_or tags k 0 < 256)
+    → ItemsFit tags items start end → at + tag_length * (end - start) ≤ length file₀ → ((k : ℕ) → get_or tags k 0 < 256)
     → i < end → PuttingTags tags items start end file₀ at file i to
-    → file' ≡ sets file to (take tagLength (drop (tagLength * get_or items i 0) tags))
-    → PuttingTags tags items start end file₀ at file' (i + 1) (to + tagLength)
+    → file' ≡ sets file to (take tag_length (drop (tag_length * get_or items i 0) tags))
+    → PuttingTags tags items start end file₀ at file' (i + 1) (to + tag_length)
 putting-step tags items start end file₀ at file i to file' fit room low more so e =
-    let known : tagLength * get_or items i 0 + tagLength ≤ length tags = fit.known i so.above more in
-    let tag = take tagLength (drop (tagLength * get_or items i 0) tags) in
-    let n : length tag ≡ tagLength =
+    let known : tag_length * get_or items i 0 + tag_length ≤ length tags = fit.known i so.above more in
+    let tag = take tag_length (drop (tag_length * get_or items i 0) tags) in
+    let n : length tag ≡ tag_length =
     simp (length-take, length-drop) (omega arith) in
     record {
       above = omega (arith, so.above);
@@ -48,16 +48,16 @@ putting-step tags items start end file₀ at file i to file' fit room low more s
       place = omega (arith, so.place);
       together =
           rw e
-          (sym (sets_then file to tag (run tags items (i + 1) end) tagLength n)
-          ∙ ap (sets file to) (sym (tags-run tags items i end more fit.inside known low)) ∙ so.together);
+          (sym (sets_then file to tag (run tags items (i + 1) end) tag_length n)
+          ∙ ap (sets file to) (sym (tags_run tags items i end more fit.inside known low)) ∙ so.together);
     }
 
 putting-end : (tags items : List ℕ) (start end : ℕ) (file₀ : List ℕ) (at : ℕ) (file : List ℕ) (i to : ℕ)
     → end ≤ i → PuttingTags tags items start end file₀ at file i to → file ≡ sets file₀ at (run tags items start end)
-unfolding tagBytes
+unfolding tag_bytes
 putting-end tags items start end file₀ at file i to done so =
     let none : end - i ≡ 0 = omega arith in
-    ap (λ (k : ℕ). sets file to (tagBytes (itemTags tags (take k (drop i items))))) (sym none) ∙ so.together
+    ap (λ (k : ℕ). sets file to (tag_bytes (item_tags tags (take k (drop i items))))) (sym none) ∙ so.together
 
 abbrev invariant-loop : tie.invariant-loop
 invariant-loop tags items start end file₀ at i₀ to₀ file i to = PuttingTags tags items start end file₀ at file i to

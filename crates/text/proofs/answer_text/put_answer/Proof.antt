@@ -5,8 +5,8 @@ use mathlib.Core.List.{List}
 use native.Mathlib.Omega.{arith}
 use lib.Seq.{length-take-le}
 use Rattle.lists.specs.Writing.{Put}
-use Rattle.lists.proofs.Writing.{put-append}
-use Rattle.text.proofs.answer_text.AnswerTexts.{text-joined, text-refused, lines-room}
+use Rattle.lists.proofs.Writing.{put_append}
+use Rattle.text.proofs.answer_text.AnswerTexts.{text_joined, text_refused, lines-room}
 use borrow.Author.Rules.{rules}
 use Rattle.text.proofs.answer_text.put_answer.Statement.{statement}
 use Rattle.text.proofs.answer_text.put_answer.Tie as tie
@@ -46,8 +46,8 @@ returns c =
     lines-room (start told).requires told.answer.given.1 a.text.now repeats.result
     (omega (arith, counts.ensures.1, repeats.ensures.1)) refl in (
       subst (λ (t : List ℕ). Put a.text.now 0 t pairs.result pairs.new.0)
-          (text-joined a.repeats a.left-numbers.now a.right-numbers.now a.pairs.now told.answer.given.1)
-          (put-append counts.ensures.0 (put-append repeats.ensures.0 pairs.ensures.0)),
+          (text_joined a.repeats a.left-numbers.now a.right-numbers.now a.pairs.now told.answer.given.1)
+          (put_append counts.ensures.0 (put_append repeats.ensures.0 pairs.ensures.0)),
       omega (arith, pairs.ensures.1, room.room),
     )
 
@@ -57,7 +57,7 @@ returns-2 c =
     let told = c.before.before.before.before.before in
     let a = (start-refused told).args in (
       subst (λ (t : List ℕ). Put a.text.now 0 t line.result line.new.0)
-          (text-refused a.repeats a.left-numbers.now a.right-numbers.now a.pairs.now told.answer2.given.1)
+          (text_refused a.repeats a.left-numbers.now a.right-numbers.now a.pairs.now told.answer2.given.1)
           line.ensures.0,
       omega (arith, line.ensures.1, (start-refused told).requires.room),
     )

@@ -1,6 +1,6 @@
 -- `text::counts_line::put_check_counts` meets its contract: three counts, each behind its word, and a line feed.
 use native.Mathlib.Omega.{arith}
-use Rattle.lists.proofs.Writing.{put-append}
+use Rattle.lists.proofs.Writing.{put_append}
 use borrow.Author.Rules.{rules}
 use Rattle.text.proofs.counts_line.put_check_counts.Statement.{statement}
 use Rattle.text.proofs.counts_line.put_check_counts.Tie as tie
@@ -11,8 +11,8 @@ returns c =
     let last = c.before.before.before.before.before.before.before in
     let second = last.before.before.before.before.before in
     let first = second.before.before.before.before.before in (
-      put-append first.put_count.ensures.0
-          (put-append second.put-count2.ensures.0 (put-append last.put-count3.ensures.0 end.ensures)),
+      put_append first.put_count.ensures.0
+          (put_append second.put-count2.ensures.0 (put_append last.put-count3.ensures.0 end.ensures)),
       omega (arith, first.put_count.ensures.1, second.put-count2.ensures.1, last.put-count3.ensures.1, end.ensures.past),
     )
 

@@ -4,8 +4,8 @@ use mathlib.Core.Path.{subst}
 use mathlib.Core.List.{List}
 use native.Mathlib.Omega.{arith}
 use Rattle.lists.specs.Writing.{Put}
-use Rattle.lists.proofs.Writing.{put-append}
-use Rattle.text.proofs.counts_line.CountHalves.{counts-halves}
+use Rattle.lists.proofs.Writing.{put_append}
+use Rattle.text.proofs.counts_line.CountHalves.{counts_halves}
 use borrow.Author.Rules.{rules}
 use Rattle.text.proofs.counts_line.put_counts.Statement.{statement}
 use Rattle.text.proofs.counts_line.put_counts.Tie as tie
@@ -17,7 +17,7 @@ returns c =
     let pairs = earlier.put-pair-counts in
     let start = earlier.before.before.before in (
       subst (λ (line : List ℕ). Put start.args.text.now 0 line checks.result checks.new.0)
-          (counts-halves start.args.counts) (put-append pairs.ensures.0 checks.ensures.0),
+          (counts_halves start.args.counts) (put_append pairs.ensures.0 checks.ensures.0),
       omega (arith, pairs.ensures.1, checks.ensures.1),
     )
 

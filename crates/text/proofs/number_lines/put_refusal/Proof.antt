@@ -4,7 +4,7 @@ use Prim.Native.Nat.{ℕ}
 use mathlib.Core.List.{List}
 use borrow.Author.Rules.{rules}
 use Rattle.lists.specs.Writing.{Put}
-use Rattle.text.specs.Lines.{refusedLine}
+use Rattle.text.specs.Lines.{refused_line}
 use Rattle.text.proofs.number_lines.put_refusal.Statement.{statement}
 use Rattle.text.proofs.number_lines.put_refusal.Tie as tie
 
@@ -14,7 +14,7 @@ returns c =
     let head = c.before.before.before.before.head_of in
     let text = c.before.before.before.before.before.before.args.text.now in (
       subst (λ (line : List ℕ). Put text 0 line call.result call.new.0)
-          (ap₂ refusedLine head.ensures.0 head.ensures.1) call.ensures.0,
+          (ap₂ refused_line head.ensures.0 head.ensures.1) call.ensures.0,
       call.ensures.1,
     )
 

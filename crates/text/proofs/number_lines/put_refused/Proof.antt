@@ -1,12 +1,12 @@
 -- `text::number_lines::put_refused` meets its contract: a line of two numbers.
 use native.Mathlib.Omega.{arith}
 use borrow.Author.Rules.{rules}
-use Rattle.text.specs.Lines.{refusedLine}
+use Rattle.text.specs.Lines.{refused_line}
 use Rattle.text.proofs.number_lines.put_refused.Statement.{statement}
 use Rattle.text.proofs.number_lines.put_refused.Tie as tie
 
 returns : tie.Need-returns
-unfolding refusedLine
+unfolding refused_line
 returns c =
     let line = c.before.before.put-numbers.ensures in (line.0, omega (arith, line.1))
 

@@ -1,12 +1,12 @@
 -- `text::number_lines::put_repeats` meets its contract: a line of two numbers.
 use native.Mathlib.Omega.{arith}
 use borrow.Author.Rules.{rules}
-use Rattle.text.specs.Lines.{repeatsLine}
+use Rattle.text.specs.Lines.{repeats_line}
 use Rattle.text.proofs.number_lines.put_repeats.Statement.{statement}
 use Rattle.text.proofs.number_lines.put_repeats.Tie as tie
 
 returns : tie.Need-returns
-unfolding repeatsLine
+unfolding repeats_line
 returns c =
     let line = c.before.before.put-numbers.ensures in (line.0, omega (arith, line.1))
 

@@ -5,16 +5,16 @@ use native.Mathlib.Omega.{arith}
 use lib.ListN.{length}
 use borrow.Author.Rules.{rules}
 use Rattle.text.proofs.pair_lines.PairPlaces.{PairAt}
-use Rattle.text.proofs.pair_lines.LineSteps.{LinesLeft, lines_start, pair-next, line-room, lines_step, lines-all}
+use Rattle.text.proofs.pair_lines.LineSteps.{LinesLeft, lines_start, pair_next, line_room, lines_step, lines_all}
 use Rattle.text.proofs.pair_lines.put_pairs.Statement.{statement}
 use Rattle.text.proofs.pair_lines.put_pairs.Tie as tie
 
 abbrev invariant-loop : tie.invariant-loop
-invariant-loop text₀ at pairs left-numbers right-numbers n₀ i₀ text n i =
-    LinesLeft text₀ at pairs left-numbers right-numbers text n i
+invariant-loop text₀ at pairs left_numbers_lem right-numbers n₀ i₀ text n i =
+    LinesLeft text₀ at pairs left_numbers_lem right-numbers text n i
 
 abbrev decreases-loop : tie.decreases-loop
-decreases-loop text₀ at pairs left-numbers right-numbers n₀ i₀ text n i = length pairs - i
+decreases-loop text₀ at pairs left_numbers_lem right-numbers n₀ i₀ text n i = length pairs - i
 
 loop-holds : tie.Need-loop-init invariant-loop decreases-loop
 loop-holds c = lines_start _ _ _ _ _ c.before.before.before.before.requires
@@ -26,7 +26,7 @@ start c = c.before.before.before.before.before.before.before
 next : (c : tie.After-shared-slice-known4 invariant-loop decreases-loop)
     → PairAt (start c).args.left-numbers.now (start c).args.right-numbers.now (start c).args.pairs.now
     c.before.before.loop.i
-next c = pair-next c.before.before.loop.invariant c.before.loop-test.true
+next c = pair_next c.before.before.loop.invariant c.before.loop-test.true
 
 shared-slice-read-left : tie.Need-shared-slice-read-left invariant-loop decreases-loop
 shared-slice-read-left c =
@@ -58,7 +58,7 @@ shared-slice-read-put-pair-2 c =
 
 put-pair-requires : tie.Need-put-pair-requires invariant-loop decreases-loop
 put-pair-requires c κs =
-    line-room c.before.before.before.before.before.before.loop.invariant c.before.before.before.before.before.loop-test.true
+    line_room c.before.before.before.before.before.before.loop.invariant c.before.before.before.before.before.loop-test.true
 
 loop-less : tie.Need-loop-smaller invariant-loop decreases-loop
 loop-less c =
@@ -74,7 +74,7 @@ same_length c =
 
 returns : tie.Need-returns invariant-loop decreases-loop
 returns c =
-    (lines-all c.before.loop.invariant c.loop-test.false, omega (arith, c.before.loop.invariant.room))
+    (lines_all c.before.loop.invariant c.loop-test.false, omega (arith, c.before.loop.invariant.room))
 
 pub put-pairs-spec : {M : Type 1} → statement M
 put-pairs-spec =

@@ -5,14 +5,14 @@ use Prim.Native.Nat.{◌+◌, ◌-◌}
 use native.Mathlib.Omega.{arith}
 use borrow.Author.Rules.{rules}
 use lib.ListN.{length, drop, get_or}
-use Rattle.validation.specs.falls.Falls.{borderFalls}
-use Rattle.validation.proofs.falls.Passes.{borders-next, borders-end, borders-bound}
+use Rattle.validation.specs.falls.Falls.{border_falls}
+use Rattle.validation.proofs.falls.Passes.{borders_next, borders_end, borders_bound}
 use Rattle.validation.proofs.falls.count_border_falls.Statement.{statement}
 use Rattle.validation.proofs.falls.count_border_falls.Tie as tie
 
 abbrev invariant-loop : tie.invariant-loop
 invariant-loop n ends list falls₀ k₀ start₀ found k start =
-    found + borderFalls n start (drop k ends) list ≡ borderFalls n 0 ends list
+    found + border_falls n start (drop k ends) list ≡ border_falls n 0 ends list
 
 abbrev decreases-loop : tie.decreases-loop
 decreases-loop n ends list falls₀ k₀ start₀ found k start = length ends - k
@@ -25,8 +25,8 @@ step : (c : tie.After-border-fall invariant-loop decreases-loop)
     → let a = c.before.before.before.before.before.before.args in
     let found = c.before.before.before.loop.falls + c.border-fall.result in
     let k = c.before.before.before.loop.k in
-    (found + borderFalls a.n (get_or a.ends.now k 0) (drop (k + 1) a.ends.now) a.list.now
-    ≡ borderFalls a.n 0 a.ends.now a.list.now)
+    (found + border_falls a.n (get_or a.ends.now k 0) (drop (k + 1) a.ends.now) a.list.now
+    ≡ border_falls a.n 0 a.ends.now a.list.now)
 step c =
     let at-loop = c.before.before.before in
     let a = at-loop.before.before.before.args in
@@ -34,13 +34,13 @@ step c =
       arith,
       at-loop.loop.invariant,
       c.border-fall.ensures,
-      borders-next a.n a.ends.now a.list.now at-loop.loop.k at-loop.loop.start (omega arith),
+      borders_next a.n a.ends.now a.list.now at-loop.loop.k at-loop.loop.start (omega arith),
     )
 
 add-falls : tie.Need-overflow-add-falls invariant-loop decreases-loop
 add-falls c =
     let a = c.before.before.before.before.before.before.args in
-    omega (arith, step c, borders-bound a.n 0 a.ends.now a.list.now)
+    omega (arith, step c, borders_bound a.n 0 a.ends.now a.list.now)
 
 loop-again : tie.Need-loop-preserved invariant-loop decreases-loop
 loop-again c = step c
@@ -52,7 +52,7 @@ returns c =
     omega (
       arith,
       at-loop.loop.invariant,
-      borders-end a.n a.ends.now a.list.now at-loop.loop.k at-loop.loop.start (omega arith),
+      borders_end a.n a.ends.now a.list.now at-loop.loop.k at-loop.loop.start (omega arith),
     )
 
 pub count-border-falls-spec : {M : Type 1} → statement M

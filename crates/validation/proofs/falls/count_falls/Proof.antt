@@ -7,7 +7,7 @@ use borrow.Author.Rules.{rules}
 use Rattle.lists.specs.Lists.{slice}
 use Rattle.lists.proofs.Slices.{length-slice}
 use Rattle.validation.specs.falls.Falls.{falls}
-use Rattle.validation.proofs.falls.Falls.{falls-next, falls-end, falls-bound}
+use Rattle.validation.proofs.falls.Falls.{falls_next, falls_end, falls_bound}
 use Rattle.validation.proofs.falls.count_falls.Statement.{statement}
 use Rattle.validation.proofs.falls.count_falls.Tie as tie
 
@@ -31,14 +31,14 @@ step c =
       arith,
       at-loop.loop.invariant,
       c.number.ensures,
-      falls-next a.n a.list.now (omega arith) at-loop.loop.e (omega arith),
+      falls_next a.n a.list.now (omega arith) at-loop.loop.e (omega arith),
     )
 
 add-falls : tie.Need-overflow-add-falls invariant-loop decreases-loop
 add-falls c =
     let a = c.before.before.before.before.before.before.args in
     let all = slice 0 a.n a.list.now in
-    omega (arith, step c, falls-bound all, length-slice 0 a.n a.list.now (omega arith))
+    omega (arith, step c, falls_bound all, length-slice 0 a.n a.list.now (omega arith))
 
 loop-again : tie.Need-loop-preserved invariant-loop decreases-loop
 loop-again c = (step c, omega arith)
@@ -47,7 +47,7 @@ returns : tie.Need-returns invariant-loop decreases-loop
 returns c =
     let at-loop = c.before in
     let a = at-loop.before.before.args in
-    omega (arith, at-loop.loop.invariant, falls-end a.n a.list.now (omega arith) at-loop.loop.e (omega arith))
+    omega (arith, at-loop.loop.invariant, falls_end a.n a.list.now (omega arith) at-loop.loop.e (omega arith))
 
 pub count-falls-spec : {M : Type 1} → statement M
 count-falls-spec =

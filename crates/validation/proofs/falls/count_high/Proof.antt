@@ -6,9 +6,9 @@ use native.Mathlib.Omega.{arith}
 use borrow.Author.Rules.{rules}
 use lib.Dec.{leb}
 use Rattle.lists.specs.Lists.{count, slice}
-use Rattle.lists.proofs.Counting.{count-bound}
+use Rattle.lists.proofs.Counting.{count_bound}
 use Rattle.lists.proofs.Slices.{length-slice}
-use Rattle.validation.proofs.falls.Passes.{high-next, high_end}
+use Rattle.validation.proofs.falls.Passes.{high_next, high_end}
 use Rattle.validation.proofs.falls.count_high.Statement.{statement}
 use Rattle.validation.proofs.falls.count_high.Tie as tie
 
@@ -32,14 +32,14 @@ step c =
       arith,
       at-loop.loop.invariant,
       c.number.ensures,
-      high-next a.t a.n a.list.now (omega arith) at-loop.loop.e (omega arith),
+      high_next a.t a.n a.list.now (omega arith) at-loop.loop.e (omega arith),
     )
 
 add-high : tie.Need-overflow-add-high invariant-loop decreases-loop
 add-high c =
     let a = c.before.before.before.before.before.args in
     let all = slice 0 a.n a.list.now in
-    omega (arith, step c, count-bound (leb a.t) all, length-slice 0 a.n a.list.now (omega arith))
+    omega (arith, step c, count_bound (leb a.t) all, length-slice 0 a.n a.list.now (omega arith))
 
 loop-again : tie.Need-loop-preserved invariant-loop decreases-loop
 loop-again c = step c

@@ -4,13 +4,13 @@ use mathlib.Core.Path.{◌≡◌, refl, sym, ◌∙◌}
 use Prim.Native.Nat.{◌-◌}
 use native.Mathlib.Omega.{arith}
 use lib.ListN.{length, drop}
-use Rattle.validation.specs.falls.Falls.{goodEnds}
-use Rattle.validation.proofs.falls.Ends.{ends_low, ends-long, ends_next, ends-end}
+use Rattle.validation.specs.falls.Falls.{good_ends}
+use Rattle.validation.proofs.falls.Ends.{ends_low, ends_long, ends_next, ends_end}
 use Rattle.validation.proofs.falls.good_ends.Statement.{statement}
 use Rattle.validation.proofs.falls.good_ends.Tie as tie
 
 abbrev invariant-loop : tie.invariant-loop
-invariant-loop longest ends k₀ before₀ k before = goodEnds longest before (drop k ends) ≡ goodEnds longest 0 ends
+invariant-loop longest ends k₀ before₀ k before = good_ends longest before (drop k ends) ≡ good_ends longest 0 ends
 
 abbrev decreases-loop : tie.decreases-loop
 decreases-loop longest ends k₀ before₀ k before = length ends - k
@@ -33,7 +33,7 @@ returns-2 c =
     let at-loop = c.before.before.before.before in
     let a = at-loop.before.args in
     sym
-    (ends-long a.longest a.ends.now at-loop.loop.k at-loop.loop.before (omega arith) (omega arith) c.if2.true)
+    (ends_long a.longest a.ends.now at-loop.loop.k at-loop.loop.before (omega arith) (omega arith) c.if2.true)
     ∙ at-loop.loop.invariant
 
 loop-again : tie.Need-loop-preserved invariant-loop decreases-loop
@@ -48,7 +48,7 @@ returns-3 : tie.Need-returns-3 invariant-loop decreases-loop
 returns-3 c =
     let at-loop = c.before in
     let a = at-loop.before.args in
-    sym (ends-end a.longest a.ends.now at-loop.loop.k at-loop.loop.before c.loop-test.false)
+    sym (ends_end a.longest a.ends.now at-loop.loop.k at-loop.loop.before c.loop-test.false)
     ∙ at-loop.loop.invariant
 
 pub good-ends-spec : {M : Type 1} → statement M

@@ -3,7 +3,7 @@ use Prim.Native.Nat.{◌-◌}
 use native.Mathlib.Omega.{arith}
 use borrow.Author.Rules.{rules}
 use borrow.Author.Tests.{lt-leb, le-leb}
-use Rattle.sets.specs.Limits.{maxSetLength}
+use Rattle.sets.specs.Limits.{max_set_length}
 use Rattle.sets.proofs.Between.{length-between}
 use Rattle.validation.proofs.one_set.good_items.Statement.{statement}
 use Rattle.validation.proofs.one_set.good_items.Tie as tie
@@ -13,7 +13,7 @@ returns c =
     let a = c.before.before.args in
     rw (
       length-between a.start a.end a.items.now (omega arith),
-      lt-leb (a.end - a.start) maxSetLength (omega arith),
+      lt-leb (a.end - a.start) max_set_length (omega arith),
     )
 
 returns-2 : tie.Need-returns-2
@@ -21,7 +21,7 @@ returns-2 c =
     let a = c.before.before.before.args in
     rw (
       length-between a.start a.end a.items.now (omega arith),
-      le-leb (a.end - a.start) maxSetLength (omega arith),
+      le-leb (a.end - a.start) max_set_length (omega arith),
     ) c.rises-below.ensures
 
 pub good-items-spec : {M : Type 1} → statement M

@@ -3,7 +3,7 @@ use native.Mathlib.Omega.{arith}
 use borrow.Author.Rules.{rules}
 use borrow.Author.Tests.{lt-leb, le-leb}
 use lib.ListN.{length}
-use Rattle.sets.specs.Limits.{maxEntries}
+use Rattle.sets.specs.Limits.{max_entries}
 use Rattle.validation.proofs.one_set.good_set.Statement.{statement}
 use Rattle.validation.proofs.one_set.good_set.Tie as tie
 
@@ -13,14 +13,14 @@ returns c = rw (lt-leb c.before.before.args.start c.before.before.args.end c.if1
 returns-2 : tie.Need-returns-2
 returns-2 c =
     let a = c.before.before.before.args in
-    rw (le-leb a.start a.end (omega arith), lt-leb a.end maxEntries (omega arith))
+    rw (le-leb a.start a.end (omega arith), lt-leb a.end max_entries (omega arith))
 
 returns-3 : tie.Need-returns-3
 returns-3 c =
     let a = c.before.before.before.before.args in
     rw (
       le-leb a.start a.end (omega arith),
-      le-leb a.end maxEntries (omega arith),
+      le-leb a.end max_entries (omega arith),
       lt-leb a.end (length a.items.now) (omega arith),
     )
 
@@ -29,7 +29,7 @@ returns-4 c =
     let a = c.before.before.before.before.before.args in
     rw (
       le-leb a.start a.end (omega arith),
-      le-leb a.end maxEntries (omega arith),
+      le-leb a.end max_entries (omega arith),
       le-leb a.end (length a.items.now) (omega arith),
     ) c.good-items.ensures
 

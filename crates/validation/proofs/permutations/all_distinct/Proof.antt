@@ -8,14 +8,14 @@ use native.Mathlib.Omega.{arith}
 use borrow.Author.Tests.{ltb-true}
 use lib.Dec.{eqb, ltb}
 use lib.ListN.{length, drop, get_or, length-set}
-use Rattle.lists.proofs.Throughout.{all-at}
-use Rattle.validation.proofs.permutations.Fresh.{freshIn, fresh_start, fresh-next, fresh-end}
+use Rattle.lists.proofs.Throughout.{all_at}
+use Rattle.validation.proofs.permutations.Fresh.{fresh_in, fresh_start, fresh_next, fresh_end}
 use Rattle.validation.proofs.permutations.all_distinct.Statement.{statement}
 use Rattle.validation.proofs.permutations.all_distinct.Tie as tie
 
 record FreshLeft (ranks was seen : List ℕ) (again i : ℕ) : Type 0 where
   low : i ≤ length ranks
-  left : (eqb again 0 && freshIn seen (drop i ranks)) ≡ freshIn was ranks
+  left : (eqb again 0 && fresh_in seen (drop i ranks)) ≡ fresh_in was ranks
   same : length seen ≡ length was
 
 abbrev invariant-loop : tie.invariant-loop
@@ -36,7 +36,7 @@ marked c =
       arith,
       c.before.before.before.loop.invariant.same,
       ltb-true (get_or a.ranks.now i 0) (length a.seen.now)
-          (all-at (λ x. ltb x (length a.seen.now)) 0 a.ranks.now pre.1 i (omega arith)),
+          (all_at (λ x. ltb x (length a.seen.now)) 0 a.ranks.now pre.1 i (omega arith)),
     )
 
 loop-holds : tie.Need-loop-init invariant-loop decreases-loop
@@ -57,7 +57,7 @@ loop-again c =
     let l = c.before.before.before.loop in
     record {
       low = omega arith;
-      left = fresh-next l.i l.seen a.ranks.now l.again (omega arith) ∙ l.invariant.left;
+      left = fresh_next l.i l.seen a.ranks.now l.again (omega arith) ∙ l.invariant.left;
       same = length-set l.seen (get_or a.ranks.now l.i 0) 1 ∙ l.invariant.same;
     }
 
@@ -68,7 +68,7 @@ returns : tie.Need-returns invariant-loop decreases-loop
 returns c =
     let a = c.before.before.args in
     let l = c.before.loop in
-    sym (fresh-end l.i l.seen a.ranks.now l.again (omega arith)) ∙ l.invariant.left
+    sym (fresh_end l.i l.seen a.ranks.now l.again (omega arith)) ∙ l.invariant.left
     ∙ fresh_start a.seen.now a.ranks.now c.before.before.requires.0 c.before.before.requires.1
 
 pub all-distinct-spec : {M : Type 1} → statement M

@@ -5,7 +5,7 @@ use mathlib.Core.Path.{◌≡◌, refl}
 use mathlib.Core.Bool.{true}
 use native.Mathlib.Omega.{arith}
 use Rattle.words.proofs.flags.Keeping.{Keeping, keeping_start, keeping_step}
-use Rattle.words.proofs.copies.Copying.{copying-end}
+use Rattle.words.proofs.copies.Copying.{copying_end}
 use Rattle.words.proofs.copies.copy_words.Statement.{statement}
 use Rattle.words.proofs.copies.copy_words.Tie as tie
 
@@ -93,7 +93,7 @@ same_length : tie.Need-same-length invariant-loop decreases-loop
 same_length c = c.before.loop.invariant.0.changed.size
 
 returns : tie.Need-returns invariant-loop decreases-loop
-returns c = copying-end c.before.loop.invariant.0 c.before.loop.invariant.1 c.loop-test.false
+returns c = copying_end c.before.loop.invariant.0 c.before.loop.invariant.1 c.loop-test.false
 
 pub copy-words-spec : {M : Type 1} → statement M
 copy-words-spec =

@@ -3,14 +3,14 @@
 use Prim.Native.Nat.{◌-◌, ◌≤◌, ◌<◌}
 use native.Mathlib.Omega.{arith}
 use lib.ListN.{length, get_or}
-use Rattle.words.specs.flags.Flags.{isFlagged}
+use Rattle.words.specs.flags.Flags.{is_flagged}
 use Rattle.words.proofs.flags.Flagging.{flag_small}
-use Rattle.words.proofs.flags.Keeping.{Keeping, keeping_start, keeping_step, keeping-end, keeping-small}
+use Rattle.words.proofs.flags.Keeping.{Keeping, keeping_start, keeping_step, keeping_end, keeping_small}
 use Rattle.words.proofs.flags.keep_flagged.Statement.{statement}
 use Rattle.words.proofs.flags.keep_flagged.Tie as tie
 
 abbrev invariant-loop : tie.invariant-loop
-invariant-loop work₀ c e out flags j₀ n₀ work j n = Keeping (isFlagged flags) work₀ c e out work j n
+invariant-loop work₀ c e out flags j₀ n₀ work j n = Keeping (is_flagged flags) work₀ c e out work j n
 
 abbrev decreases-loop : tie.decreases-loop
 decreases-loop work₀ c e out flags j₀ n₀ work j n = e - j
@@ -39,7 +39,7 @@ word_low : (c : tie.After-slice-known invariant-loop decreases-loop)
 word_low c =
     let at-loop = c.before.before in
     let asked = at-loop.before.requires in
-    keeping-small at-loop.loop.invariant asked.1.0 c.before.loop-test.true asked.0
+    keeping_small at-loop.loop.invariant asked.1.0 c.before.loop-test.true asked.0
 
 -- which is 1 at the most
 flag-low : (c : tie.After-slice-known invariant-loop decreases-loop)
@@ -78,7 +78,7 @@ same_length : tie.Need-same-length invariant-loop decreases-loop
 same_length c = c.before.loop.invariant.changed.size
 
 returns : tie.Need-returns invariant-loop decreases-loop
-returns c = keeping-end c.before.loop.invariant c.loop-test.false
+returns c = keeping_end c.before.loop.invariant c.loop-test.false
 
 pub keep-flagged-spec : {M : Type 1} → statement M
 keep-flagged-spec =

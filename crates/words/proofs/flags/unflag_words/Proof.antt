@@ -2,7 +2,7 @@
 -- flagged only those from place i on may still be. The measure is what remains of the part.
 use Prim.Native.Nat.{◌-◌}
 use native.Mathlib.Omega.{arith}
-use Rattle.words.proofs.flags.Flagging.{Unflagging, unflagging-start, unflagging-low, unflagging-step, unflagging-end}
+use Rattle.words.proofs.flags.Flagging.{Unflagging, unflagging_start, unflagging_low, unflagging_step, unflagging_end}
 use Rattle.words.proofs.flags.unflag_words.Statement.{statement}
 use Rattle.words.proofs.flags.unflag_words.Tie as tie
 
@@ -13,7 +13,7 @@ abbrev decreases-loop : tie.decreases-loop
 decreases-loop work a b flags₀ i₀ flags i = b - i
 
 loop-holds : tie.Need-loop-init invariant-loop decreases-loop
-loop-holds c = unflagging-start c.before.before.requires.0 c.before.before.requires.1
+loop-holds c = unflagging_start c.before.before.requires.0 c.before.before.requires.1
 
 word-at-requires : tie.Need-word-at-requires invariant-loop decreases-loop
 word-at-requires c κs = omega (arith, c.loop-test.true, c.before.before.before.before.requires.0.within)
@@ -21,7 +21,7 @@ word-at-requires c κs = omega (arith, c.loop-test.true, c.before.before.before.
 slice-write-flags : tie.Need-slice-write-flags invariant-loop decreases-loop
 slice-write-flags c =
     let at-loop = c.before.before in
-    unflagging-low at-loop.before.before.before.requires.0 at-loop.loop.invariant c.before.loop-test.true c.word_at.ensures
+    unflagging_low at-loop.before.before.before.requires.0 at-loop.loop.invariant c.before.loop-test.true c.word_at.ensures
 
 add-i : tie.Need-overflow-add-i invariant-loop decreases-loop
 add-i c = omega (arith, c.before.loop-test.true)
@@ -32,13 +32,13 @@ loop-less c = omega (arith, c.before.loop-test.true)
 loop-again : tie.Need-loop-preserved invariant-loop decreases-loop
 loop-again c =
     let at-loop = c.before.before in
-    unflagging-step at-loop.before.before.before.requires.0 at-loop.loop.invariant c.before.loop-test.true c.word_at.ensures
+    unflagging_step at-loop.before.before.before.requires.0 at-loop.loop.invariant c.before.loop-test.true c.word_at.ensures
 
 same_length : tie.Need-same-length invariant-loop decreases-loop
 same_length c = c.before.loop.invariant.size
 
 returns : tie.Need-returns invariant-loop decreases-loop
-returns c = unflagging-end c.before.before.before.before.requires.0 c.before.loop.invariant c.loop-test.false
+returns c = unflagging_end c.before.before.before.before.requires.0 c.before.loop.invariant c.loop-test.false
 
 pub unflag-words-spec : {M : Type 1} → statement M
 unflag-words-spec =

@@ -3,7 +3,7 @@ use mathlib.Core.Path.{ap, ◌∙◌}
 use native.Mathlib.Omega.{arith}
 use Prim.Native.Nat.{ℕ}
 use lib.Dec.{eqb}
-use Rattle.words.proofs.found.Halving.{among_none, among-at}
+use Rattle.words.proofs.found.Halving.{among_none, among_at}
 use Rattle.words.proofs.found.is_among.Statement.{statement}
 use Rattle.words.proofs.found.is_among.Tie as tie
 
@@ -24,7 +24,7 @@ returns-2 c =
     let inside = c.before in
     let start = inside.before.before.before in
     ap (λ (y : ℕ). eqb y start.args.x) c.word_at.ensures.is
-    ∙ among-at start.requires.1 inside.before.lower.ensures inside.if1.false
+    ∙ among_at start.requires.1 inside.before.lower.ensures inside.if1.false
 
 pub is-among-spec : {M : Type 1} → statement M
 is-among-spec = tie.close (tie.spec lower-requires returns word-at-requires returns-2)

@@ -11,7 +11,7 @@ use lib.ListN.{length, get_or, set}
 use Rattle.lists.specs.Lists.{one, memb, rising, slice}
 use Rattle.lists.proofs.Slices.{frame-slice}
 use Rattle.words.specs.Merges.{Rising}
-use Rattle.words.proofs.flags.Keeping.{Keeping, keeping_start, keeping_step, keeping-end}
+use Rattle.words.proofs.flags.Keeping.{Keeping, keeping_start, keeping_step, keeping_end}
 use Rattle.words.proofs.found.keep_found.Statement.{statement}
 use Rattle.words.proofs.found.keep_found.Tie as tie
 
@@ -95,7 +95,7 @@ same_length : tie.Need-same-length invariant-loop decreases-loop
 same_length c = c.before.loop.invariant.changed.size
 
 returns : tie.Need-returns invariant-loop decreases-loop
-returns c = keeping-end c.before.loop.invariant c.loop-test.false
+returns c = keeping_end c.before.loop.invariant c.loop-test.false
 
 pub keep-found-spec : {M : Type 1} → statement M
 keep-found-spec =

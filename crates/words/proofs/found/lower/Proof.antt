@@ -3,7 +3,7 @@ use Prim.Native.Nat.{ℕ, ◌+◌, ◌-◌, ◌/◌, ◌<◌, ◌≤◌}
 use mathlib.Core.Path.{◌≡◌, ap}
 use native.Mathlib.Omega.{arith}
 use lib.ListN.{length}
-use Rattle.words.proofs.found.Halving.{Halving, halving-start, halving-up, halving-down, halving-end}
+use Rattle.words.proofs.found.Halving.{Halving, halving_start, halving-up, halving-down, halving_end}
 use Rattle.words.proofs.found.lower.Statement.{statement}
 use Rattle.words.proofs.found.lower.Tie as tie
 
@@ -22,7 +22,7 @@ inside c = omega (arith, c.before.loop.invariant.high, (start c).requires.1.with
 
 loop-holds : tie.Need-loop-init invariant-loop decreases-loop
 loop-holds c =
-    let s = c.before in halving-start s.args.a s.args.b s.args.x s.args.work.now s.requires.0
+    let s = c.before in halving_start s.args.a s.args.b s.args.x s.args.work.now s.requires.0
 
 add-mid : tie.Need-overflow-add-mid invariant-loop decreases-loop
 add-mid c = omega (arith, inside c, (start c).well-formed)
@@ -52,7 +52,7 @@ loop-again-2 c =
     (omega (arith, c.before.word_at.ensures.is, c.if1.false))
 
 returns : tie.Need-returns invariant-loop decreases-loop
-returns c = halving-end c.before.loop.invariant c.loop-test.false
+returns c = halving_end c.before.loop.invariant c.loop-test.false
 
 pub lower_spec : {M : Type 1} → statement M
 lower_spec =

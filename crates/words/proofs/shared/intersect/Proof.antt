@@ -6,9 +6,9 @@ use mathlib.Core.Path.{◌≡◌, ◌∙◌}
 use lib.ListN.{length}
 use native.Mathlib.Omega.{arith}
 use borrow.Author.Rules.{rules}
-use Rattle.words.specs.flags.Flags.{flagRoom}
-use Rattle.words.proofs.flags.Flagging.{below_length, flagged-own}
-use Rattle.words.proofs.shared.Sharing.{found-shared, kept-shared, below-changed, flagged-changed}
+use Rattle.words.specs.flags.Flags.{flag_room}
+use Rattle.words.proofs.flags.Flagging.{below_length, flagged_own}
+use Rattle.words.proofs.shared.Sharing.{found_shared, kept_shared, below_changed, flagged_changed}
 use Rattle.words.proofs.shared.intersect.Statement.{statement}
 use Rattle.words.proofs.shared.intersect.Tie as tie
 
@@ -28,7 +28,7 @@ returns : tie.Need-returns
 returns c =
     let found = c.before.before in
     let asked = found.before.before.before.before.before.before.requires in
-    (found-shared asked.0 asked.1.0 found.keep-found.ensures, asked.1.1.1.1.1)
+    (found_shared asked.0 asked.1.0 found.keep-found.ensures, asked.1.1.1.1.1)
 
 flag-words-requires : tie.Need-flag-words-requires
 flag-words-requires c κs =
@@ -37,7 +37,7 @@ flag-words-requires c κs =
     (below_length start.args.flags.now clear.size start.requires.1.1.1.0, clear.none)
 
 -- the table is as long after the flagging
-flags-size : (c : tie.After-flag-words) → length {A = ℕ} c.flag-words.new.1.1.1.0 ≡ flagRoom
+flags-size : (c : tie.After-flag-words) → length {A = ℕ} c.flag-words.new.1.1.1.0 ≡ flag_room
 flags-size c = c.flag-words.auto.1.1.1.0 ∙ c.before.before.before.before.before.before.before.requires.1.1.1.1.1.size
 
 keep-flagged-requires : tie.Need-keep-flagged-requires
@@ -46,7 +46,7 @@ keep-flagged-requires c κs =
     let start = flagged.before.before.before.before.before.before.before in
     let apart = start.requires.1.1.0 in (
       below_length flagged.flag-words.new.1.1.1.0 (flags-size flagged) start.requires.1.1.1.1.0,
-      (record { low = apart.second; room = apart.room }, flagged-own flagged.flag-words.ensures),
+      (record { low = apart.second; room = apart.room }, flagged_own flagged.flag-words.ensures),
     )
 
 unflag-words-requires : tie.Need-unflag-words-requires
@@ -57,8 +57,8 @@ unflag-words-requires c κs =
     let apart = start.requires.1.1.0 in
     let changed = kept.keep-flagged.ensures.changed in (
       below_length flagged.flag-words.new.1.1.1.0 (flags-size flagged)
-          (below-changed start.args.a apart.first changed start.requires.1.1.1.0),
-      flagged-changed start.args.a apart.first changed flagged.flag-words.ensures,
+          (below_changed start.args.a apart.first changed start.requires.1.1.1.0),
+      flagged_changed start.args.a apart.first changed flagged.flag-words.ensures,
     )
 
 returns-2 : tie.Need-returns-2
@@ -68,7 +68,7 @@ returns-2 c =
     let flagged = kept.before.before.before.before.before in
     let start = flagged.before.before.before.before.before.before.before in
     let flags = flagged.flag-words.new.1.1.1.0 in (
-      kept-shared start.requires.0 start.requires.1.0 (below_length flags (flags-size flagged) start.requires.1.1.1.1.0)
+      kept_shared start.requires.0 start.requires.1.0 (below_length flags (flags-size flagged) start.requires.1.1.1.1.0)
           flagged.flag-words.ensures kept.keep-flagged.ensures,
       record {
         size = cleared.unflag-words.auto.1.1.1.0 ∙ flags-size flagged;

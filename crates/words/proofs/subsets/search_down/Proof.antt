@@ -2,7 +2,7 @@
 use mathlib.Core.Path.{refl}
 use Prim.Native.Nat.{◌-◌}
 use native.Mathlib.Omega.{arith}
-use Rattle.words.proofs.Trimming.{Trimming, trimming-stop, trimming-other, trimming-same, trimming-end}
+use Rattle.words.proofs.Trimming.{Trimming, trimming_stop, trimming_other, trimming_same, trimming_end}
 use Rattle.words.proofs.subsets.search_down.Statement.{statement}
 use Rattle.words.proofs.subsets.search_down.Tie as tie
 
@@ -15,7 +15,7 @@ decreases-loop work a b c e i₀ j₀ i j = i - a
 loop-holds : tie.Need-loop-init invariant-loop decreases-loop
 loop-holds c =
     let asked = c.before.requires in
-    record { first = omega arith; second = omega arith; firstRises = asked.0.rise; secondRises = asked.1.rise; same = refl }
+    record { first = omega arith; second = omega arith; first_rises = asked.0.rise; second_rises = asked.1.rise; same = refl }
 
 skip-higher-requires : tie.Need-skip-higher-requires invariant-loop decreases-loop
 skip-higher-requires c κs =
@@ -23,8 +23,8 @@ skip-higher-requires c κs =
     let m = c.before.loop.invariant in (
       c.loop-test.true,
       (
-        record { within = omega (arith, m.first, start.requires.0.within); rise = m.firstRises },
-        record { within = omega (arith, m.second, start.requires.1.within); rise = m.secondRises },
+        record { within = omega (arith, m.first, start.requires.0.within); rise = m.first_rises },
+        record { within = omega (arith, m.second, start.requires.1.within); rise = m.second_rises },
       ),
     )
 
@@ -33,7 +33,7 @@ returns c =
     let skip = c.before in
     let at-loop = skip.before.before in
     let asked = at-loop.before.before.requires in
-    trimming-stop at-loop.loop.invariant skip.skip-higher.ensures asked.0 asked.1 skip.before.loop-test.true
+    trimming_stop at-loop.loop.invariant skip.skip-higher.ensures asked.0 asked.1 skip.before.loop-test.true
     c.if1.true
 
 returns-2 : tie.Need-returns-2 invariant-loop decreases-loop
@@ -41,7 +41,7 @@ returns-2 c =
     let skip = c.before.before.before.before in
     let at-loop = skip.before.before in
     let asked = at-loop.before.before.requires in
-    trimming-other at-loop.loop.invariant skip.skip-higher.ensures asked.0 asked.1 skip.before.loop-test.true
+    trimming_other at-loop.loop.invariant skip.skip-higher.ensures asked.0 asked.1 skip.before.loop-test.true
     (omega (arith, c.before.before.before.if1.false)) c.if2.true
 
 loop-again : tie.Need-loop-preserved invariant-loop decreases-loop
@@ -49,11 +49,11 @@ loop-again c =
     let skip = c.before.before.before.before in
     let at-loop = skip.before.before in
     let asked = at-loop.before.before.requires in
-    trimming-same at-loop.loop.invariant skip.skip-higher.ensures asked.0 asked.1 skip.before.loop-test.true
+    trimming_same at-loop.loop.invariant skip.skip-higher.ensures asked.0 asked.1 skip.before.loop-test.true
     (omega (arith, c.before.before.before.if1.false)) c.if2.false
 
 returns-3 : tie.Need-returns-3 invariant-loop decreases-loop
-returns-3 c = trimming-end c.before.loop.invariant c.loop-test.false
+returns-3 c = trimming_end c.before.loop.invariant c.loop-test.false
 
 pub search-down-spec : {M : Type 1} → statement M
 search-down-spec =

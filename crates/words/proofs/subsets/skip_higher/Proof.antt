@@ -3,7 +3,7 @@
 use mathlib.Core.Path.{refl}
 use Prim.Native.Nat.{◌-◌}
 use native.Mathlib.Omega.{arith}
-use Rattle.words.proofs.Trimming.{Skipping, skipped, skipping-next}
+use Rattle.words.proofs.Trimming.{Skipping, skipped, skipping_next}
 use Rattle.words.proofs.subsets.skip_higher.Statement.{statement}
 use Rattle.words.proofs.subsets.skip_higher.Tie as tie
 
@@ -24,7 +24,7 @@ loop-again : tie.Need-loop-preserved invariant-loop decreases-loop
 loop-again c =
     let at-loop = c.before.before.before in
     let asked = at-loop.before.before.requires in
-    skipping-next at-loop.loop.invariant asked.0 asked.1.0 asked.1.1 c.before.before.loop-test.true
+    skipping_next at-loop.loop.invariant asked.0 asked.1.0 asked.1.1 c.before.before.loop-test.true
     (omega (arith, c.if1.false))
 
 returns-2 : tie.Need-returns-2 invariant-loop decreases-loop

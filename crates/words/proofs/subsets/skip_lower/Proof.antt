@@ -3,7 +3,7 @@
 use mathlib.Core.Path.{refl}
 use Prim.Native.Nat.{◌-◌}
 use native.Mathlib.Omega.{arith}
-use Rattle.words.proofs.Advancing.{Passing, passed, passing-next}
+use Rattle.words.proofs.Advancing.{Passing, passed, passing_next}
 use Rattle.words.proofs.subsets.skip_lower.Statement.{statement}
 use Rattle.words.proofs.subsets.skip_lower.Tie as tie
 
@@ -23,7 +23,7 @@ loop-again : tie.Need-loop-preserved invariant-loop decreases-loop
 loop-again c =
     let at-loop = c.before.before.before in
     let asked = at-loop.before.before.requires in
-    passing-next at-loop.loop.invariant asked.0 asked.1.0 asked.1.1 c.before.before.loop-test.true
+    passing_next at-loop.loop.invariant asked.0 asked.1.0 asked.1.1 c.before.before.loop-test.true
     (omega (arith, c.if1.false))
 
 returns-2 : tie.Need-returns-2 invariant-loop decreases-loop
