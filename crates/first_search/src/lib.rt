@@ -1,5 +1,7 @@
 // The first left set that is contained in one right set: the right set's items as a bit set, and the left sets probed one by one,
 // in place order, until one has items and all of them are there. Nothing is sorted and no index is built.
+#![tactic(auto)]
+
 use bit_sets::{contains_part, insert_part};
 use first_search_spec::{FirstAnswer, Search};
 use inputs::{test_items, test_lone, test_side};

@@ -1,6 +1,9 @@
+#![tactic(auto)]
+
+const STDOUT_FILENO: i32 = 1;
+
 // The search for the first kit on document 01's shelf and at its edges: empty kits, no kits, T = 0 and 4,096, and each refusal. A line says
 // the case and the six words of the answer.
-use libc::STDOUT_FILENO;
 
 fn show_number(n: u64) {
     io::write_all(STDOUT_FILENO, b" ");

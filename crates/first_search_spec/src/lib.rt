@@ -1,9 +1,11 @@
 // What the search for the first left set means: its answer, defined in specs/, and in proofs/ the laws about it that need no code. The
 // code that meets it is in `first_search`.
+#![tactic(auto)]
+
 use sets::{Refusal, head_of};
 
 // What a search found: whether there is a left set, its place (0 if none), and how many were compared.
-#[derive(Drop)]
+#[derive(Clone, Copy)]
 pub struct Search {
     pub found: bool,
     pub place: usize,
@@ -11,7 +13,7 @@ pub struct Search {
 }
 
 // What the search for the first left set answers.
-#[derive(Drop)]
+#[derive(Clone, Copy)]
 pub enum FirstAnswer {
     Searched(Search),
     Refused(Refusal),

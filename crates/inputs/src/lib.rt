@@ -1,5 +1,7 @@
 // The tests of what is lent, shared by the operations over both collections. Each answers `Tested`; an operation makes the ones it
 // needs, in the order of the refusal table. And containment of one set of items in another.
+#![tactic(auto)]
+
 ghost use Rattle.std.specs.Prelude.{◌≡◌, true};
 ghost use Rattle.lists.specs.Lists.{rising};
 ghost use Rattle.sets.specs.Collections.{contained};

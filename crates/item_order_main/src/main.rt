@@ -1,8 +1,11 @@
 // The order of items on document 01's shelf and at its edges: T = 0, empty sets, ties, both directions, and each refusal.
 // A line says the case, the answer's number with its detail (0 where it is accepted), and the rank list afterwards.
+#![tactic(auto)]
+
 use item_order_spec::OrderAnswer;
-use libc::STDOUT_FILENO;
 use sets::Refusal;
+
+const STDOUT_FILENO: i32 = 1;
 
 fn show_number(n: u64) {
     io::write_all(STDOUT_FILENO, b" ");

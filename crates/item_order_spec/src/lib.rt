@@ -1,9 +1,11 @@
 // What the order of items means (document 01, "Order of tags"): its answer, defined in specs/, and in proofs/ the laws about it that
 // need no code. The code that meets it is in `item_order`.
+#![tactic(auto)]
+
 use sets::{Refusal, head_of};
 
 // What the order of items answers.
-#[derive(Drop)]
+#[derive(Clone, Copy)]
 pub enum OrderAnswer {
     Ordered,
     Refused(Refusal),

@@ -1,5 +1,7 @@
 // The set containment join, which document 01 calls the run: its tests (`validate`), the index, the walk, its answer
 // (`join_check::tally_answer`) and the pair list (`output`). The same with the rule as a number is for the C boundary.
+#![tactic(auto)]
+
 ghost use Rattle.std.specs.Prelude.{◌≡◌, length};
 ghost use Rattle.sets.specs.Collections.{sets_of};
 ghost use Rattle.join_spec.specs.PairList.{pair_list};

@@ -90,7 +90,7 @@ pub fn count_seen(work: &[u32], lay: Layout, from: usize, to: usize, r: usize) -
 }
 
 // The range left_order[lo..hi].
-#[derive(Drop)]
+#[derive(Clone, Copy)]
 pub struct Span {
     pub lo: usize,
     pub hi: usize,

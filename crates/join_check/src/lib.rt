@@ -1,5 +1,7 @@
 // The checks of left sets against right sets, and the counters that they raise. `keys` reads what parts the left sets off the index;
 // `gather` checks a whole subtree; `tally_answer` makes the answer of a join from the counters. The work list is read by its layout.
+#![tactic(auto)]
+
 ghost use Rattle.std.specs.Prelude.{◌≡◌, ◌+◌, ◌-◌, ◌*◌, ◌<◌};
 ghost use Rattle.sets.specs.Limits.{full_words};
 ghost use Rattle.words.specs.Merges.{Rising};
@@ -19,7 +21,7 @@ pub mod keys;
 pub mod tally_answer;
 
 // The counters of a walk: pairs by path, and the checks by how they ended.
-#[derive(Drop)]
+#[derive(Clone, Copy)]
 pub struct Tally {
     pub by_path: u32,
     pub confirmed: u32,
@@ -32,7 +34,7 @@ const MANY_RANKS: usize = 16;
 
 // What remains of a left set to be checked: its signature, and where its ranks off the merged path are. They are compared from the
 // lowest up, or from the highest down.
-#[derive(Drop)]
+#[derive(Clone, Copy)]
 pub struct Probe {
     pub signature: u64,
     pub from: usize,
@@ -41,7 +43,7 @@ pub struct Probe {
 }
 
 // How a check ends: by the signatures, or by the ranks.
-#[derive(Drop)]
+#[derive(Clone, Copy)]
 pub enum Checked {
     Dropped,
     FalseDrop,

@@ -3,6 +3,8 @@
 // its readers may ask. `regions` says where they lie, `stages` sorts the right sets by least rank and the left sets, `build` builds it
 // all.
 
+#![tactic(auto)]
+
 ghost use Rattle.std.specs.Prelude.{◌≡◌};
 ghost use Rattle.join_index.specs.Ground.{asks_seen};
 
@@ -14,7 +16,7 @@ pub mod stages;
 
 // Where each region of the work list begins. Nothing below the slots changes during the walk. An offsets region and the region that it
 // counts from are what one counting sort leaves behind.
-#[derive(Drop)]
+#[derive(Clone, Copy)]
 pub struct Layout {
     // Where a rank's inverted list begins, counted from index (and from slots): one word a rank and one more.
     pub offsets: usize,

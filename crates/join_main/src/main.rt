@@ -5,11 +5,16 @@
 // - T, limit, budget, rule (0 Merge, 1 Check, 2 Weighed), four codes of weights, words of the work list, places of the pair list;
 // - where the left and the right ends stop, in one list, and where left items, right items and ranks stop, in another;
 // - the two lists.
+#![tactic(auto)]
+
 ghost use Rattle.std.specs.Prelude.{◌≤◌, length};
 
 use join_spec::{Counts, JoinAnswer, Rule, Weights};
-use libc::{STDIN_FILENO, STDOUT_FILENO};
 use sets::Refusal;
+
+const STDIN_FILENO: i32 = 0;
+
+const STDOUT_FILENO: i32 = 1;
 
 // The most lines of a table; the numbers of a case before its lists; the most ends and the most items and ranks of a case.
 const LINES: usize = 64;
@@ -102,7 +107,7 @@ fn rule_of(rule: u32, a: u32, b: u32, g: u32, h: u32) -> Rule {
 }
 
 // The numbers before a case's bounds.
-#[derive(Drop)]
+#[derive(Clone, Copy)]
 struct Setting {
     t: u32,
     limit: u32,
@@ -209,7 +214,7 @@ fn run_parts(h: &[u32; NUMBERS], ends: &[u32], halves: &[u16]) {
 }
 
 // A number of the table and the place after the byte that follows it.
-#[derive(Drop)]
+#[derive(Clone, Copy)]
 struct Step {
     value: u32,
     next: usize,

@@ -22,7 +22,7 @@ use kept_rows::keep_list;
 use words::word_at;
 
 // The left sets before mid were paired by path.
-#[derive(Drop)]
+#[derive(Clone, Copy)]
 pub struct Settled {
     pub mid: usize,
     pub at: Progress,

@@ -15,7 +15,7 @@ use kept_rows::keep_list;
 
 // How far the walk came at a node before its children: the left sets from mid on go on to them, with the candidates listed in
 // work[from..to]. There are none if the visit is over.
-#[derive(Drop)]
+#[derive(Clone, Copy)]
 pub struct Entered {
     pub at: Progress,
     pub spent: bool,

@@ -1,11 +1,13 @@
 // A node of the walk: its left sets and its candidates, and what becomes of them. `decide` says whether the walk goes on there,
 // `narrow` finds the candidates after it. `blocks` settles left sets with no child to visit, with `block_checks` for checks within the
 // budget; `lone` pairs a left set that is alone; `enter` takes a node up to its children.
+#![tactic(auto)]
+
 use join_check::Tally;
 use join_spec::Rule;
 
 // The settings that bear on the walk.
-#[derive(Drop)]
+#[derive(Clone, Copy)]
 pub struct WalkSettings {
     pub limit: usize,
     pub rule: Rule,
@@ -13,14 +15,14 @@ pub struct WalkSettings {
 }
 
 // How far the walk has come: its counters, and where the kept rows end.
-#[derive(Drop)]
+#[derive(Clone, Copy)]
 pub struct Progress {
     pub tally: Tally,
     pub top: usize,
 }
 
 // How far the walk has come after a part of it, and whether it stopped because the next checks would exceed the budget.
-#[derive(Drop)]
+#[derive(Clone, Copy)]
 pub struct Walked {
     pub at: Progress,
     pub spent: bool,

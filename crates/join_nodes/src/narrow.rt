@@ -10,7 +10,7 @@ use words::shared::intersect;
 use words::word_at;
 
 // A part of the work list.
-#[derive(Drop)]
+#[derive(Clone, Copy)]
 pub struct Part {
     pub from: usize,
     pub to: usize,

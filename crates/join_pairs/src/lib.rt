@@ -1,6 +1,8 @@
 // The pair list of a join: left set by left set, and for each the right sets that contain it, by place. Rows that the walk kept are
 // copied (`row_pairs`); the others are looked for in the index (`left_search`, from the candidates of `shortlists`). Which rows were
 // kept has no bearing on the list.
+#![tactic(auto)]
+
 ghost use Rattle.std.specs.Prelude.{◌≡◌, ◌++◌, length, drop};
 ghost use Rattle.join_spec.specs.Query.{Query};
 ghost use Rattle.join_spec.specs.PairList.{pair_list};

@@ -44,14 +44,14 @@ const FEW_RANKS: usize = 3;
 const FEW_CANDIDATES: usize = 16;
 
 // A part of the work list.
-#[derive(Drop)]
+#[derive(Clone, Copy)]
 pub struct Span {
     pub from: usize,
     pub to: usize,
 }
 
 // Candidates: places of right sets in a part of the work list, and where the ranks begin that not all of them need hold.
-#[derive(Drop)]
+#[derive(Clone, Copy)]
 pub struct Shortlist {
     pub from: usize,
     pub to: usize,

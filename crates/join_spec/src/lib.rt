@@ -1,11 +1,13 @@
 // What the join means: its settings and its answer, defined in specs/, with laws in proofs/ that need no code. `answers` gives the
 // answer as words at the C boundary. The code that meets all this is in the crates above.
+#![tactic(auto)]
+
 use sets::Refusal;
 
 pub mod answers;
 
 // The four weights of the weighed merge rule.
-#[derive(Drop)]
+#[derive(Clone, Copy)]
 pub struct Weights {
     pub a: f64,
     pub b: f64,
@@ -14,7 +16,7 @@ pub struct Weights {
 }
 
 // The merge rule: what decides at a node whether the walk goes on.
-#[derive(Drop)]
+#[derive(Clone, Copy)]
 pub enum Rule {
     Merge,
     Check,
@@ -22,7 +24,7 @@ pub enum Rule {
 }
 
 // The six counts of a join.
-#[derive(Drop)]
+#[derive(Clone, Copy)]
 pub struct Counts {
     pub pairs: u32,
     pub by_path: u32,
@@ -33,7 +35,7 @@ pub struct Counts {
 }
 
 // What a join answers.
-#[derive(Drop)]
+#[derive(Clone, Copy)]
 pub enum JoinAnswer {
     Joined(Counts),
     Refused(Refusal),

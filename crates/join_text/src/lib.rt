@@ -1,6 +1,8 @@
 // The text of a join of two numbered collections, written into a lent list of bytes: orders their items by rising frequency, joins
 // them, and writes the counts, the repeats that were read with them and a line for each pair, or why there is no list. The text is
 // defined in specs/.
+#![tactic(auto)]
+
 ghost use Rattle.std.specs.Prelude.{◌≡◌, length};
 ghost use Rattle.inputs.specs.Input.{lent_input};
 ghost use Rattle.join_text.specs.JoinText.{work_words, pair_places, settings_under, program_settings, join_text, FillsText};

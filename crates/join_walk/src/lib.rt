@@ -1,5 +1,7 @@
 // The whole walk: partition by partition in rank order, each with the right sets seen at its rank. `partition` visits one, `visit`
 // visits a node and all below it, and `heaviest` finds the child with most left sets.
+#![tactic(auto)]
+
 ghost use Rattle.join_spec.specs.Query.{Query};
 ghost use Rattle.join_index.specs.Asking.{SomeQuery};
 ghost use Rattle.words.specs.flags.Flags.{Clear};

@@ -12,7 +12,7 @@ use join_index::Layout;
 use words::word_at;
 
 // The counters after the checks of a row, and where the kept rows end.
-#[derive(Drop)]
+#[derive(Clone, Copy)]
 pub struct Recorded {
     pub tally: Tally,
     pub top: usize,

@@ -1,5 +1,7 @@
 // Rows: the right sets that contain a left set, kept in the work list for the pair list. At first no row is kept; then one shared row
 // for left sets that the same right sets contain. `checked` keeps a row while its left set is checked.
+#![tactic(auto)]
+
 ghost use Rattle.std.specs.Prelude.{◌≡◌};
 ghost use Rattle.join_index.specs.Asking.{SomeQuery};
 ghost use Rattle.kept_rows.specs.Keeping.{ClearThere, Cleared, WordsRoom, row_stored, ShareThere, Shared, ListThere, ListKept};

@@ -1,5 +1,7 @@
 // The static library for C and Rust: thin exported functions, each over one proved operation. Names, parameters and answer words
 // are those of include/kitfinder.h; what the words hold is defined with each operation's answer.
+#![tactic(auto)]
+
 ghost use Rattle.std.specs.Prelude.{◌≡◌, not, eqb, length};
 ghost use Rattle.tag_file.specs.Repeats.{record_read};
 ghost use Rattle.tag_file.specs.answers.Words.{read_words, load_words};

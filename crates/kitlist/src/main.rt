@@ -1,5 +1,7 @@
 // The program kitlist (document 01): reads a tag file from standard input and writes the text that `listing` makes of it, every kit
 // that a stack contains or why there is no list. With all calls below it, it takes less than half a megabyte of stack.
+#![tactic(auto)]
+
 use listing::{MAX_FILE, TEXT_ROOM};
 
 const STDIN: i32 = 0;

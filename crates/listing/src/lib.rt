@@ -1,6 +1,8 @@
 // The text that the program kitlist prints (document 01), written into a lent list of bytes: loads a tag file and writes the text of
 // the join of its left sets (kits) with its right sets (stacks), with the repeats that the loader counted, or why there is no list.
 // The text is defined in `listing_spec`.
+#![tactic(auto)]
+
 ghost use Rattle.std.specs.Prelude.{◌≡◌, ◌≤◌, length};
 ghost use Rattle.sets.specs.Limits.{max_sets};
 ghost use Rattle.sets.specs.Refusals.{unless};

@@ -1,1 +1,3 @@
 // Laws only: what the text of a file can be.
+
+#![tactic(auto)]

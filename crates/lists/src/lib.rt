@@ -1,6 +1,8 @@
 // Lists and numbers: the definitions and laws that the crates above share, and the small functions that several of
 // them call. Nothing here knows of sets or kits.
 
+#![tactic(auto)]
+
 ghost use Rattle.std.specs.Prelude.{◌≡◌, length, replicate};
 
 // Fills a list with zeros, at the three widths that the crates above lend.

@@ -1,5 +1,7 @@
 // The join under Merge over bit rows of the right sets. There each left set is settled by itself, in place order: the right sets that
 // hold its path are its candidates, those that contain it are listed, and the others are dropped or false. No tree is walked.
+#![tactic(auto)]
+
 use counting_sort::clear;
 use join_check::Tally;
 use join_check::tally_answer::answer_tally;
@@ -30,7 +32,7 @@ use crate::rows::fill_rows;
 
 // Where the regions of the work list begin: the rows at 0, then the counters before each left set, three words each, the signatures of the
 // right sets, two words each, and a hint for each left set. The rows are those of t items.
-#[derive(Drop)]
+#[derive(Clone, Copy)]
 pub struct Regions {
     pub t: usize,
     pub counters: usize,
@@ -39,7 +41,7 @@ pub struct Regions {
 }
 
 // What the left sets up to one have come to: the place in the pair list, or past its end, and the checks by how they ended.
-#[derive(Drop)]
+#[derive(Clone, Copy)]
 pub struct Met {
     pub at: usize,
     pub confirmed: usize,
@@ -48,7 +50,7 @@ pub struct Met {
 }
 
 // The same of all left sets, or of those up to the one at which the checks passed the budget.
-#[derive(Drop)]
+#[derive(Clone, Copy)]
 pub struct Merged {
     pub spent: bool,
     pub met: Met,

@@ -17,7 +17,7 @@ const HALF: u32 = 65536;
 const NO_KEY: u32 = 4294967295;
 
 // The two least of the numbers that rank and item make.
-#[derive(Drop)]
+#[derive(Clone, Copy)]
 pub struct Two {
     pub first: u32,
     pub second: u32,

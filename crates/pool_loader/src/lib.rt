@@ -1,5 +1,7 @@
 // The pooled load of two tag files into seven lent lists, over one tag table: the first passes over both files, the room, and the
 // second passes. `second_file` has all that follows the first file, `answer` the answer. It allocates nothing beyond its own arrays.
+#![tactic(auto)]
+
 ghost use Rattle.tag_file.specs.Loading.{lent_lists, returned_lists};
 ghost use Rattle.pool_loader_spec.specs.Pooling.{PooledCall};
 ghost use Rattle.tag_scan.specs.Scan.{Lengths, Scanned};

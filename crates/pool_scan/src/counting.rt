@@ -14,7 +14,7 @@ use sets::{MAX_SET_LENGTH, Refusal, Tested};
 use tag_file::{LoadAnswer, Loaded, Repeats};
 
 // The counts so far, the repeats, and the first record whose pooled set is too long.
-#[derive(Drop)]
+#[derive(Clone, Copy)]
 pub struct Counted {
     pub total: Loaded,
     pub repeats: Repeats,
@@ -22,7 +22,7 @@ pub struct Counted {
 }
 
 // What the pass answers: the first fault, or the counts; and the first record whose pooled set is too long.
-#[derive(Drop)]
+#[derive(Clone, Copy)]
 pub struct Second {
     pub answer: LoadAnswer,
     pub long: Tested,

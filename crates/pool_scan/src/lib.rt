@@ -2,6 +2,8 @@
 // both files and the index of their tags. It goes on from the counts, the repeats and the index of the first file. `right_slots` finds
 // the first file's right set of a number, `union` takes in the tags of a set from both files, `counting` has what is counted. A pooled
 // set counts as a union; its repeats are the second file's record's alone.
+#![tactic(auto)]
+
 ghost use Rattle.std.specs.Prelude.{◌≡◌, length};
 ghost use Rattle.bit_sets.specs.BitSets.{Claimed};
 ghost use Rattle.pool_scan.specs.right_slots.Slots.{number_words};

@@ -16,7 +16,7 @@ use tag_index::{HINT_SLOTS, INDEX_ROOM};
 
 // The tags of a set of the second file: how many the index has with them, how many distinct ones the first file's set of its number had,
 // how many the second's record has, how many both have together, and whether there is one.
-#[derive(Drop)]
+#[derive(Clone, Copy)]
 pub struct United {
     pub tag_count: usize,
     pub first: usize,

@@ -1,6 +1,8 @@
 // The record reader: the record at a place of a tag file, and how many of its tags are repeats. A tag is looked for among those before
 // it in the file itself, and no tag is copied: the tags of a bucket are chained, each with a link to the one before it. A search takes
 // as many steps as a bucket has tags, few unless they were chosen for it, and is right wherever the tags fall.
+#![tactic(auto)]
+
 ghost use Rattle.std.specs.Prelude.{◌≡◌, ◌+◌, ◌≤◌, ◌<◌, length};
 ghost use Rattle.lists.specs.Lists.{memb};
 ghost use Rattle.sets.specs.Limits.{max_set_length, full_words};

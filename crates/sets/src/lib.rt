@@ -1,6 +1,8 @@
 // Collections of sets and what is said of them: sides, limits, verdicts, refusals with their words, and how many entries a
 // collection has. What each means is defined in specs/. Each operation's answer is declared by the crate that owns it.
 
+#![tactic(auto)]
+
 // The greatest count of items, T.
 pub const MAX_ITEMS: u32 = 4096;
 // The greatest number of sets in a collection.
@@ -13,7 +15,7 @@ pub const MAX_SET_LENGTH: usize = 255;
 pub const MAX_LIMIT: u32 = 255;
 
 // The two collections of a join: left sets (kits) and right sets (stacks).
-#[derive(Drop)]
+#[derive(Clone, Copy)]
 pub enum Side {
     Left,
     Right,
@@ -21,7 +23,7 @@ pub enum Side {
 
 // Why an operation gave no result: one variant for each row of the refusal table. A `usize` is the byte place of the record at fault,
 // or the place of the bad set.
-#[derive(Drop)]
+#[derive(Clone, Copy)]
 pub enum Refusal {
     Malformed(usize),
     NumberUsed(usize),
@@ -36,21 +38,21 @@ pub enum Refusal {
 }
 
 // Whether a collection has a bad set, and the place of the first.
-#[derive(Drop)]
+#[derive(Clone, Copy)]
 pub enum Verdict {
     Good,
     Bad(usize),
 }
 
 // What a test of an input finds: nothing wrong, or why it is refused.
-#[derive(Drop)]
+#[derive(Clone, Copy)]
 pub enum Tested {
     Passed,
     Failed(Refusal),
 }
 
 // The three words that every answer begins with: the number of a refusal, and what returns with it.
-#[derive(Drop)]
+#[derive(Clone, Copy)]
 pub struct Head {
     pub number: u64,
     pub first: u64,

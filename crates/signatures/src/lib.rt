@@ -1,6 +1,8 @@
 // The signatures of the sets (marks in document 01), two words each in the work list, low then high, straight from the items.
 // `item_bits` has the bit of each item.
 
+#![tactic(auto)]
+
 ghost use Rattle.std.specs.Prelude.{◌≡◌, ◌+◌, ◌≤◌, length};
 ghost use Rattle.sets.specs.Collections.{between, sets_of};
 ghost use Rattle.sets.specs.Signatures.{signature};

@@ -1,5 +1,7 @@
 // A record of the tag file, read. What a record is, and what the loader fills and answers, is defined in specs/; `answers` gives the
 // answers as words at the C boundary. The record reader that counts repeats and the loader have crates of their own.
+#![tactic(auto)]
+
 use sets::{Refusal, Side};
 
 // The bytes of a tag.
@@ -8,7 +10,7 @@ pub const TAG_LENGTH: usize = 12;
 pub const HEAD_LENGTH: usize = 5;
 
 // How much a loader filled: sets and item entries a side, and tags.
-#[derive(Drop)]
+#[derive(Clone, Copy)]
 pub struct Loaded {
     pub left_sets: usize,
     pub right_sets: usize,
@@ -18,14 +20,14 @@ pub struct Loaded {
 }
 
 // How many reads of each side's records were repeats: of a tag that the same record had before.
-#[derive(Drop)]
+#[derive(Clone, Copy)]
 pub struct Repeats {
     pub left: usize,
     pub right: usize,
 }
 
 // What the loader answers: how much it filled and how many reads were repeats, or why it did not.
-#[derive(Drop)]
+#[derive(Clone, Copy)]
 pub enum LoadAnswer {
     Loaded(Loaded, Repeats),
     Refused(Refusal),
@@ -41,7 +43,7 @@ pub mod answers;
 
 // What the record reader answers: a whole record, with the place of its first tag and the next place; that there is no more; or why
 // not.
-#[derive(Drop)]
+#[derive(Clone, Copy)]
 pub enum ReadAnswer {
     Record {
         side: Side,
@@ -55,7 +57,7 @@ pub enum ReadAnswer {
 }
 
 // The same with the repeats among a whole record's tags; 0 without one.
-#[derive(Drop)]
+#[derive(Clone, Copy)]
 pub struct RecordRead {
     pub answer: ReadAnswer,
     pub repeats: usize,
@@ -136,7 +138,7 @@ pub fn read_at(file: &[u8], at: usize) -> ReadAnswer
 
 // The record reader: the lent file and the next place. The functions over it are thin: `read_at` does the work, and others call
 // `read_record`. It leaves the tags alone; `record_reader` counts their repeats.
-#[derive(Drop)]
+#[derive(Clone, Copy)]
 pub struct Reader<'a> {
     pub file: &'a [u8],
     pub at: usize,

@@ -6,13 +6,18 @@
 // - six numbers: the bytes of the tag table, the left sets and their items, the right sets and their items that are lent, and how
 //   many of the table's bytes and of the right items are shown at most;
 // - the file, or the two files of a pooled load, in percent-encoding: a byte stands for itself, or is % and two hexadecimal digits.
+#![tactic(auto)]
+
 pub mod printing;
 pub mod reading;
 
 use crate::printing::{print_answer, print_bytes, print_side};
 use crate::reading::{find, read_file, read_lengths};
-use libc::{STDIN_FILENO, STDOUT_FILENO};
 use tag_file::answers::load_words;
+
+const STDIN_FILENO: i32 = 0;
+
+const STDOUT_FILENO: i32 = 1;
 
 // The most bytes of a file.
 const FILE_ROOM: usize = 1541;

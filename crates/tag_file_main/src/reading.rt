@@ -17,7 +17,7 @@ pub fn find(text: &[u8], at: usize, byte: u8) -> usize
 }
 
 // A number, and the place after the byte that follows it.
-#[derive(Drop)]
+#[derive(Clone, Copy)]
 pub struct Number {
     pub value: usize,
     pub next: usize,
@@ -58,7 +58,7 @@ fn read_number(text: &[u8], at: usize, most: usize) -> Number
 }
 
 // The lengths of the lists that are lent, and how much of a list is shown at most.
-#[derive(Drop)]
+#[derive(Clone, Copy)]
 pub struct Lengths {
     pub tags: usize,
     pub left_sets: usize,
@@ -101,7 +101,7 @@ fn digit(b: usize) -> usize
 }
 
 // The byte that is written at a place, and the place after it.
-#[derive(Drop)]
+#[derive(Clone, Copy)]
 struct Byte {
     value: u8,
     next: usize,
@@ -128,7 +128,7 @@ fn read_byte(line: &[u8], at: usize) -> Byte
 }
 
 // A file: how many bytes it has, and the place where it ends.
-#[derive(Drop)]
+#[derive(Clone, Copy)]
 pub struct File {
     pub length: usize,
     pub end: usize,

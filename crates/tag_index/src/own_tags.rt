@@ -9,7 +9,7 @@ use crate::{HINT_SLOTS, INDEX_ROOM, take_tag};
 use tag_file::TAG_LENGTH;
 
 // How many tags the index has, how many distinct ones the set has so far, and how many the record has by itself.
-#[derive(Drop)]
+#[derive(Clone, Copy)]
 pub struct AddedBeside {
     pub tag_count: usize,
     pub distinct: usize,

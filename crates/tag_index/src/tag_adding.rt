@@ -30,7 +30,7 @@ pub fn see(seen: &mut [u64], id: usize) -> usize
 }
 
 // How many tags the index has, and how many distinct ones the set has so far.
-#[derive(Drop)]
+#[derive(Clone, Copy)]
 pub struct Added {
     pub tag_count: usize,
     pub distinct: usize,

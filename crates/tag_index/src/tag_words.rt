@@ -10,7 +10,7 @@ use tag_file::byte_at;
 const FULL_WORDS: usize = 4294967296;
 
 // A tag: its first 8 bytes and its last 4, each as a number, high byte first.
-#[derive(Drop)]
+#[derive(Clone, Copy)]
 pub struct Tag {
     pub hi: usize,
     pub lo: usize,

@@ -44,7 +44,7 @@ pub fn clear_lists(
 }
 
 // The lengths of the seven lists.
-#[derive(Drop)]
+#[derive(Clone, Copy)]
 pub struct LoadRoom {
     pub tags: usize,
     pub left_numbers: usize,

@@ -1,6 +1,8 @@
 // The loader of tag files. A first pass finds the first record at fault, or the counts and the index of the distinct tags (tag_scan).
 // Then `lent_lists` tests the room, `tag_table` writes the tags, and `fill` goes through the file again for each side, record by
 // record (`record_items`). It allocates nothing beyond its own arrays.
+#![tactic(auto)]
+
 ghost use Rattle.tag_file.specs.Records.{records};
 ghost use Rattle.tag_file.specs.Loading.{lent_lists, returned_lists, lists_now, LoadCall};
 ghost use Rattle.tag_scan.specs.Scan.{Lengths, Scanned};

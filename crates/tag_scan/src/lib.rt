@@ -1,6 +1,8 @@
 // The loader's first pass over a tag file: the first record at fault, or the counts and the repeats of the file and the index of its
 // tags. The index tells how many distinct tags a record has, and so how many are repeats. `used_numbers` notes the numbers, `totals`
 // has the counts with one more record and the limits.
+#![tactic(auto)]
+
 ghost use Rattle.std.specs.Prelude.{◌≡◌, replicate};
 ghost use Rattle.tag_scan.specs.used_numbers.Keys.{used_words};
 ghost use Rattle.tag_scan.specs.Scan.{Lengths, Scanned};

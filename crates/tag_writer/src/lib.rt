@@ -1,5 +1,7 @@
 // The writer of a tag file (document 01, "Tag file"): a record for each left set (kit), then for each right set (stack), by
 // `record_writer`. What it answers and leaves in the lent output is defined in `tag_writer_spec`.
+#![tactic(auto)]
+
 ghost use Rattle.std.specs.Prelude.{◌≡◌, length};
 ghost use Rattle.tag_file.specs.Loading.{lent_lists, lists_now};
 ghost use Rattle.tag_writer_spec.specs.Writer.{file_bytes, table_test, numbered_test, lists_test};

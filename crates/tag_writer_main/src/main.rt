@@ -1,5 +1,7 @@
 // Named vectors through the writer of tag files: each line has the vector's name, the answer and the whole output list, which
 // holds EE before the call. `stdout` has what document 01 says.
+#![tactic(auto)]
+
 use sets::Refusal;
 use tag_writer_spec::WriteAnswer;
 

@@ -1,9 +1,11 @@
 // What the writer of a tag file means (document 01, "Tag file"): its answer, its tests and its file, defined in specs/, and in proofs/
 // the laws about them. The code that meets them is in `tag_writer`.
+#![tactic(auto)]
+
 use sets::{Refusal, head_of};
 
 // What the writer answers: the length of what it wrote.
-#[derive(Drop)]
+#[derive(Clone, Copy)]
 pub enum WriteAnswer {
     Written(usize),
     Refused(Refusal),

@@ -1,6 +1,8 @@
 // The lines of the program kitlist, defined in specs/. Here words and decimal numbers are written into a lent list of bytes; the
 // modules write the lines: `counts_line`, `pair_lines`, `number_lines` (a refusal, the repeats), and `answer_text` the whole text of a
 // join's answer. Each function returns the place after what it wrote.
+#![tactic(auto)]
+
 ghost use Rattle.std.specs.Prelude.{◌+◌, ◌≤◌, length};
 ghost use Rattle.lists.specs.Writing.{RoomFor, Put};
 ghost use Rattle.text.specs.Lines.{decimal, labelled};

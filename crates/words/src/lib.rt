@@ -1,6 +1,8 @@
 // Parts of a list of words, for any caller. Here are words and tests as numbers. `subsets`: whether one rising part has every word of
 // another. `flags`: tables of flags over words. `found`: words found in another part, by halving. `shared`: what two rising parts
 // share. `copies`: parts copied to words above them.
+#![tactic(auto)]
+
 ghost use Rattle.std.specs.Prelude.{◌<◌, length};
 ghost use Rattle.words.specs.Words.{Word, OneWhere};
 
