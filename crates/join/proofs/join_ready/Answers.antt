@@ -1,0 +1,24 @@
+-- `join_ready` meets its contract: the join over bit rows answers as the walk does, where its rows are taken.
+use mathlib.Core.Path.{sym, ◌∙◌}
+use lib.ListN.{length}
+use Rattle.inputs.specs.Input.{input_of}
+use Rattle.merge_rows.proofs.MergedAnswer.{merge_sizes}
+use Rattle.join.proofs.RowsChoice.{rows-room, rows_answer}
+use Rattle.join.proofs.join_ready.Goals as goal
+
+pub takes_rows-rows-requires : goal.takes_rows-rows-requires
+takes_rows-rows-requires c = merge_sizes c.requires
+
+pub merge_sets-requires : goal.merge_sets-requires
+merge_sets-requires c =
+    rows-room c.args.rule c.requires (sym c.takes_rows-rows.ensures ∙ c.if-rows.true)
+
+pub returns-then-rows : goal.returns-then-rows
+returns-then-rows c =
+    let a = c.args in
+    let i = input_of a.t a.left-ends.now a.left-items.now a.right-ends.now a.right-items.now in
+    record {
+      answer = rows_answer i a.limit a.ranks.now (length a.work.now) a.rule a.budget (length a.pairs.now)
+          (sym c.takes_rows-rows.ensures ∙ c.if-rows.true) c.merge_sets.ensures.answer;
+      pairs = c.merge_sets.ensures.pairs;
+    }

@@ -1,0 +1,40 @@
+use Prim.Native.Nat.{ℕ, ◌+◌, ◌-◌, ◌*◌}
+use mathlib.Core.Path.{◌≡◌, ap, ◌∙◌}
+use native.Mathlib.Omega.{arith}
+use native.Mathlib.Nat.{one-mul}
+use Rattle.join_check.proofs.gather.Gathering.{ranges_within, ranges_row, row_ranges}
+use Rattle.join_check.proofs.gather.Gathering.{left_start, left_room, left_front, left_none}
+use Rattle.join_check.proofs.gather.check_range.Goals as goal
+
+pub loop-i-init : goal.loop-i-init
+loop-i-init c = left_start
+
+pub overflow_add-order : goal.overflow_add-order
+overflow_add-order c = omega (arith, ranges_within c.requires.some_query.holds)
+
+pub word_at-k-requires : goal.word_at-k-requires
+word_at-k-requires c = omega (arith, ranges_within c.requires.some_query.holds)
+
+pub check_row-r-requires : goal.check_row-r-requires
+check_row-r-requires c =
+    let i = c.loop-i.i in
+    let rights = c.args.to - c.args.from in
+    let single : i + 1 - i ≡ 1 = omega arith in
+    let times : (i + 1 - i) * rights ≡ rights = ap (λ (n : ℕ). n * rights) single ∙ one-mul rights in
+    let room = left_room c.loop-i.invariant i (i + 1) (omega arith) (omega arith) (omega arith) c.requires.from_bound in
+    record {
+      some_query = record {
+        query = c.requires.some_query.query;
+        holds = ranges_row (c.loop-i.invariant.there c.requires.some_query.query c.requires.some_query.holds) i (omega arith)
+            c.loop-i-test.true c.word_at-k.ensures;
+      };
+      from_bound = omega (arith, room);
+    }
+
+pub loop-i-preserved : goal.loop-i-preserved
+loop-i-preserved c =
+    left_front c.loop-i.invariant (omega arith) (omega arith)
+    (row_ranges c.word_at-k.ensures c.check_row-r.ensures)
+
+pub returns : goal.returns
+returns c = left_none c.loop-i.invariant c.loop-i-test.false

@@ -1,0 +1,73 @@
+use mathlib.Core.Path.{◌≡◌, ap, ◌∙◌}
+use mathlib.Core.List.{List}
+use mathlib.Core.Bool.{Bool}
+use Prim.Native.Nat.{ℕ, ◌+◌, ◌-◌, ◌≤◌}
+use native.Mathlib.Omega.{arith}
+use lib.ListN.{get_or}
+use Rattle.lists.specs.Lists.{one, count, slice}
+use Rattle.join_spec.specs.Query.{Query}
+use Rattle.join_spec.specs.Node.{seen}
+use Rattle.join_index.specs.Grouping.{right_at}
+use Rattle.join_index.specs.declared.Layout.{Layout}
+use Rattle.join_index.specs.Asking.{PlacesThere}
+use Rattle.join_index.proofs.Places.{place_right, count_past, count_next}
+use Rattle.join_check.proofs.keys.count_seen.Goals as goal
+
+abbrev isSeen : Query → ℕ → ℕ → Bool
+isSeen q r s = seen r (right_at q s)
+
+record SeenCounting (lay : Layout) (w : List ℕ) (from to r n i : ℕ) : Type 0 where
+  low : from ≤ i
+  few : n ≤ i - from
+  same :
+      (q : Query) → PlacesThere lay q w from to
+      → n + count (isSeen q r) (slice i to w) ≡ count (isSeen q r) (slice from to w)
+
+pub loop-i-init : goal.loop-i-init
+loop-i-init c =
+    record { low = omega arith; few = omega arith; same = λ q there. omega arith }
+
+pub word_at-s-requires : goal.word_at-s-requires
+word_at-s-requires c =
+    omega (arith, c.requires.holds.within)
+
+pub is_seen-requires : goal.is_seen-requires
+is_seen-requires c =
+    record {
+      query = c.requires.query;
+      holds = place_right c.requires.holds c.loop-i.i c.word_at-s.result c.loop-i.invariant.low
+          c.loop-i-test.true c.word_at-s.ensures;
+    }
+
+pub overflow_add-n : goal.overflow_add-n
+overflow_add-n c =
+    omega (arith, c.number-n.ensures.small)
+
+pub loop-i-preserved : goal.loop-i-preserved
+loop-i-preserved c =
+    let a = c.args in
+    let i = c.loop-i.i in
+    record {
+      low = omega (arith, c.loop-i.invariant.low);
+      few = omega (arith, c.loop-i.invariant.few, c.number-n.ensures.small);
+      same = λ q there.
+          let s = c.word_at-s.result in
+          let is : c.number-n.result ≡ one (isSeen q a.r (get_or a.work.now i 0)) =
+          c.number-n.ensures.is
+          ∙ ap one (c.is_seen.ensures q (place_right there i s c.loop-i.invariant.low
+          c.loop-i-test.true c.word_at-s.ensures))
+          ∙ ap (λ (k : ℕ). one (isSeen q a.r k)) c.word_at-s.ensures.is
+          in
+          let next = count_next (isSeen q a.r) a.work.now i a.to c.loop-i-test.true there.within in
+          omega (arith, c.loop-i.invariant.same q there);
+    }
+
+pub returns : goal.returns
+returns c =
+    λ q there.
+    let a = c.args in
+    omega (
+      arith,
+      count_past (isSeen q a.r) a.work.now c.loop-i.i a.to c.loop-i-test.false,
+      c.loop-i.invariant.same q there,
+    )

@@ -1,0 +1,49 @@
+use Prim.Native.Nat.{◌-◌}
+use native.Mathlib.Omega.{arith}
+use Rattle.join_index.proofs.Orders.{range_left, range_within}
+use Rattle.join_check.proofs.keys.RangeEnds.{reaching_start, reaching_stop, reaching_step, reaching_end}
+use Rattle.join_check.proofs.keys.range_end.Goals as goal
+
+pub overflow_add-order : goal.overflow_add-order
+overflow_add-order c = omega (arith, range_within c.requires.holds)
+
+pub word_at-first-requires : goal.word_at-first-requires
+word_at-first-requires c = omega (arith, range_within c.requires.holds, c.requires.holds.some)
+
+pub key_at-key-requires : goal.key_at-key-requires
+key_at-key-requires c =
+    let there = c.requires.holds in
+    record { query = c.requires.query; holds = range_left there c.args.i there.some c.word_at-first.ensures }
+
+pub overflow_add-j : goal.overflow_add-j
+overflow_add-j c = omega (arith, c.requires.holds.some)
+
+pub loop-j-init : goal.loop-j-init
+loop-j-init c = reaching_start c.requires.holds.some
+
+pub overflow_add-order-in-loop-j : goal.overflow_add-order-in-loop-j
+overflow_add-order-in-loop-j c = omega (arith, range_within c.requires.holds)
+
+pub word_at-k-requires : goal.word_at-k-requires
+word_at-k-requires c = omega (arith, range_within c.requires.holds)
+
+pub key_at-requires : goal.key_at-requires
+key_at-requires c =
+    let some = c.requires in
+    record {
+      query = some.query;
+      holds = range_left some.holds c.loop-j.j c.loop-j-test.true c.word_at-k.ensures;
+    }
+
+pub returns-then-key_at-key : goal.returns-then-key_at-key
+returns-then-key_at-key c =
+    reaching_stop c.loop-j.invariant c.word_at-first.ensures c.key_at-key.ensures c.loop-j-test.true
+    c.word_at-k.ensures c.key_at.ensures c.if-key_at-key.true
+
+pub loop-j-preserved : goal.loop-j-preserved
+loop-j-preserved c =
+    reaching_step c.loop-j.invariant c.word_at-first.ensures c.key_at-key.ensures c.loop-j-test.true
+    c.word_at-k.ensures c.key_at.ensures c.if-key_at-key.false
+
+pub returns : goal.returns
+returns c = reaching_end c.loop-j.invariant c.loop-j-test.false

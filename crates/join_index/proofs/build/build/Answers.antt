@@ -1,0 +1,73 @@
+-- `join_index::build::build` meets its contract: each stage requires what the layout and the stages before it leave.
+use native.Mathlib.Omega.{arith}
+use Rattle.join_index.proofs.build.BuildPlan.{Planned, by_length, sizes, plan_sizes, wide}
+use Rattle.join_index.proofs.build.BuildStages.{right_room, left-room, least-room, order-room, sign-room}
+use Rattle.join_index.proofs.build.BuildGround.{ground, ground-items}
+use Rattle.join_index.proofs.build.build.Goals as goal
+use Rattle.join_index.proofs.build.build.Goals.{After-lay_out-lay}
+
+planned : (c : After-lay_out-lay) → Planned c.args.left-ends.now c.args.left-items.now
+    c.args.right-ends.now c.args.right-items.now c.args.ranks.now
+    c.count_entries-left_entries.result c.count_entries-right_entries.result c.lay_out-lay.result
+    c.args.work.now
+planned c =
+    record {
+      room = by_length c.requires;
+      left_entries = c.count_entries-left_entries.ensures;
+      right_entries = c.count_entries-right_entries.ensures;
+      out = c.lay_out-lay.ensures;
+    }
+
+pub lay_out-lay-requires : goal.lay_out-lay-requires
+lay_out-lay-requires c =
+    sizes (by_length c.requires) c.count_entries-left_entries.ensures c.count_entries-right_entries.ensures
+
+pub overflow_add-left_base : goal.overflow_add-left_base
+overflow_add-left_base c =
+    omega (arith, plan_sizes (planned (goal.at.overflow_add-left_base c).After-lay_out-lay), c.lay_out-lay.ensures)
+
+pub build_side-requires : goal.build_side-requires
+build_side-requires c = right_room (planned (goal.at.build_side-requires c).After-lay_out-lay)
+
+pub build_side-requires-2 : goal.build_side-requires-2
+build_side-requires-2 c =
+    left-room (planned (goal.at.build_side-requires-2 c).After-lay_out-lay) c.build_side.ensures
+
+pub build_least-requires : goal.build_least-requires
+build_least-requires c =
+    least-room (planned (goal.at.build_least-requires c).After-lay_out-lay) c.build_side.ensures c.build_side-2.ensures
+
+pub build_order-requires : goal.build_order-requires
+build_order-requires c =
+    order-room (planned (goal.at.build_order-requires c).After-lay_out-lay) c.build_side.ensures c.build_side-2.ensures
+    c.build_least.ensures
+
+pub sign_collections-requires : goal.sign_collections-requires
+sign_collections-requires c =
+    sign-room (planned (goal.at.sign_collections-requires c).After-lay_out-lay) c.build_side.ensures c.build_side-2.ensures c.build_least.ensures
+    c.args.limit
+    c.build_order.ensures
+
+pub returns : goal.returns
+returns c =
+    record {
+      ground = ground-items c.args.limit c.args.rule c.requires
+          (ground
+          record {
+            plan = planned (goal.at.returns c).After-lay_out-lay;
+            right_built = c.build_side.ensures;
+            left_built = c.build_side-2.ensures;
+            least_built = c.build_least.ensures;
+            order_built = c.build_order.ensures;
+            c = c.sign_collections.ensures;
+          });
+      room = omega (
+        arith,
+        wide (planned (goal.at.returns c).After-lay_out-lay),
+        c.build_side.auto.0,
+        c.build_side-2.auto.0,
+        c.build_least.auto.0,
+        c.build_order.auto.0,
+        c.sign_collections.auto.0,
+      );
+    }

@@ -1,0 +1,37 @@
+-- `finish_row` meets its contract: where the budget does not cover the checks none is made; else `record_row` makes them all.
+use native.Mathlib.Omega.{arith}
+use mathlib.Core.Path.{refl}
+use borrow.Author.Tests.{not-true, not-false}
+use Rattle.lists.proofs.Bools.{true-false}
+use Rattle.join_nodes.proofs.blocks.finish_row.Goals as goal
+
+pub returns-then-not-covers : goal.returns-then-not-covers
+returns-then-not-covers c =
+    record {
+      framed = record { size = refl; frame = refl };
+      rows = λ calm. true-false refl calm;
+      tallied = λ calm. true-false refl calm;
+      within = λ calm. true-false refl calm;
+      beyond = λ spent. c.covers.ensures.beyond (not-true c.covers.result c.if-not-covers.true);
+    }
+
+pub record_row-r-requires : goal.record_row-r-requires
+record_row-r-requires c =
+    let covered = c.covers in
+    record {
+      some_query = c.requires.some_query;
+      from_bound = omega (arith, c.well-formed.1.1.0, covered.ensures.within (not-false covered.result c.if-not-covers.false));
+    }
+
+pub returns : goal.returns
+returns c =
+    let covered = c.covers in
+    let row = c.record_row-r.ensures in
+    record {
+      framed = record { size = row.size; frame = row.frame };
+      rows = λ calm q there. row.rows q there;
+      tallied = λ calm q there. row.checked.tallied q there.row;
+      within = λ calm.
+          omega (arith, row.checked.grown, covered.ensures.within (not-false covered.result c.if-not-covers.false));
+      beyond = λ spent. true-false spent refl;
+    }

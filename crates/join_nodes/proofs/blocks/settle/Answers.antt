@@ -1,0 +1,25 @@
+-- `settle` meets its contract.
+use Prim.Native.Nat.{◌-◌}
+use native.Mathlib.Omega.{arith}
+use Rattle.join_nodes.proofs.Asked.{some-query}
+use Rattle.join_nodes.proofs.blocks.GoingLaws.{going_range, going_room}
+use Rattle.join_nodes.proofs.blocks.NodeRows.{merged_list, settled}
+use Rattle.join_nodes.proofs.blocks.settle.Goals as goal
+
+pub merged_end-mid-requires : goal.merged_end-mid-requires
+merged_end-mid-requires c =
+    some-query c.requires.some_path (λ q path going. going_range going c.requires.lo_lt_hi)
+
+pub pair_ended-at-requires : goal.pair_ended-at-requires
+pair_ended-at-requires c =
+    let end = c.merged_end-mid in
+    let some = c.requires.some_path in
+    record {
+      some_query = some-query some (λ q path going. merged_list going c.requires.lo_lt_hi end.ensures);
+      lo_le_hi = end.ensures.low;
+      is_by_path_bound = going_room some.holds (end.result - c.args.lo) (omega (arith, end.ensures.high));
+    }
+
+pub returns : goal.returns
+returns c =
+    settled c.requires.lo_lt_hi c.merged_end-mid.ensures c.pair_ended-at.ensures

@@ -1,0 +1,142 @@
+-- `enter_node` meets its contract: what each of the four ends shows is in EmptyNodes and NodeEntries, in LimitLaws of blocks and in
+-- LoneSets of lone.
+use Prim.Native.Nat.{ℕ, ◌-◌}
+use mathlib.Core.Path.{refl, sym, subst}
+use mathlib.Core.List.{List}
+use mathlib.Core.Bool.{false}
+use native.Mathlib.Omega.{arith}
+use Rattle.join_spec.specs.Query.{Query}
+use Rattle.join_nodes.specs.Visiting.{RangeVisited}
+use Rattle.join_nodes.proofs.Asked.{some-path, some-query}
+use Rattle.join_nodes.proofs.NodeFacts.{node_path, last_read}
+use Rattle.join_nodes.specs.blocks.Blocks.{Going}
+use Rattle.join_nodes.proofs.blocks.GoingLaws.{going_range}
+use Rattle.join_nodes.proofs.blocks.NodeRows.{empty_list}
+use Rattle.join_nodes.specs.lone.Lone.{Lone}
+use Rattle.join_nodes.specs.enter.Entering.{GoesOn}
+use Rattle.join_nodes.proofs.enter.NodeSteps.{Onward, onward_read, onward_going, node_limit, limit_visited}
+use Rattle.join_nodes.proofs.enter.EmptyNodes.{empty_kept}
+use Rattle.join_nodes.proofs.enter.NodeEntries.{entered_over, entered-settled}
+use Rattle.join_nodes.proofs.enter.enter_node.Goals as goal
+use Rattle.join_nodes.proofs.enter.enter_node.Goals.{After-narrow-part, Start}
+
+pub overflow_sub-d : goal.overflow_sub-d
+overflow_sub-d c = omega (arith, c.requires.some_path.holds.node.at.candidates.deep)
+
+pub rank_on-rank-requires : goal.rank_on-rank-requires
+rank_on-rank-requires c =
+    some-path c.requires.some_path
+    (λ q path going.
+    node_path going.node.at (c.args.d - 1) (omega (arith, going.node.at.candidates.deep)))
+
+pub narrow-part-requires : goal.narrow-part-requires
+narrow-part-requires c =
+    let asked = (c.requires.some_path, c.requires.clear_2) in
+    record {
+      some_path = some-path asked.0
+          (λ q path going. (going.node.at.candidates, last_read going.node.at c.rank_on-rank.ensures));
+      clear_2 = asked.1;
+    }
+
+abbrev Begun : Start → Query → List ℕ → Type 0
+Begun s q path =
+    let a = s.args in
+    GoesOn a.lay a.st q path a.work.now a.d a.lo a.hi a.from a.to a.p
+
+onward : (c : After-narrow-part) (q : Query) (path : List ℕ) → Begun c q path
+    → let a = c.args in
+    Onward a.lay a.st q path a.work.now c.narrow-part.new.0 a.d a.lo a.hi a.from a.to a.p
+    c.narrow-part.result a.p.top
+onward c q path going = onward_read going.node going.on c.rank_on-rank.ensures c.narrow-part.ensures.narrowed
+
+-- no candidate is left
+pub keep_list-top-requires : goal.keep_list-top-requires
+keep_list-top-requires c =
+    some-query c.requires.some_path
+    (λ q path going. empty_list (onward_going (onward (goal.at.keep_list-top-requires c).After-narrow-part q path going)) c.if-last-first.true)
+
+pub returns-then-last-first : goal.returns-then-last-first
+returns-then-last-first c =
+    record {
+      entered = λ q path going.
+          let so = onward (goal.at.returns-then-last-first c).After-narrow-part q path going in
+          entered_over refl (limit_visited so (empty_kept so c.if-last-first.true c.keep_list-top.ensures));
+      clear = c.narrow-part.ensures.clear;
+    }
+
+-- the limit is reached
+pub finish-done-requires : goal.finish-done-requires
+finish-done-requires c =
+    some-path c.requires.some_path (λ q path going. node_limit (onward (goal.at.finish-done-requires c).After-narrow-part q path going) (omega (arith, c.if-limit-d.true)))
+
+pub returns-then-limit-d : goal.returns-then-limit-d
+returns-then-limit-d c =
+    record {
+      entered = λ q path going.
+          let so = onward (goal.at.returns-then-limit-d c).After-narrow-part q path going in
+          entered_over refl (limit_visited so (c.finish-done.ensures q path (node_limit so (omega (arith, c.if-limit-d.true)))));
+      clear = c.narrow-part.ensures.clear;
+    }
+
+-- a lone left set
+pub is_lone-requires : goal.is_lone-requires
+is_lone-requires c =
+    let some = c.requires.some_path in
+    let so = onward (goal.at.is_lone-requires c).After-narrow-part some.query some.path some.holds in
+    record {
+      some_query = some-query some
+          (λ q path going. going_range (onward_going (onward (goal.at.is_lone-requires c).After-narrow-part q path going)) going.node.at.some);
+      from_le_to = so.rise;
+      top_le_end = so.rows.high;
+    }
+
+pub pair_lone-paired-requires : goal.pair_lone-paired-requires
+pair_lone-paired-requires c =
+    let a = c.args in
+    let p = c.narrow-part.result in
+    let w = c.narrow-part.new.0 in
+    let lone = c.is_lone.ensures c.if-is_lone.true in
+    record {
+      some_path = some-path c.requires.some_path
+          (λ q path going.
+          subst (λ (n : ℕ). Going a.lay a.st q path w a.d a.lo n p.from p.to a.p) lone.one
+          (onward_going (onward (goal.at.pair_lone-paired-requires c).After-narrow-part q path going)));
+      lone = subst (λ (n : ℕ). Lone a.lay a.st w a.lo n p.from p.to a.p.top) lone.one lone;
+    }
+
+pub returns-then-is_lone : goal.returns-then-is_lone
+returns-then-is_lone c =
+    let a = c.args in
+    let p = c.narrow-part.result in
+    let w = c.narrow-part.new.0 in
+    let lone = c.is_lone.ensures c.if-is_lone.true in
+    record {
+      entered = λ q path going.
+          let so = onward (goal.at.returns-then-is_lone c).After-narrow-part q path going in
+          entered_over refl
+          (limit_visited so
+          (subst
+          (λ (n : ℕ). RangeVisited a.lay q a.st.budget a.lay.row_starts a.d w c.pair_lone-paired.new.0 a.lo n
+          a.p.tally (record { at = c.pair_lone-paired.result; spent = false }))
+          (sym lone.one)
+          (c.pair_lone-paired.ensures q path
+          (subst (λ (n : ℕ). Going a.lay a.st q path w a.d a.lo n p.from p.to a.p) lone.one
+          (onward_going so)))));
+      clear = c.narrow-part.ensures.clear;
+    }
+
+-- its left sets that end here are paired, and the others go on
+pub settle-settled-requires : goal.settle-settled-requires
+settle-settled-requires c =
+    let asked = c.requires.some_path in
+    record {
+      some_path = some-path asked (λ q path going. onward_going (onward (goal.at.settle-settled-requires c).After-narrow-part q path going));
+      lo_lt_hi = asked.holds.node.at.some;
+    }
+
+pub returns : goal.returns
+returns c =
+    record {
+      entered = λ q path going. entered-settled (onward (goal.at.returns c).After-narrow-part q path going) c.if-limit-d.false c.settle-settled.ensures;
+      clear = c.narrow-part.ensures.clear;
+    }

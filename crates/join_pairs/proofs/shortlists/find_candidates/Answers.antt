@@ -1,0 +1,130 @@
+use Prim.Native.Nat.{ℕ, ◌+◌, ◌-◌, ◌≤◌, ◌<◌}
+use mathlib.Core.List.{List}
+use native.Mathlib.Omega.{arith}
+use Rattle.lists.specs.Parts.{Changed}
+use Rattle.lists.proofs.Slices.{changed_none}
+use Rattle.join_spec.specs.Query.{Query}
+use Rattle.join_index.specs.declared.Layout.{Layout}
+use Rattle.words.specs.Words.{Word}
+use Rattle.join_pairs.specs.declared.shortlists.Span.{Span}
+use Rattle.join_pairs.specs.shortlists.Shortlists.{SpanThere, RankMet, FindThere, Shortlisted}
+use Rattle.join_pairs.proofs.shortlists.Meeting.{changed_then}
+use Rattle.join_pairs.proofs.shortlists.Sifting.{Sifting, pivot_there, sifting_start, sifting_span, sifting_step, sifting_end}
+use Rattle.join_pairs.proofs.shortlists.find_candidates.Goals as goal
+
+record Searching (lay : Layout) (w : List ℕ) (from to pivot : ℕ) (v : List ℕ) (a b i : ℕ) : Type 0 where
+  low : from ≤ i
+  changed : Changed lay.slots lay.row_starts w v
+  sifting : (q : Query) → FindThere lay q w from to pivot → Sifting lay q w from to pivot v a b i
+
+module _ {lay : Layout} {w : List ℕ} {from to pivot : ℕ} {v : List ℕ} {a b i : ℕ}
+    (searching : Searching lay w from to pivot v a b i) where
+  searching-end : Shortlisted lay w from to pivot v (record { from = a; to = b; rest = i })
+  searching-end =
+      record {
+        changed = searching.changed;
+        low = searching.low;
+        is = λ q there. sifting_end there (searching.sifting q there);
+      }
+
+  module _ (more : i < to) {r : ℕ} (word : Word v i r) where
+    searching-span : {q : Query} → FindThere lay q w from to pivot → SpanThere lay q v r pivot a b
+    searching-span {q} there = sifting_span there searching.changed.low (searching.sifting q there) searching.low more word
+
+    searching-step : {u : List ℕ} {s : Span} → RankMet lay v r pivot a b u s
+        → Searching lay w from to pivot u s.from s.to (i + 1)
+    searching-step met =
+        record {
+          low = omega (arith, searching.low);
+          changed = changed_then searching.changed met.changed;
+          sifting = λ q there.
+              sifting_step there searching.changed.low (searching.sifting q there) searching.low more word met;
+        }
+
+pub list_of-first-requires : goal.list_of-first-requires
+list_of-first-requires c =
+    record { query = c.requires.some_query.query; holds = pivot_there c.requires.some_query.holds }
+
+pub loop-i-init : goal.loop-i-init
+loop-i-init c = (
+  record {
+    low = omega arith;
+    changed = changed_none c.args.lay.slots c.args.lay.row_starts c.args.work.now;
+    sifting = λ q there. sifting_start there c.list_of-first.ensures;
+  },
+  c.requires.clear_2,
+)
+
+pub word_at-r-requires : goal.word_at-r-requires
+word_at-r-requires c =
+    let there = c.requires.some_query.holds in
+    omega (arith, c.loop-i-test.true, c.loop-i.invariant.0.changed.size, there.within, there.index.room)
+
+pub overflow_sub-b : goal.overflow_sub-b
+overflow_sub-b c =
+    let asked = c.requires.some_query in
+    (c.loop-i.invariant.0.sifting asked.query asked.holds).order
+
+pub overflow_sub-to : goal.overflow_sub-to
+overflow_sub-to c =
+    omega (arith, c.loop-i.invariant.0.low, c.loop-i-test.true)
+
+pub stops-requires : goal.stops-requires
+stops-requires c =
+    let asked = c.requires.some_query in
+    record {
+      query = asked.query;
+      holds = (searching-span c.loop-i.invariant.0 c.loop-i-test.true c.word_at-r.ensures asked.holds).rank;
+    }
+
+pub shape_of-work-then-stops : goal.shape_of-work-then-stops
+shape_of-work-then-stops c = c.loop-i.invariant.0.changed.size
+
+pub shape_of-flags-then-stops : goal.shape_of-flags-then-stops
+shape_of-flags-then-stops c =
+    omega (arith, c.loop-i.invariant.1.size, c.requires.clear_2.size)
+
+pub returns-then-stops : goal.returns-then-stops
+returns-then-stops c =
+    let inv = c.loop-i.invariant in
+    record {
+      listed = searching-end inv.0;
+      clear = inv.1;
+    }
+
+pub meet-s-requires : goal.meet-s-requires
+meet-s-requires c =
+    let asked = c.requires.some_query in
+    record {
+      some_query = record {
+        query = asked.query;
+        holds = searching-span c.loop-i.invariant.0 c.loop-i-test.true c.word_at-r.ensures asked.holds;
+      };
+      clear_2 = c.loop-i.invariant.1;
+    }
+
+pub overflow_add-i : goal.overflow_add-i
+overflow_add-i c =
+    let there = c.requires.some_query.holds in
+    omega (arith, c.loop-i-test.true, there.within, there.index.room)
+
+pub loop-i-smaller : goal.loop-i-smaller
+loop-i-smaller c = omega (arith, c.loop-i-test.true)
+
+pub loop-i-preserved : goal.loop-i-preserved
+loop-i-preserved c = (
+  searching-step c.loop-i.invariant.0 c.loop-i-test.true c.word_at-r.ensures c.meet-s.ensures.met,
+  c.meet-s.ensures.clear,
+)
+
+pub shape_of-work : goal.shape_of-work
+shape_of-work c = c.loop-i.invariant.0.changed.size
+
+pub shape_of-flags : goal.shape_of-flags
+shape_of-flags c = omega (arith, c.loop-i.invariant.1.size, c.requires.clear_2.size)
+
+pub returns : goal.returns
+returns c = record {
+  listed = searching-end c.loop-i.invariant.0;
+  clear = c.loop-i.invariant.1;
+}

@@ -1,0 +1,37 @@
+-- `join_text::list_ordered` meets its contract: the text of what the run answered and filled.
+use Rattle.inputs.specs.Input.{Input, input_of}
+use Rattle.join_spec.specs.Query.{Settings}
+use Rattle.join_spec.specs.Answer.{RunCall}
+use Rattle.join_text.specs.JoinText.{settings_under}
+use Rattle.join_text.proofs.Texts.{put_fills, fills_same}
+use Rattle.join_text.proofs.JoinTexts.{call_text, answer-fits}
+use Rattle.join_text.proofs.list_ordered.Goals as goal
+use Rattle.join_text.proofs.list_ordered.Goals.{After-run-answer}
+
+abbrev input : After-run-answer → Input
+input p =
+    let a = p.args in
+    input_of a.t a.left-ends.now a.left-items.now a.right-ends.now a.right-items.now
+
+abbrev asked : After-run-answer → Settings
+asked p = settings_under p.args.ranks.now
+
+ran : (p : After-run-answer)
+    → RunCall (input p) (asked p) p.new_work-work.result p.new_pairs-pairs.result
+    p.run-answer.new.1.1.1.1.1.1.1.1.1.0 p.run-answer.new.1.1.1.1.1.1.1.1.1.1.0 p.run-answer.result
+ran p = p.run-answer.ensures
+
+pub put_answer-requires : goal.put_answer-requires
+put_answer-requires c =
+    let a = c.args in
+    answer-fits (input (goal.at.put_answer-requires c).After-run-answer) (asked (goal.at.put_answer-requires c).After-run-answer) a.repeats a.left-numbers.now a.right-numbers.now (ran (goal.at.put_answer-requires c).After-run-answer)
+    c.new_pairs-pairs.ensures _ c.run-answer.auto.1.1.1.1.1.1.1.1.1.1.0 c.requires.room
+    c.requires.lefts c.requires.rights
+
+pub returns : goal.returns
+returns c =
+    let text = c.put_answer in
+    let a = c.args in
+    fills_same (call_text (input (goal.at.returns c).After-run-answer) (asked (goal.at.returns c).After-run-answer) a.repeats a.left-numbers.now a.right-numbers.now (ran (goal.at.returns c).After-run-answer)
+    c.new_pairs-pairs.ensures c.new_work-work.ensures)
+    (put_fills text.ensures.0 text.ensures.1)

@@ -1,0 +1,77 @@
+use native.Mathlib.Omega.{arith}
+use mathlib.Core.List.{[]}
+use mathlib.Core.Path.{sym, ◌∙◌}
+use Prim.Native.Nat.{◌-◌}
+use Rattle.join_nodes.proofs.PartLoop.{continuing_start, continuing_step, continuing_spent, continuing_end}
+use Rattle.join_walk.proofs.visit.ChildSteps.{kids_range, child_rank, first_child}
+use Rattle.join_walk.proofs.PartitionRanges.{partitions_done}
+use Rattle.join_walk.proofs.visit_partitions.Goals as goal
+
+pub loop-i-init : goal.loop-i-init
+loop-i-init c =
+    let asked = (c.requires.some_query, c.requires.clear_2) in
+    let some = asked.0 in
+    (continuing_start _ _ _ _ _ _ (record { query = some.query; path = []; holds = some.holds }), asked.1)
+
+pub range_end-j-requires : goal.range_end-j-requires
+range_end-j-requires c =
+    let some = c.loop-i.invariant.0.some in
+    record { query = some.query; holds = kids_range some.holds c.loop-i-test.true }
+
+pub visit_partition-one-requires : goal.visit_partition-one-requires
+visit_partition-one-requires c =
+    let inv = c.loop-i.invariant in
+    let some = inv.0.some in
+    record {
+      some_rank = record {
+        query = some.query;
+        rank = child_rank some.holds c.loop-i-test.true;
+        holds = first_child some.holds c.loop-i-test.true c.range_end-j.ensures;
+      };
+      clear_2 = inv.1;
+    }
+
+pub shape_of-work-then-one : goal.shape_of-work-then-one
+shape_of-work-then-one c =
+    c.visit_partition-one.auto.0 ∙ c.loop-i.invariant.0.size
+
+pub shape_of-flags-then-one : goal.shape_of-flags-then-one
+shape_of-flags-then-one c =
+    c.visit_partition-one.ensures.clear.size ∙ sym c.requires.clear_2.size
+
+pub returns-then-one : goal.returns-then-one
+returns-then-one c =
+    record {
+      visited = λ q first.
+          continuing_spent c.loop-i.invariant.0 (omega (arith, c.range_end-j.ensures.more)) c.range_end-j.ensures.within
+          (partitions_done c.loop-i-test.true c.range_end-j.ensures c.visit_partition-one.ensures.visited)
+          c.if-one.true q [] first;
+      clear = c.visit_partition-one.ensures.clear;
+    }
+
+pub loop-i-smaller : goal.loop-i-smaller
+loop-i-smaller c =
+    omega (arith, c.loop-i-test.true, c.range_end-j.ensures.more, c.range_end-j.ensures.within)
+
+pub loop-i-preserved : goal.loop-i-preserved
+loop-i-preserved c = (
+  continuing_step c.loop-i.invariant.0 (omega (arith, c.range_end-j.ensures.more)) c.range_end-j.ensures.within
+      (partitions_done c.loop-i-test.true c.range_end-j.ensures c.visit_partition-one.ensures.visited)
+      c.visit_partition-one.auto.0 c.if-one.false,
+  c.visit_partition-one.ensures.clear,
+)
+
+pub shape_of-work : goal.shape_of-work
+shape_of-work c = c.loop-i.invariant.0.size
+
+pub shape_of-flags : goal.shape_of-flags
+shape_of-flags c = c.loop-i.invariant.1.size ∙ sym c.requires.clear_2.size
+
+pub returns : goal.returns
+returns c =
+    let inv = c.loop-i.invariant in
+    record {
+      visited = λ q first.
+          continuing_end inv.0 c.loop-i-test.false inv.0.some.holds.underway.budget (λ q path at. at.rows) q [] first;
+      clear = inv.1;
+    }

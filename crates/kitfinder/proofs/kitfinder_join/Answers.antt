@@ -1,0 +1,13 @@
+-- `kitfinder_join` meets its contract: the words of the answer, and the lists that the join leaves.
+use mathlib.Core.Path.{ap, ◌∙◌}
+use Rattle.join_spec.specs.Answer.{join_words}
+use Rattle.join.proofs.ByNumber.{call_right}
+use Rattle.kitfinder.proofs.kitfinder_join.Goals as goal
+
+pub returns : goal.returns
+returns c =
+    let given = c.run_numbered.ensures in
+    record {
+      answer = c.join_words.ensures ∙ ap join_words given.answer;
+      lists = call_right given;
+    }

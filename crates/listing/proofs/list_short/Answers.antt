@@ -1,0 +1,53 @@
+-- `listing::list_short` meets its contract: what was loaded lies within the lists and is what the file's records fill; and the load
+-- is refused for a record at fault alone.
+use native.Mathlib.Omega.{arith}
+use Rattle.tag_file.specs.Loading.{Lists, lists_of}
+use Rattle.join_text.proofs.Texts.{put_fills, fills_same}
+use Rattle.listing_spec.proofs.LoadRoom.{ProgramLists}
+use Rattle.listing_spec.proofs.LoadTexts.{loaded_text, loaded-within, refused_load}
+use Rattle.listing.proofs.list_short.Goals as goal
+use Rattle.listing.proofs.list_short.Goals.{After-load-answer}
+
+abbrev lent : After-load-answer → Lists
+lent p =
+    lists_of p.new_tags-tags.result p.new_places-left_numbers.result p.new_ends-left_ends.result
+    p.new_items-left_items.result p.new_places-right_numbers.result p.new_ends-right_ends.result
+    p.new_items-right_items.result
+
+-- and after it
+abbrev got : After-load-answer → Lists
+got p =
+    let last = p.load-answer.new in
+    lists_of last.1.0 last.1.1.0 last.1.1.1.0 last.1.1.1.1.0 last.1.1.1.1.1.0
+    last.1.1.1.1.1.1.0 last.1.1.1.1.1.1.1.0
+
+program-lists : (p : After-load-answer) → ProgramLists (lent p)
+program-lists p =
+    record {
+      tags = p.new_tags-tags.ensures;
+      left_numbers = p.new_places-left_numbers.ensures;
+      left_ends = p.new_ends-left_ends.ensures;
+      left_items = p.new_items-left_items.ensures;
+      right_numbers = p.new_places-right_numbers.ensures;
+      right_ends = p.new_ends-right_ends.ensures;
+      right_items = p.new_items-right_items.ensures;
+    }
+
+pub list_counted-requires : goal.list_counted-requires
+list_counted-requires c =
+    loaded-within c.args.file.now {lent = lent (goal.at.list_counted-requires c).After-load-answer} {got = got (goal.at.list_counted-requires c).After-load-answer} c.load-answer.ensures c.answer-1.given.1 _ _
+    (omega (arith, c.new_places-ranks.ensures)) c.requires.1
+    c.load-answer.auto.1.1.0 c.load-answer.auto.1.1.1.0 c.load-answer.auto.1.1.1.1.0
+    c.load-answer.auto.1.1.1.1.1.0 c.load-answer.auto.1.1.1.1.1.1.0 c.load-answer.auto.1.1.1.1.1.1.1.0
+
+pub returns-in-Loaded : goal.returns-in-Loaded
+returns-in-Loaded c =
+    fills_same (loaded_text c.args.file.now {lent = lent (goal.at.returns-in-Loaded c).After-load-answer} {got = got (goal.at.returns-in-Loaded c).After-load-answer} c.load-answer.ensures c.answer-1.given.1)
+    c.list_counted.ensures
+
+pub returns-in-Refused : goal.returns-in-Refused
+returns-in-Refused c =
+    let line = c.put_refusal in
+    fills_same
+    (refused_load c.args.file.now {lent = lent (goal.at.returns-in-Refused c).After-load-answer} {got = got (goal.at.returns-in-Refused c).After-load-answer} c.load-answer.ensures c.answer-in-Refused-1.given.1 (program-lists (goal.at.returns-in-Refused c).After-load-answer) c.requires.0)
+    (put_fills line.ensures.0 (omega (arith, line.ensures.1, c.requires.1)))

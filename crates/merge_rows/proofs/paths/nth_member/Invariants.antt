@@ -1,0 +1,11 @@
+-- `merge_rows::paths::nth_member` meets its contract. The invariant: of the members, those in the words before w and the ones that are
+-- left to pass are n. The measure is how many words are left.
+use Prim.Native.Nat.{◌-◌}
+use lib.ListN.{length}
+use Rattle.merge_rows.proofs.paths.nth_member.Given as goal
+
+abbrev pub invariant-loop-w : goal.invariant-loop-w
+invariant-loop-w l = MembersLeft l.words l.n l.left l.w
+
+abbrev pub decreases-loop-w : goal.decreases-loop-w
+decreases-loop-w l = length l.words - l.w

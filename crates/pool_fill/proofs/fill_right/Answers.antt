@@ -1,0 +1,299 @@
+use mathlib.Core.Path.{◌≡◌, sym, ◌∙◌}
+use mathlib.Core.List.{[]}
+use mathlib.Core.Bool.{true, false}
+use Prim.Native.Nat.{ℕ, ◌-◌, ◌<◌}
+use native.Mathlib.Omega.{arith}
+use borrow.Author.Tests.{not-true, not-false}
+use lib.ListN.{get_or}
+use Rattle.sets.specs.Limits.{max_sets}
+use Rattle.sets.specs.declared.Side.TheVariants.{Right}
+use Rattle.lists.proofs.Bools.{by-test}
+use Rattle.bit_sets.specs.BitSets.{member}
+use Rattle.tag_file.specs.Reading.{readAt, tags_at}
+use Rattle.tag_file.specs.Records.{same_side}
+use Rattle.tag_file.specs.declared.ReadAnswer.TheVariants.{Record}
+use Rattle.tag_file.proofs.Ended.{no_records}
+use Rattle.tag_file.proofs.RecordLaws.{read_less}
+use Rattle.tag_index.specs.Index.{table_of}
+use Rattle.tag_loader.specs.record_items.Marks.{TagsKnown}
+use Rattle.tag_loader.proofs.record_items.Marks.{unmarked_marked, more_fresh}
+use Rattle.pool_fill.proofs.Fresh.{fresh-wide, fresh_items}
+use Rattle.pool_fill.proofs.FirstWalk.{first_walk_start, first-walk-skip}
+use Rattle.pool_fill.proofs.OwnSets.{own-known, own_slot, own_room, first-walk-own}
+use Rattle.pool_fill.proofs.SecondWalk.{SecondWalk, RightHere, second_walk_start, second-walk-skip, right-here}
+use Rattle.pool_fill.proofs.SecondWalk.{walked_numbers, walked_ends, walked_items}
+use Rattle.pool_fill.proofs.NewSets.{new_known, new_room, second_walk_new}
+use Rattle.pool_fill.proofs.MetSets.{met_known, met_slot, met_standing, second_walk_met}
+use Rattle.pool_fill.proofs.fill_right.Goals as goal
+use Rattle.pool_fill.proofs.fill_right.Goals.{After-number_slot-slot-then-contains, At-loop-side, At-loop-side-2, Else-contains, Else-not-is_side, Else-not-is_side-2, In-Record-2, In-Record-answer-2, Then-contains}
+
+-- the record of the first file that was read, its side, and the file's bytes
+read : (a : In-Record-2)
+    → let r = a.answer-1.given.0 in
+    readAt a.args.first.now a.loop-side.at
+    ≡ Record r.0 r.1.0 r.1.1.0 r.1.1.1.0 r.1.1.1.1.0
+read a = sym a.read_record-answer.ensures ∙ a.answer-1.given.1
+
+right_side : (o : Else-not-is_side)
+    → same_side Right o.answer-1.given.0.0 ≡ true
+right_side o =
+    let side = o.is_side in
+    sym side.ensures ∙ not-false side.result o.if-not-is_side.false
+
+bytes : (a : At-loop-side) (i : ℕ) → get_or a.args.first.now i 0 < 256
+bytes a i = (a.shared_slice_known-1.given i).fits
+
+-- the walk over the second file, from the lists at the function's start on
+second_walk : (a : At-loop-side-2)
+    → let s = a.args in
+    let l = a.loop-side-2 in
+    SecondWalk s.first.now s.second.now (table_of s.heads.now s.tails.now s.n s.ids.now) s.used.now
+    s.numbers.now s.ends.now s.items.now a.loop-side.slots
+    l.numbers l.ends l.items l.marks l.done l.on
+second_walk a =
+    let s = a.args in
+    let got = a.read_record-answer in
+    a.loop-side-2.invariant s.numbers.now s.ends.now s.items.now
+    (second_walk_start a.loop-side.invariant
+    (no_records s.first.now a.loop-side.at got.result (sym got.ensures) a.in-Record.keys2))
+
+-- the same of the second file
+read-second : (a : In-Record-answer-2)
+    → let r = a.answer-in-Record-answer-2-1.given.0 in
+    readAt a.args.second.now a.loop-side-2.on
+    ≡ Record r.0 r.1.0 r.1.1.0 r.1.1.1.0 r.1.1.1.1.0
+read-second a = sym a.read_record-answer-in-loop-side-2.ensures ∙ a.answer-in-Record-answer-2-1.given.1
+
+second-right-side : (o : Else-not-is_side-2)
+    → same_side Right o.answer-in-Record-answer-2-1.given.0.0 ≡ true
+second-right-side o =
+    let side = o.is_side-in-loop-side-2 in
+    sym side.ensures ∙ not-false side.result o.if-not-is_side-2.false
+
+second-bytes : (a : At-loop-side-2) (i : ℕ) → get_or a.args.second.now i 0 < 256
+second-bytes a i =
+    (a.shared_slice_known-2-1.given i).fits
+
+-- the index has the tags of a right set's record
+tags-known : (own : Else-not-is_side)
+    → let a = own.args in
+    let r = own.answer-1.given.0 in
+    TagsKnown a.first.now a.heads.now a.tails.now a.n a.ids.now a.ranks.now r.1.1.1.0 r.1.1.0
+tags-known own =
+    own-known own.requires own.loop-side.invariant (read own) (right_side own) (bytes own)
+
+-- the same of the second file: the record, and its tags
+right_there : (own : Else-not-is_side-2)
+    → let r = own.answer-in-Record-answer-2-1.given.0 in
+    let second = own.args.second.now in
+    RightHere second (second_walk own).seen own.loop-side-2.on r.1.1.0 r.1.1.1.0 r.1.1.1.1.0
+    (record { side = r.0; number = r.1.0; tags = tags_at r.1.1.0 second r.1.1.1.0 })
+right_there own =
+    right-here own.requires (second_walk own) (read-second own) (second-right-side own) (second-bytes own)
+
+second-known : (own : Else-not-is_side-2)
+    → let a = own.args in
+    let r = own.answer-in-Record-answer-2-1.given.0 in
+    TagsKnown a.second.now a.heads.now a.tails.now a.n a.ids.now a.ranks.now r.1.1.1.0 r.1.1.0
+second-known own =
+    let ready = own.requires in
+    let w = second_walk own in
+    by-test (member own.args.used.now own.answer-in-Record-answer-2-1.given.0.1.0)
+    (met_known ready w (right_there own)) (new_known ready w (right_there own))
+
+-- whether the first file has its number
+there : (met : Then-contains)
+    → member met.args.used.now met.answer-in-Record-answer-2-1.given.0.1.0 ≡ true
+there met = sym met.contains.ensures ∙ met.if-contains.true
+
+absent : (missed : Else-contains)
+    → member missed.args.used.now missed.answer-in-Record-answer-2-1.given.0.1.0 ≡ false
+absent missed = sym missed.contains.ensures ∙ missed.if-contains.false
+
+-- where it has, its slot is one
+slot-below : (found : After-number_slot-slot-then-contains) → found.number_slot-slot-then-contains.result < max_sets
+slot-below found =
+    let w = second_walk found in
+    let slot = met_slot found.requires w (right_there found) (there found) in
+    omega (arith, found.number_slot-slot-then-contains.ensures, slot.within, w.long)
+
+pub loop-side-init : goal.loop-side-init
+loop-side-init c = first_walk_start c.requires
+
+pub read_record-answer-requires : goal.read_record-answer-requires
+read_record-answer-requires c = tt
+
+pub enum_known-answer : goal.enum_known-answer
+enum_known-answer c = c.in-Record.keys1
+
+pub is_side-requires : goal.is_side-requires
+is_side-requires c = tt
+
+pub loop-side-smaller-then-not-is_side : goal.loop-side-smaller-then-not-is_side
+loop-side-smaller-then-not-is_side c = read_less _ _ (read (goal.at.loop-side-smaller-then-not-is_side c).In-Record-2)
+
+pub loop-side-preserved-then-not-is_side : goal.loop-side-preserved-then-not-is_side
+loop-side-preserved-then-not-is_side c =
+    let side = c.is_side in
+    first-walk-skip c.requires c.loop-side.invariant (read (goal.at.loop-side-preserved-then-not-is_side c).In-Record-2)
+    (sym side.ensures ∙ not-true side.result c.if-not-is_side.true)
+
+pub slice_bounds-mark_tags-end : goal.slice_bounds-mark_tags-end
+slice_bounds-mark_tags-end c = sym c.loop-side.invariant.unmarked.wide
+
+pub mark_tags-requires : goal.mark_tags-requires
+mark_tags-requires c =
+    let w = c.loop-side.invariant in
+    record {
+      tags_known = tags-known (goal.at.mark_tags-requires c).Else-not-is_side;
+      some_marked = record { done = []; marked = unmarked_marked _ w.unmarked };
+    }
+
+pub number_slot-slot-requires : goal.number_slot-slot-requires
+number_slot-slot-requires c = c.requires.counted
+
+pub slice_bounds-put_own-end : goal.slice_bounds-put_own-end
+slice_bounds-put_own-end c =
+    sym (fresh-wide (tags-known (goal.at.slice_bounds-put_own-end c).Else-not-is_side) c.loop-side.invariant.unmarked c.mark_tags.ensures)
+
+pub put_own-done-requires : goal.put_own-done-requires
+put_own-done-requires c =
+    let ready = c.requires in
+    let w = c.loop-side.invariant in
+    let slot = c.number_slot-slot.ensures in
+    let items = fresh_items (tags-known (goal.at.put_own-done-requires c).Else-not-is_side) w.unmarked c.mark_tags.ensures in
+    record {
+      marks_len = fresh-wide (tags-known (goal.at.put_own-done-requires c).Else-not-is_side) w.unmarked c.mark_tags.ensures;
+      slot_in_bounds = rw slot (own_slot ready w (read (goal.at.put_own-done-requires c).In-Record-2) (right_side (goal.at.put_own-done-requires c).Else-not-is_side) (bytes (goal.at.put_own-done-requires c).At-loop-side)).within;
+      room_for_own = rw (slot, items) (own_room ready w (read (goal.at.put_own-done-requires c).In-Record-2) (right_side (goal.at.put_own-done-requires c).Else-not-is_side) (bytes (goal.at.put_own-done-requires c).At-loop-side));
+    }
+
+pub loop-side-smaller : goal.loop-side-smaller
+loop-side-smaller c = read_less _ _ (read (goal.at.loop-side-smaller c).In-Record-2)
+
+pub loop-side-preserved : goal.loop-side-preserved
+loop-side-preserved c =
+    let w = c.loop-side.invariant in
+    let o = (c.put_own-done.ensures.marks, c.put_own-done.ensures.lists) in
+    let items = fresh_items (tags-known (goal.at.loop-side-preserved c).Else-not-is_side) w.unmarked c.mark_tags.ensures in
+    first-walk-own c.requires w (read (goal.at.loop-side-preserved c).In-Record-2) (right_side (goal.at.loop-side-preserved c).Else-not-is_side) (bytes (goal.at.loop-side-preserved c).At-loop-side)
+    (rw (c.number_slot-slot.ensures, items) at o.1) o.0
+
+pub loop-side-2-init : goal.loop-side-2-init
+loop-side-2-init c = λ n₀ e₀ i₀ w. w
+
+pub read_record-answer-requires-in-loop-side-2 : goal.read_record-answer-requires-in-loop-side-2
+read_record-answer-requires-in-loop-side-2 c = tt
+
+pub enum_known-answer-in-Record-answer-2 : goal.enum_known-answer-in-Record-answer-2
+enum_known-answer-in-Record-answer-2 c = c.in-Record-answer.keys1
+
+pub shape_of-slots-in_default-answer : goal.shape_of-slots-in_default-answer
+shape_of-slots-in_default-answer c =
+    c.loop-side.invariant.long ∙ sym c.requires.size
+
+pub shape_of-numbers-in_default-answer : goal.shape_of-numbers-in_default-answer
+shape_of-numbers-in_default-answer c = (second_walk (goal.at.shape_of-numbers-in_default-answer c).At-loop-side-2).placing.for_numbers.same
+
+pub shape_of-ends-in_default-answer : goal.shape_of-ends-in_default-answer
+shape_of-ends-in_default-answer c = (second_walk (goal.at.shape_of-ends-in_default-answer c).At-loop-side-2).placing.for_ends.same
+
+pub shape_of-items-in_default-answer : goal.shape_of-items-in_default-answer
+shape_of-items-in_default-answer c = (second_walk (goal.at.shape_of-items-in_default-answer c).At-loop-side-2).placing.same
+
+pub returns-in_default-answer : goal.returns-in_default-answer
+returns-in_default-answer c =
+    let w = second_walk (goal.at.returns-in_default-answer c).At-loop-side-2 in
+    let got = c.read_record-answer-in-loop-side-2 in
+    let stop = no_records c.args.second.now c.loop-side-2.on got.result (sym got.ensures) c.in-Record-answer.keys2 in
+    record {
+      numbers = walked_numbers c.requires w stop;
+      ends = walked_ends c.requires w stop;
+      items = walked_items c.requires w stop;
+    }
+
+pub is_side-requires-in-loop-side-2 : goal.is_side-requires-in-loop-side-2
+is_side-requires-in-loop-side-2 c = tt
+
+pub loop-side-2-smaller-then-not-is_side-2 : goal.loop-side-2-smaller-then-not-is_side-2
+loop-side-2-smaller-then-not-is_side-2 c = read_less _ _ (read-second (goal.at.loop-side-2-smaller-then-not-is_side-2 c).In-Record-answer-2)
+
+pub loop-side-2-preserved-then-not-is_side-2 : goal.loop-side-2-preserved-then-not-is_side-2
+loop-side-2-preserved-then-not-is_side-2 c =
+    let side = c.is_side-in-loop-side-2 in
+    λ n₀ e₀ i₀ w.
+    second-walk-skip c.requires (c.loop-side-2.invariant n₀ e₀ i₀ w) (read-second (goal.at.loop-side-2-preserved-then-not-is_side-2 c).In-Record-answer-2)
+    (sym side.ensures ∙ not-true side.result c.if-not-is_side-2.true)
+
+pub slice_bounds-mark_tags-end-in-loop-side-2 : goal.slice_bounds-mark_tags-end-in-loop-side-2
+slice_bounds-mark_tags-end-in-loop-side-2 c = sym (second_walk (goal.at.slice_bounds-mark_tags-end-in-loop-side-2 c).At-loop-side-2).unmarked.wide
+
+pub mark_tags-requires-in-loop-side-2 : goal.mark_tags-requires-in-loop-side-2
+mark_tags-requires-in-loop-side-2 c =
+    record {
+      tags_known = second-known (goal.at.mark_tags-requires-in-loop-side-2 c).Else-not-is_side-2;
+      some_marked = record { done = []; marked = unmarked_marked _ (second_walk (goal.at.mark_tags-requires-in-loop-side-2 c).At-loop-side-2).unmarked };
+    }
+
+pub contains-requires : goal.contains-requires
+contains-requires c =
+    omega (arith, (right_there (goal.at.contains-requires c).Else-not-is_side-2).small, c.requires.noted.wide)
+
+pub number_slot-slot-requires-then-contains : goal.number_slot-slot-requires-then-contains
+number_slot-slot-requires-then-contains c = c.requires.counted
+
+pub offset_bounds-slots-slot : goal.offset_bounds-slots-slot
+offset_bounds-slots-slot c = omega (arith, slot-below (goal.at.offset_bounds-slots-slot c).After-number_slot-slot-then-contains)
+
+pub bounds-slots-slot : goal.bounds-slots-slot
+bounds-slots-slot c = omega (arith, slot-below (goal.at.bounds-slots-slot c).After-number_slot-slot-then-contains, (second_walk (goal.at.bounds-slots-slot c).At-loop-side-2).long)
+
+pub overflow_cast-slots : goal.overflow_cast-slots
+overflow_cast-slots c = omega (arith, (c.slice_known-then-contains-1.given c.number_slot-slot-then-contains.result).fits)
+
+pub slice_bounds-pool_marked-end : goal.slice_bounds-pool_marked-end
+slice_bounds-pool_marked-end c =
+    sym (fresh-wide (second-known (goal.at.slice_bounds-pool_marked-end c).Else-not-is_side-2) (second_walk (goal.at.slice_bounds-pool_marked-end c).At-loop-side-2).unmarked c.mark_tags-in-loop-side-2.ensures)
+
+pub pool_marked-requires : goal.pool_marked-requires
+pool_marked-requires c =
+    let w = second_walk (goal.at.pool_marked-requires c).At-loop-side-2 in
+    rw c.number_slot-slot-then-contains.ensures
+    (met_standing c.requires w (right_there (goal.at.pool_marked-requires c).Else-not-is_side-2) (there (goal.at.pool_marked-requires c).Then-contains) (more_fresh w.unmarked c.mark_tags-in-loop-side-2.ensures))
+
+pub loop-side-2-smaller-then-contains : goal.loop-side-2-smaller-then-contains
+loop-side-2-smaller-then-contains c = read_less _ _ (read-second (goal.at.loop-side-2-smaller-then-contains c).In-Record-answer-2)
+
+pub loop-side-2-preserved-then-contains : goal.loop-side-2-preserved-then-contains
+loop-side-2-preserved-then-contains c =
+    let ready = c.requires in
+    let o = (c.pool_marked.ensures.marks, c.pool_marked.ensures.items) in
+    λ n₀ e₀ i₀ start.
+    let w = c.loop-side-2.invariant n₀ e₀ i₀ start in
+    second_walk_met ready w (right-here ready w (read-second (goal.at.loop-side-2-preserved-then-contains c).In-Record-answer-2) (second-right-side (goal.at.loop-side-2-preserved-then-contains c).Else-not-is_side-2) (second-bytes (goal.at.loop-side-2-preserved-then-contains c).At-loop-side-2)) (there (goal.at.loop-side-2-preserved-then-contains c).Then-contains)
+    (more_fresh w.unmarked c.mark_tags-in-loop-side-2.ensures) (rw c.number_slot-slot-then-contains.ensures at o.1) o.0
+
+pub slice_bounds-put_record-end : goal.slice_bounds-put_record-end
+slice_bounds-put_record-end c =
+    sym (fresh-wide (second-known (goal.at.slice_bounds-put_record-end c).Else-not-is_side-2) (second_walk (goal.at.slice_bounds-put_record-end c).At-loop-side-2).unmarked c.mark_tags-in-loop-side-2.ensures)
+
+pub put_record-done-requires : goal.put_record-done-requires
+put_record-done-requires c =
+    let w = second_walk (goal.at.put_record-done-requires c).At-loop-side-2 in
+    record {
+      marks_len = fresh-wide (second-known (goal.at.put_record-done-requires c).Else-not-is_side-2) w.unmarked c.mark_tags-in-loop-side-2.ensures;
+      room_for_one = rw (fresh_items (second-known (goal.at.put_record-done-requires c).Else-not-is_side-2) w.unmarked c.mark_tags-in-loop-side-2.ensures)
+          (new_room c.requires w (right_there (goal.at.put_record-done-requires c).Else-not-is_side-2) (absent (goal.at.put_record-done-requires c).Else-contains));
+    }
+
+pub loop-side-2-smaller : goal.loop-side-2-smaller
+loop-side-2-smaller c = read_less _ _ (read-second (goal.at.loop-side-2-smaller c).In-Record-answer-2)
+
+pub loop-side-2-preserved : goal.loop-side-2-preserved
+loop-side-2-preserved c =
+    let ready = c.requires in
+    let o = (c.put_record-done.ensures.marks, c.put_record-done.ensures.lists) in
+    λ n₀ e₀ i₀ start.
+    let w = c.loop-side-2.invariant n₀ e₀ i₀ start in
+    second_walk_new ready w (right-here ready w (read-second (goal.at.loop-side-2-preserved c).In-Record-answer-2) (second-right-side (goal.at.loop-side-2-preserved c).Else-not-is_side-2) (second-bytes (goal.at.loop-side-2-preserved c).At-loop-side-2)) (absent (goal.at.loop-side-2-preserved c).Else-contains)
+    (rw (fresh_items (second-known (goal.at.loop-side-2-preserved c).Else-not-is_side-2) w.unmarked c.mark_tags-in-loop-side-2.ensures) at o.1) o.0

@@ -1,0 +1,64 @@
+-- `pool_loader::second_file::fill_pooled` meets its contract.
+use Prim.Native.Nat.{ℕ}
+use lib.ListN.{length-replicate}
+use Rattle.tag_index.specs.Index.{index_room}
+use Rattle.pool_loader.proofs.second_file.Filling.{sorted_here, tags_room, tags_filled, left-ready, right-ready, left_numbers_filled}
+use Rattle.pool_loader.proofs.second_file.Filling.{left_ends_filled, left_items_filled, right_ends_filled, right_items_filled}
+use Rattle.pool_loader.proofs.second_file.fill_pooled.Goals as goal
+
+pub rank_ids-requires : goal.rank_ids-requires
+rank_ids-requires c =
+    record {
+      ids_listed = (sorted_here c.requires).listed;
+      ranks_len = length-replicate {A = ℕ} index_room 0;
+    }
+
+pub fill_tags-requires : goal.fill_tags-requires
+fill_tags-requires c = record {
+  sorted = sorted_here c.requires;
+  ids_in_bounds = tags_room c.requires;
+}
+
+pub fill_side-requires : goal.fill_side-requires
+fill_side-requires c =
+    left-ready c.requires c.rank_ids.ensures
+
+pub fill_right-requires : goal.fill_right-requires
+fill_right-requires c =
+    right-ready c.requires c.rank_ids.ensures (λ i. (c.shared_slice_known-1.given i).fits)
+
+-- each list is as long as it was: so says the call, of its parameters in their order
+pub shape_of-tags : goal.shape_of-tags
+shape_of-tags c = c.fill_tags.auto.1.1.1.1.0
+
+pub shape_of-left_numbers : goal.shape_of-left_numbers
+shape_of-left_numbers c = c.fill_side.auto.1.1.1.1.1.1.1.1.0
+
+pub shape_of-left_ends : goal.shape_of-left_ends
+shape_of-left_ends c = c.fill_side.auto.1.1.1.1.1.1.1.1.1.0
+
+pub shape_of-left_items : goal.shape_of-left_items
+shape_of-left_items c = c.fill_side.auto.1.1.1.1.1.1.1.1.1.1.0
+
+pub shape_of-right_numbers : goal.shape_of-right_numbers
+shape_of-right_numbers c = c.fill_right.auto.1.1.1.1.1.1.1.1.1.1.1.0
+
+pub shape_of-right_ends : goal.shape_of-right_ends
+shape_of-right_ends c = c.fill_right.auto.1.1.1.1.1.1.1.1.1.1.1.1.0
+
+pub shape_of-right_items : goal.shape_of-right_items
+shape_of-right_items c = c.fill_right.auto.1.1.1.1.1.1.1.1.1.1.1.1.1.0
+
+pub returns : goal.returns
+returns c =
+    let l = (c.fill_side.ensures.numbers, (c.fill_side.ensures.ends, c.fill_side.ensures.items)) in
+    let r = (c.fill_right.ensures.numbers, (c.fill_right.ensures.ends, c.fill_right.ensures.items)) in
+    record {
+      tags_filled = tags_filled c.requires c.args.tags.now c.fill_tags.ensures;
+      left_numbers_filled = left_numbers_filled c.requires c.args.left-numbers.now l.0;
+      left_ends_filled = left_ends_filled c.requires c.args.left-ends.now l.1.0;
+      left_items_filled = left_items_filled c.requires c.args.left-items.now l.1.1;
+      right_numbers_filled = r.0;
+      right_ends_filled = right_ends_filled c.requires c.args.right-ends.now r.1.0;
+      right_items_filled = right_items_filled c.requires c.args.right-items.now r.1.1;
+    }

@@ -1,0 +1,66 @@
+use Rattle.std.proofs.Common.{◌≡◌, ◌-◌, ◌<◌, sym, ◌∙◌, arith}
+use borrow.Author.Tests.{not-true, not-false}
+use Rattle.sets.specs.Limits.{half_words}
+use Rattle.tag_file.specs.Reading.{read_at}
+use Rattle.tag_file.specs.declared.ReadAnswer.TheVariants.{Record}
+use Rattle.tag_file.proofs.Ended.{no_records}
+use Rattle.tag_file.proofs.RecordLaws.{read_less, read_number}
+use Rattle.pool_scan.proofs.right_slots.Noting.{noting_wide, noting_start, noting_end, noting_other, noting_own}
+use Rattle.pool_scan.proofs.right_slots.note_numbers.Goals as goal
+use Rattle.pool_scan.proofs.right_slots.note_numbers.Goals.{In-Record-2}
+
+-- the record that was read
+read : (a : In-Record-2)
+    → let r = a.answer-1.given.0 in
+    read_at a.args.file.now a.loop-side.at
+    ≡ Record r.0 r.1.0 r.1.1.0 r.1.1.1.0 r.1.1.1.1.0
+read a = sym a.read_record-answer.ensures ∙ a.answer-1.given.1
+
+small : (a : In-Record-2) → a.answer-1.given.0.1.0 < half_words
+small a = read_number _ _ (read a) (λ i. (a.shared_slice_known-1.given i).fits)
+
+pub loop-side-init : goal.loop-side-init
+loop-side-init c = noting_start c.args.file.now c.requires.used_value
+
+pub read_record-answer-requires : goal.read_record-answer-requires
+read_record-answer-requires c = tt
+
+pub enum_known-answer : goal.enum_known-answer
+enum_known-answer c = c.in-Record.keys1
+
+pub shape_of-used-in_default : goal.shape_of-used-in_default
+shape_of-used-in_default c =
+    c.loop-side.invariant.wide ∙ sym (noting_wide c.requires.used_value)
+
+pub returns-in_default : goal.returns-in_default
+returns-in_default c =
+    let told = c.read_record-answer in
+    let stop = no_records c.args.file.now c.loop-side.at told.result (sym told.ensures) c.in-Record.keys2 in
+    noting_end c.loop-side.invariant stop c.requires.file_len_bound
+
+pub is_side-requires : goal.is_side-requires
+is_side-requires c = tt
+
+pub loop-side-smaller-then-not-is_side : goal.loop-side-smaller-then-not-is_side
+loop-side-smaller-then-not-is_side c = read_less _ _ (read (goal.at.loop-side-smaller-then-not-is_side c).In-Record-2)
+
+pub loop-side-preserved-then-not-is_side : goal.loop-side-preserved-then-not-is_side
+loop-side-preserved-then-not-is_side c =
+    let side = c.is_side in
+    noting_other c.loop-side.invariant (read (goal.at.loop-side-preserved-then-not-is_side c).In-Record-2) (sym side.ensures ∙ not-true side.result c.if-not-is_side.true)
+
+pub overflow_cast-number : goal.overflow_cast-number
+overflow_cast-number c = record { fits = omega (arith, small (goal.at.overflow_cast-number c).In-Record-2) }
+
+pub insert-requires : goal.insert-requires
+insert-requires c =
+    omega (arith, small (goal.at.insert-requires c).In-Record-2, c.loop-side.invariant.wide)
+
+pub loop-side-smaller : goal.loop-side-smaller
+loop-side-smaller c = read_less _ _ (read (goal.at.loop-side-smaller c).In-Record-2)
+
+pub loop-side-preserved : goal.loop-side-preserved
+loop-side-preserved c =
+    let side = c.is_side in
+    noting_own c.loop-side.invariant (read (goal.at.loop-side-preserved c).In-Record-2)
+    (sym side.ensures ∙ not-false side.result c.if-not-is_side.false) c.insert.ensures

@@ -1,0 +1,167 @@
+use Rattle.std.proofs.Common.{◌≡◌, ℕ, ◌-◌, ◌<◌, ◌≤◌, true, false, get_or, sym, ap, ◌∙◌, arith}
+use Rattle.bit_sets.specs.BitSets.{member}
+use Rattle.sets.specs.Limits.{max_set_length, half_words}
+use Rattle.sets.specs.declared.Refusal.TheVariants.{Malformed, NumberUsed, TooMany}
+use Rattle.sets.specs.declared.Side.TheVariants.{Right}
+use Rattle.tag_file.specs.declared.LoadAnswer.TheVariants as load
+use Rattle.tag_file.specs.declared.ReadAnswer.TheVariants.{Record}
+use Rattle.tag_file.specs.Reading.{readAt}
+use Rattle.tag_file.specs.Records.{same_side}
+use Rattle.tag_file.proofs.Ended.{no_records}
+use Rattle.tag_file.proofs.RecordLaws.{read_less, read_number, read_count}
+use Rattle.pool_scan.specs.declared.counting.Counted.{Counted}
+use Rattle.pool_scan.specs.counting.Counting.{counted_by}
+use Rattle.pool_scan.proofs.Passing.{over_of, passing-by, passing_start, passing_whole, passing_cut, passing_left, passing_used}
+use Rattle.pool_scan.proofs.Passing.{passing_repeats, passing_past, passing_next}
+use Rattle.pool_scan.proofs.Step.{step-ready, step_bounds, stepped}
+use Rattle.pool_scan.proofs.Words.{noted_start}
+use Rattle.pool_scan.proofs.scan_second.Goals as goal
+use Rattle.pool_scan.proofs.scan_second.Goals.{Else-claim, In-Record-2, Then-is_side}
+
+-- the record that was read
+read : (a : In-Record-2)
+    → let r = a.answer-1.given.0 in
+    readAt a.args.second.now a.loop-side.at
+    ≡ Record r.0 r.1.0 r.1.1.0 r.1.1.1.0 r.1.1.1.1.0
+read a = sym a.read_record-answer.ensures ∙ a.answer-1.given.1
+
+small : (a : In-Record-2) → a.answer-1.given.0.1.0 < half_words
+small a = read_number _ _ (read a) (λ i. (a.shared_slice_known-2-1.given i).fits)
+
+few : (a : In-Record-2) → a.answer-1.given.0.1.1.0 ≤ max_set_length
+few a = read_count _ _ (read a) (λ i. (a.shared_slice_known-2-1.given i).fits)
+
+-- it is of the right side
+right : (a : Then-is_side) → same_side Right a.answer-1.given.0.0 ≡ true
+right a = sym a.is_side.ensures ∙ a.if-is_side.true
+
+right-here : (e : Else-claim) → same_side Right e.answer-1.given.0.0 ≡ true
+right-here e = right e
+
+-- its number was not noted
+free : (e : Else-claim) → member e.loop-side.noted e.answer-1.given.0.1.0 ≡ false
+free e = sym e.claim.ensures.before ∙ e.if-claim.false
+
+-- the first file has bytes
+bytes : (e : Else-claim) (i : ℕ) → get_or e.args.first.now i 0 < 256
+bytes e i = (e.shared_slice_known-1.given i).fits
+
+pub count_from-counted-requires : goal.count_from-counted-requires
+count_from-counted-requires c = tt
+
+pub loop-side-init : goal.loop-side-init
+loop-side-init c =
+    passing-by c.count_from-counted.ensures (passing_start c.requires noted_start)
+
+pub read_record-answer-requires : goal.read_record-answer-requires
+read_record-answer-requires c = tt
+
+pub wrapping_add_usize-place-requires : goal.wrapping_add_usize-place-requires
+wrapping_add_usize-place-requires c = tt
+
+pub enum_known-answer : goal.enum_known-answer
+enum_known-answer c = c.in-Record.keys1
+
+pub accepted-requires : goal.accepted-requires
+accepted-requires c = tt
+
+pub shape_of-slots-then-at-second : goal.shape_of-slots-then-at-second
+shape_of-slots-then-at-second c = c.loop-side.invariant.size ∙ sym c.requires.slotted.size
+
+pub returns-then-at-second : goal.returns-then-at-second
+returns-then-at-second c =
+    let read = c.read_record-answer in
+    let stop = no_records c.args.second.now c.loop-side.at read.result (sym read.ensures) c.in-Record.keys2 in
+    passing_whole c.loop-side.invariant stop c.if-at-second.true c.accepted.ensures
+
+pub refused-requires : goal.refused-requires
+refused-requires c = tt
+
+pub shape_of-slots-in_default : goal.shape_of-slots-in_default
+shape_of-slots-in_default c = c.loop-side.invariant.size ∙ sym c.requires.slotted.size
+
+pub returns-in_default : goal.returns-in_default
+returns-in_default c =
+    let read = c.read_record-answer in
+    let stop = no_records c.args.second.now c.loop-side.at read.result (sym read.ensures) c.in-Record.keys2 in
+    passing_cut c.loop-side.invariant stop c.if-at-second.false
+    (c.refused.ensures ∙ ap (λ (k : ℕ). load.Refused (Malformed k)) c.wrapping_add_usize-place.ensures)
+
+pub is_side-requires : goal.is_side-requires
+is_side-requires c = tt
+
+pub slice_bounds-claim-end : goal.slice_bounds-claim-end
+slice_bounds-claim-end c = sym c.loop-side.invariant.numbers.wide
+
+pub claim-requires : goal.claim-requires
+claim-requires c = c.loop-side.invariant.numbers.wide
+
+pub refused-requires-then-claim : goal.refused-requires-then-claim
+refused-requires-then-claim c = tt
+
+pub shape_of-slots-then-claim : goal.shape_of-slots-then-claim
+shape_of-slots-then-claim c = c.loop-side.invariant.size ∙ sym c.requires.slotted.size
+
+pub returns-then-claim : goal.returns-then-claim
+returns-then-claim c =
+    let l = c.loop-side in
+    passing_used l.invariant (read (goal.at.returns-then-claim c).In-Record-2) (right (goal.at.returns-then-claim c).Then-is_side) (small (goal.at.returns-then-claim c).In-Record-2) (sym c.claim.ensures.before ∙ c.if-claim.true) l.invariant.size
+    (c.refused-then-claim.ensures ∙ ap (λ (k : ℕ). load.Refused (NumberUsed k)) c.wrapping_add_usize-place.ensures)
+
+pub unite-united-requires : goal.unite-united-requires
+unite-united-requires c =
+    step-ready c.requires (bytes (goal.at.unite-united-requires c).Else-claim) c.loop-side.invariant (read (goal.at.unite-united-requires c).In-Record-2) (right-here (goal.at.unite-united-requires c).Else-claim) (small (goal.at.unite-united-requires c).In-Record-2) (free (goal.at.unite-united-requires c).Else-claim) (few (goal.at.unite-united-requires c).In-Record-2)
+
+pub count_set-counted-requires : goal.count_set-counted-requires
+count_set-counted-requires c =
+    let inv = c.loop-side.invariant in
+    let taking = c.unite-united.ensures in
+    let bounds = step_bounds c.requires (bytes (goal.at.count_set-counted-requires c).Else-claim) inv (read (goal.at.count_set-counted-requires c).In-Record-2) (right-here (goal.at.count_set-counted-requires c).Else-claim) (small (goal.at.count_set-counted-requires c).In-Record-2) (free (goal.at.count_set-counted-requires c).Else-claim) taking in
+    let one = stepped c.requires (bytes (goal.at.count_set-counted-requires c).Else-claim) inv (read (goal.at.count_set-counted-requires c).In-Record-2) (right-here (goal.at.count_set-counted-requires c).Else-claim) (small (goal.at.count_set-counted-requires c).In-Record-2) (free (goal.at.count_set-counted-requires c).Else-claim) taking in
+    let more = passing_repeats inv (read (goal.at.count_set-counted-requires c).In-Record-2) one.distinct (omega (arith, c.good.0)) (omega (arith, c.good.1.0)) in
+    record {
+      limited = inv.taken.limited;
+      less = bounds.0;
+      few = bounds.1;
+      distinct = more.0;
+      fits = more.1;
+    }
+
+pub is_past-requires : goal.is_past-requires
+is_past-requires c = tt
+
+pub refused-requires-then-is_past : goal.refused-requires-then-is_past
+refused-requires-then-is_past c = tt
+
+pub shape_of-slots-then-is_past : goal.shape_of-slots-then-is_past
+shape_of-slots-then-is_past c =
+    let one = stepped c.requires (bytes (goal.at.shape_of-slots-then-is_past c).Else-claim) c.loop-side.invariant (read (goal.at.shape_of-slots-then-is_past c).In-Record-2) (right-here (goal.at.shape_of-slots-then-is_past c).Else-claim) (small (goal.at.shape_of-slots-then-is_past c).In-Record-2) (free (goal.at.shape_of-slots-then-is_past c).Else-claim) c.unite-united.ensures in
+    one.size ∙ sym c.requires.slotted.size
+
+pub returns-then-is_past : goal.returns-then-is_past
+returns-then-is_past c =
+    let inv = c.loop-side.invariant in
+    let one = stepped c.requires (bytes (goal.at.returns-then-is_past c).Else-claim) inv (read (goal.at.returns-then-is_past c).In-Record-2) (right-here (goal.at.returns-then-is_past c).Else-claim) (small (goal.at.returns-then-is_past c).In-Record-2) (free (goal.at.returns-then-is_past c).Else-claim) c.unite-united.ensures in
+    passing_past inv (read (goal.at.returns-then-is_past c).In-Record-2) (right-here (goal.at.returns-then-is_past c).Else-claim) (small (goal.at.returns-then-is_past c).In-Record-2) (free (goal.at.returns-then-is_past c).Else-claim) c.unite-united.result one.one one.size
+    (sym (ap (λ (k : Counted). over_of k.total) c.count_set-counted.ensures) ∙ sym c.is_past.ensures ∙ c.if-is_past.true)
+    (c.refused-then-is_past.ensures ∙ ap (λ (k : ℕ). load.Refused (TooMany k)) c.wrapping_add_usize-place.ensures)
+
+pub loop-side-smaller-else-is_past : goal.loop-side-smaller-else-is_past
+loop-side-smaller-else-is_past c = read_less _ _ (read (goal.at.loop-side-smaller-else-is_past c).In-Record-2)
+
+pub loop-side-preserved-else-is_past : goal.loop-side-preserved-else-is_past
+loop-side-preserved-else-is_past c =
+    let inv = c.loop-side.invariant in
+    let set = c.count_set-counted.ensures in
+    let one = stepped c.requires (bytes (goal.at.loop-side-preserved-else-is_past c).Else-claim) inv (read (goal.at.loop-side-preserved-else-is_past c).In-Record-2) (right-here (goal.at.loop-side-preserved-else-is_past c).Else-claim) (small (goal.at.loop-side-preserved-else-is_past c).In-Record-2) (free (goal.at.loop-side-preserved-else-is_past c).Else-claim) c.unite-united.ensures in
+    passing-by
+    (set ∙ ap (counted_by c.loop-side.counted c.unite-united.result c.answer-1.given.0.1.1.0) c.wrapping_add_usize-place.ensures)
+    (passing_next inv (read (goal.at.loop-side-preserved-else-is_past c).In-Record-2) (right-here (goal.at.loop-side-preserved-else-is_past c).Else-claim) (small (goal.at.loop-side-preserved-else-is_past c).In-Record-2) (free (goal.at.loop-side-preserved-else-is_past c).Else-claim) c.unite-united.result one.one one.size
+    (sym (ap (λ (k : Counted). over_of k.total) set) ∙ sym c.is_past.ensures ∙ c.if-is_past.false)
+    c.claim.ensures.noted one.distinct one.words one.is one.counted)
+
+pub loop-side-smaller : goal.loop-side-smaller
+loop-side-smaller c = read_less _ _ (read (goal.at.loop-side-smaller c).In-Record-2)
+
+pub loop-side-preserved : goal.loop-side-preserved
+loop-side-preserved c = passing_left c.loop-side.invariant (read (goal.at.loop-side-preserved c).In-Record-2) (sym c.is_side.ensures ∙ c.if-is_side.false)

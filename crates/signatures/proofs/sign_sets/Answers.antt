@@ -1,0 +1,34 @@
+use Prim.Native.Nat.{◌-◌}
+use mathlib.Core.Path.{refl}
+use native.Mathlib.Omega.{arith}
+use Rattle.signatures.proofs.SigningSets.{signing_start, signing_step, signing_end}
+use Rattle.signatures.proofs.sign_sets.Goals as goal
+
+pub loop-k-init : goal.loop-k-init
+loop-k-init c = (refl, signing_start)
+
+pub overflow_cast-end : goal.overflow_cast-end
+overflow_cast-end c = omega (arith, c.shared_slice_known-in-loop-k-1.given c.loop-k.k)
+
+pub sign_set-mark-requires : goal.sign_set-mark-requires
+sign_set-mark-requires c =
+    record {
+      within = c.requires.room.within c.loop-k.k (omega arith);
+      positions = c.requires.positions;
+    }
+
+pub store_double-requires : goal.store_double-requires
+store_double-requires c =
+    let size = c.loop-k.invariant.1.signed.size in
+    omega arith
+
+pub loop-k-preserved : goal.loop-k-preserved
+loop-k-preserved c =
+    let rest = signing_step c.loop-k.invariant.1 (omega arith) in
+    (refl, rest c.sign_set-mark.ensures c.store_double.ensures)
+
+pub shape_of-work : goal.shape_of-work
+shape_of-work c = c.loop-k.invariant.1.signed.size
+
+pub returns : goal.returns
+returns c = signing_end c.loop-k.invariant.1 (omega arith)

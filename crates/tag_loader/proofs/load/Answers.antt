@@ -1,0 +1,102 @@
+-- `tag_loader::load` meets its contract: by the three ends of `Answers`.
+use Rattle.tag_file.specs.Loading.{Lists, lists_of}
+use Rattle.tag_loader.proofs.Answers.{call-fault, sound-limited, call-short, room-fillable, call-loaded}
+use Rattle.tag_loader.proofs.load.Goals as goal
+use Rattle.tag_loader.proofs.load.Goals.{After-scan-answer}
+
+-- the lists that were lent
+abbrev lent : After-scan-answer → Lists
+lent at-scan =
+    let a = at-scan.args in
+    lists_of a.tags.now a.left-numbers.now a.left-ends.now a.left-items.now
+    a.right-numbers.now a.right-ends.now a.right-items.now
+
+-- each list is as long as it was: so says the call, of its parameters in their order
+pub shape_of-tags-in_default : goal.shape_of-tags-in_default
+shape_of-tags-in_default c = c.clear_lists.auto.0
+
+pub shape_of-left_numbers-in_default : goal.shape_of-left_numbers-in_default
+shape_of-left_numbers-in_default c = c.clear_lists.auto.1.0
+
+pub shape_of-left_ends-in_default : goal.shape_of-left_ends-in_default
+shape_of-left_ends-in_default c = c.clear_lists.auto.1.1.0
+
+pub shape_of-left_items-in_default : goal.shape_of-left_items-in_default
+shape_of-left_items-in_default c = c.clear_lists.auto.1.1.1.0
+
+pub shape_of-right_numbers-in_default : goal.shape_of-right_numbers-in_default
+shape_of-right_numbers-in_default c = c.clear_lists.auto.1.1.1.1.0
+
+pub shape_of-right_ends-in_default : goal.shape_of-right_ends-in_default
+shape_of-right_ends-in_default c = c.clear_lists.auto.1.1.1.1.1.0
+
+pub shape_of-right_items-in_default : goal.shape_of-right_items-in_default
+shape_of-right_items-in_default c = c.clear_lists.auto.1.1.1.1.1.1.0
+
+pub returns-in_default : goal.returns-in_default
+returns-in_default c =
+    let told = c.enum_told-1.given in
+    call-fault {before = lent (goal.at.returns-in_default c).After-scan-answer} told.0.0 c.scan-answer.ensures told.1 c.clear_lists.ensures
+
+pub has_room-requires : goal.has_room-requires
+has_room-requires c =
+    sound-limited c.scan-answer.ensures c.answer-1.given.1
+
+pub shape_of-tags-then-not-has_room : goal.shape_of-tags-then-not-has_room
+shape_of-tags-then-not-has_room c = c.clear_lists-then-not-has_room.auto.0
+
+pub shape_of-left_numbers-then-not-has_room : goal.shape_of-left_numbers-then-not-has_room
+shape_of-left_numbers-then-not-has_room c = c.clear_lists-then-not-has_room.auto.1.0
+
+pub shape_of-left_ends-then-not-has_room : goal.shape_of-left_ends-then-not-has_room
+shape_of-left_ends-then-not-has_room c = c.clear_lists-then-not-has_room.auto.1.1.0
+
+pub shape_of-left_items-then-not-has_room : goal.shape_of-left_items-then-not-has_room
+shape_of-left_items-then-not-has_room c = c.clear_lists-then-not-has_room.auto.1.1.1.0
+
+pub shape_of-right_numbers-then-not-has_room : goal.shape_of-right_numbers-then-not-has_room
+shape_of-right_numbers-then-not-has_room c = c.clear_lists-then-not-has_room.auto.1.1.1.1.0
+
+pub shape_of-right_ends-then-not-has_room : goal.shape_of-right_ends-then-not-has_room
+shape_of-right_ends-then-not-has_room c = c.clear_lists-then-not-has_room.auto.1.1.1.1.1.0
+
+pub shape_of-right_items-then-not-has_room : goal.shape_of-right_items-then-not-has_room
+shape_of-right_items-then-not-has_room c = c.clear_lists-then-not-has_room.auto.1.1.1.1.1.1.0
+
+pub returns-then-not-has_room : goal.returns-then-not-has_room
+returns-then-not-has_room c =
+    call-short c.scan-answer.ensures c.answer-1.given.1 (lent (goal.at.returns-then-not-has_room c).After-scan-answer)
+    c.has_room.ensures c.if-not-has_room.true
+    c.clear_lists-then-not-has_room.ensures
+
+pub fill_lists-requires : goal.fill_lists-requires
+fill_lists-requires c =
+    room-fillable c.scan-answer.ensures c.answer-1.given.1 (lent (goal.at.fill_lists-requires c).After-scan-answer)
+    c.has_room.ensures c.if-not-has_room.false
+
+pub shape_of-tags : goal.shape_of-tags
+shape_of-tags c = c.fill_lists.auto.1.1.1.1.1.1.0
+
+pub shape_of-left_numbers : goal.shape_of-left_numbers
+shape_of-left_numbers c = c.fill_lists.auto.1.1.1.1.1.1.1.0
+
+pub shape_of-left_ends : goal.shape_of-left_ends
+shape_of-left_ends c = c.fill_lists.auto.1.1.1.1.1.1.1.1.0
+
+pub shape_of-left_items : goal.shape_of-left_items
+shape_of-left_items c = c.fill_lists.auto.1.1.1.1.1.1.1.1.1.0
+
+pub shape_of-right_numbers : goal.shape_of-right_numbers
+shape_of-right_numbers c = c.fill_lists.auto.1.1.1.1.1.1.1.1.1.1.0
+
+pub shape_of-right_ends : goal.shape_of-right_ends
+shape_of-right_ends c = c.fill_lists.auto.1.1.1.1.1.1.1.1.1.1.1.0
+
+pub shape_of-right_items : goal.shape_of-right_items
+shape_of-right_items c = c.fill_lists.auto.1.1.1.1.1.1.1.1.1.1.1.1.0
+
+pub returns : goal.returns
+returns c =
+    call-loaded c.scan-answer.ensures c.answer-1.given.1 (lent (goal.at.returns c).After-scan-answer)
+    c.has_room.ensures c.if-not-has_room.left
+    c.fill_lists.ensures

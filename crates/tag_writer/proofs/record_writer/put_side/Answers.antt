@@ -1,0 +1,137 @@
+use mathlib.Core.Path.{◌≡◌, refl, sym, ap, ◌∙◌}
+use mathlib.Core.List.{List, []}
+use Prim.Native.Nat.{ℕ, ◌+◌, ◌-◌, ◌/◌, ◌≤◌, ◌<◌}
+use native.Mathlib.Omega.{arith}
+use lib.ListN.{length, drop, get_or, length-append, drop_of_length-le}
+use Rattle.sets.specs.Collections.{between, sets_from, first_bad_from}
+use Rattle.sets.specs.declared.Side.{Side}
+use Rattle.sets.specs.declared.Verdict.TheVariants.{Good}
+use Rattle.sets.proofs.Between.{length-between}
+use Rattle.sets.proofs.Good.{GoodSet, good_step, good_next}
+use Rattle.tag_file.specs.Format.{tag_length, record_length, record_bytes}
+use lib.Seq.{sets, length-sets}
+use Rattle.tag_writer_spec.specs.Inner.{ItemsFit, GoodSide}
+use Rattle.tag_writer_spec.specs.Writer.{item_tags, records_of}
+use Rattle.lists.proofs.Filling.{sets_then}
+use Rattle.tag_writer_spec.proofs.Sides.{fit_items, length_record, records_next}
+use Rattle.tag_writer.proofs.record_writer.put_side.Goals as goal
+use Rattle.tag_writer.proofs.record_writer.put_side.Goals.{In-loop-k}
+
+-- the records from place k on, the first set beginning at start
+abbrev rest : Side → List ℕ → List ℕ → List ℕ → List ℕ → ℕ → ℕ → List ℕ
+rest side tags numbers ends items k start = records_of side tags (drop k numbers) (sets_from start (drop k ends) items)
+
+record PuttingRecords (side : Side) (tags numbers ends items file₀ : List ℕ) (at : ℕ) (file : List ℕ)
+    (k start to : ℕ) : Type 0 where
+  within : k ≤ length ends
+  long : length file ≡ length file₀
+  good : first_bad_from (length tags / tag_length) k start (drop k ends) items ≡ Good
+  place : to + length (rest side tags numbers ends items k start) ≡ at + length (rest side tags numbers ends items 0 0)
+  together : sets file to (rest side tags numbers ends items k start) ≡ sets file₀ at (rest side tags numbers ends items 0 0)
+
+putting-start : (side : Side) (tags numbers ends items file : List ℕ) (at : ℕ) → GoodSide tags numbers ends items
+    → PuttingRecords side tags numbers ends items file at file 0 0 at
+putting-start side tags numbers ends items file at so =
+    record { within = omega arith; long = refl; good = so.good; place = refl; together = refl }
+
+-- what a turn has: the set at place k is not bad, its tags are in the table, and its record has room
+record Turn (tags items file : List ℕ) (k start end to : ℕ) : Type 0 where
+  set : GoodSet (length tags / tag_length) k start end items
+  fit : ItemsFit tags items start end
+  room : to + record_length (end - start) ≤ length file
+
+module _ (side : Side) (tags numbers ends items file₀ : List ℕ) (at : ℕ) (file : List ℕ) (k start to : ℕ)
+    (whole : GoodSide tags numbers ends items)
+    (fits : at + length (rest side tags numbers ends items 0 0) ≤ length file₀)
+    (more : k < length ends) (so : PuttingRecords side tags numbers ends items file₀ at file k start to) where
+  -- the length of the record at place k
+  size : GoodSet (length tags / tag_length) k start (get_or ends k 0) items
+      → length (record_bytes side (get_or numbers k 0) (item_tags tags (between start (get_or ends k 0) items)))
+      ≡ record_length (get_or ends k 0 - start)
+  size here =
+      length_record side (get_or numbers k 0) tags (between start (get_or ends k 0) items)
+      ∙ rw (length-between start (get_or ends k 0) items here.within)
+
+  split : length (rest side tags numbers ends items k start)
+      ≡ length (record_bytes side (get_or numbers k 0) (item_tags tags (between start (get_or ends k 0) items)))
+      + length (rest side tags numbers ends items (k + 1) (get_or ends k 0))
+  split = rw (records_next side tags numbers ends items k start more whole.numbered, length-append)
+
+  turn : Turn tags items file k start (get_or ends k 0) to
+  turn =
+      let here = good_step (length tags / tag_length) ends items k start more so.good in
+      let n = size here in
+      let l = split in
+      record {
+        set = here;
+        fit = fit_items tags items k start (get_or ends k 0) here;
+        room = omega (arith, so.place, so.long);
+      }
+
+  putting-step : (file' : List ℕ) (size' : ℕ)
+      → file' ≡ sets file to (record_bytes side (get_or numbers k 0) (item_tags tags (between start (get_or ends k 0) items)))
+      → size' ≡ record_length (get_or ends k 0 - start)
+      → PuttingRecords side tags numbers ends items file₀ at file' (k + 1) (get_or ends k 0) (to + size')
+  putting-step file' size' e long =
+      let n = size turn.set ∙ sym long in
+      let l = split in
+      let bytes = record_bytes side (get_or numbers k 0) (item_tags tags (between start (get_or ends k 0) items)) in
+      record {
+        within = omega arith;
+        long = ap length e ∙ length-sets file to bytes ∙ so.long;
+        good = good_next (length tags / tag_length) ends items k start more so.good;
+        place = omega (arith, so.place);
+        together =
+            rw e
+            (sym (sets_then file to bytes (rest side tags numbers ends items (k + 1) (get_or ends k 0)) _ n)
+            ∙ ap (sets file to) (sym (records_next side tags numbers ends items k start more whole.numbered)) ∙ so.together);
+      }
+
+putting-end : (side : Side) (tags numbers ends items file₀ : List ℕ) (at : ℕ) (file : List ℕ) (k start to : ℕ)
+    → GoodSide tags numbers ends items → length ends ≤ k → PuttingRecords side tags numbers ends items file₀ at file k start to
+    → file ≡ sets file₀ at (rest side tags numbers ends items 0 0)
+unfolding records_of sets_from
+putting-end side tags numbers ends items file₀ at file k start to whole done so =
+    let none : drop k numbers ≡ [] = drop_of_length-le numbers {i = k} (omega (arith, whole.numbered)) in
+    ap (λ (l : List ℕ). sets file to (records_of side tags l (sets_from start (drop k ends) items))) (sym none) ∙ so.together
+
+now-turn : (p : In-loop-k)
+    → Turn p.args.tags.now p.args.items.now p.loop-k.file p.loop-k.k
+    p.loop-k.start (get_or p.args.ends.now p.loop-k.k 0) p.loop-k.to
+now-turn p = turn _ _ _ _ _ _ _ _ _ _ _ p.requires.good_side p.requires.in_bounds p.loop-k-test.true p.loop-k.invariant
+
+pub loop-k-init : goal.loop-k-init
+loop-k-init c = putting-start _ _ _ _ _ _ _ c.requires.good_side
+
+pub overflow_cast-end : goal.overflow_cast-end
+overflow_cast-end c = omega (arith, c.shared_slice_known-in-loop-k-1.given c.loop-k.k)
+
+pub put_record-requires : goal.put_record-requires
+put_record-requires c =
+    let now = now-turn (goal.at.put_record-requires c).In-loop-k in
+    record {
+      items_fit = now.fit;
+      start_bound = (now.set.short, now.room);
+    }
+
+pub overflow_sub-end : goal.overflow_sub-end
+overflow_sub-end c = omega (arith, (now-turn (goal.at.overflow_sub-end c).In-loop-k).set.ordered)
+
+pub record_length-to-requires : goal.record_length-to-requires
+record_length-to-requires c = (now-turn (goal.at.record_length-to-requires c).In-loop-k).set.short
+
+pub overflow_add-to : goal.overflow_add-to
+overflow_add-to c =
+    omega (arith, c.record_length-to.ensures, (now-turn (goal.at.overflow_add-to c).In-loop-k).room, c.good)
+
+pub loop-k-preserved : goal.loop-k-preserved
+loop-k-preserved c =
+    putting-step _ _ _ _ _ _ _ _ _ _ _ c.requires.good_side c.requires.in_bounds c.loop-k-test.true c.loop-k.invariant _ _
+    c.put_record.ensures c.record_length-to.ensures
+
+pub shape_of-file : goal.shape_of-file
+shape_of-file c = c.loop-k.invariant.long
+
+pub returns : goal.returns
+returns c =
+    putting-end _ _ _ _ _ _ _ _ _ _ _ c.requires.good_side c.loop-k-test.false c.loop-k.invariant

@@ -1,0 +1,38 @@
+-- `test_lists` meets its contract: the first test that fails decides, in the order of the definition.
+use mathlib.Core.Path.{◌≡◌, sym, ◌∙◌}
+use Rattle.sets.specs.declared.Side.TheVariants.{Left}
+use Rattle.tag_file.specs.Loading.{Lists, lists_of}
+use Rattle.tag_writer_spec.specs.Writer.{table_test, numbered_test}
+use Rattle.tag_writer_spec.proofs.Tests.{lists-table, lists_left, lists_right}
+use Rattle.tag_writer.proofs.test_lists.Goals as goal
+use Rattle.tag_writer.proofs.test_lists.Goals.{After-test_numbered-left, After-test_table-table, Start}
+
+-- the seven lists of a call
+abbrev lists : Start → Lists
+lists s =
+    let a = s.args in
+    lists_of a.tags.now a.left-numbers.now a.left-ends.now a.left-items.now
+    a.right-numbers.now a.right-ends.now a.right-items.now
+
+-- what was found of the table, and of the left sets
+table : (p : After-test_table-table) → table_test p.args.t (lists p).tags ≡ p.test_table-table.result
+table p = sym p.test_table-table.ensures
+
+left : (p : After-test_numbered-left)
+    → numbered_test p.args.t Left (lists p).left_numbers
+    (lists p).left_ends (lists p).left_items ≡ p.test_numbered-left.result
+left p = sym p.test_numbered-left.ensures
+
+pub returns-in-Failed : goal.returns-in-Failed
+returns-in-Failed c =
+    lists-table c.args.t (lists (goal.at.returns-in-Failed c).Start) _ (table (goal.at.returns-in-Failed c).After-test_table-table ∙ c.table-1.given.1)
+
+pub returns-in-Failed-left : goal.returns-in-Failed-left
+returns-in-Failed-left c =
+    lists_left c.args.t (lists (goal.at.returns-in-Failed-left c).Start) (table (goal.at.returns-in-Failed-left c).After-test_table-table ∙ c.enum_told-1.given.1) _
+    (left (goal.at.returns-in-Failed-left c).After-test_numbered-left ∙ c.left-1.given.1)
+
+pub returns : goal.returns
+returns c =
+    lists_right c.args.t (lists (goal.at.returns c).Start) (table (goal.at.returns c).After-test_table-table ∙ c.enum_told-1.given.1)
+    (left (goal.at.returns c).After-test_numbered-left ∙ c.enum_told-in_default-left-1.given.1) c.test_numbered.ensures

@@ -1,0 +1,6 @@
+use Prim.Native.Nat.{◌-◌}
+use native.Mathlib.Omega.{arith}
+use Rattle.tag_writer_main.proofs.print_bytes.Goals as goal
+
+pub overflow_cast-file : goal.overflow_cast-file
+overflow_cast-file c = omega (arith, c.shared_slice_known-in-loop-i-1.given c.loop-i.i)

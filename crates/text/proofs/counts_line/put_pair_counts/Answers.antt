@@ -1,0 +1,11 @@
+-- `text::counts_line::put_pair_counts` meets its contract: three counts, each behind its word.
+use native.Mathlib.Omega.{arith}
+use Rattle.lists.proofs.Writing.{put_append}
+use Rattle.text.proofs.counts_line.put_pair_counts.Goals as goal
+
+pub returns : goal.returns
+returns c =
+    record {
+      put = put_append c.put_count-n.ensures.put (put_append c.put_count-m.ensures.put c.put_count.ensures.put);
+      upper_bound = omega (arith, c.put_count-n.ensures.upper_bound, c.put_count-m.ensures.upper_bound, c.put_count.ensures.upper_bound);
+    }

@@ -1,0 +1,13 @@
+-- `text::number_lines::put_refused` meets its contract: a line of two numbers.
+use native.Mathlib.Omega.{arith}
+use Rattle.text.specs.Lines.{refused_line}
+use Rattle.text.proofs.number_lines.put_refused.Goals as goal
+
+pub returns : goal.returns
+unfolding refused_line
+returns c =
+    let line = (c.put_numbers.ensures.put, c.put_numbers.ensures.upper_bound) in
+    record {
+      put = line.0;
+      upper_bound = omega (arith, line.1);
+    }

@@ -1,0 +1,13 @@
+-- `text::number_lines::put_repeats` meets its contract: a line of two numbers.
+use native.Mathlib.Omega.{arith}
+use Rattle.text.specs.Lines.{repeats_line}
+use Rattle.text.proofs.number_lines.put_repeats.Goals as goal
+
+pub returns : goal.returns
+unfolding repeats_line
+returns c =
+    let line = (c.put_numbers.ensures.put, c.put_numbers.ensures.upper_bound) in
+    record {
+      put = line.0;
+      upper_bound = omega (arith, line.1);
+    }

@@ -1,0 +1,55 @@
+-- `text::pair_lines::put_pair` meets its contract: two numbers of at most five digits, with a space between and a line feed behind.
+use native.Mathlib.Omega.{arith}
+use Rattle.lists.proofs.Writing.{put_append}
+use Rattle.text.specs.Lines.{ascii, pair_line}
+use Rattle.text.proofs.LineBounds.{short_number, short-labelled}
+use Rattle.text.proofs.pair_lines.put_pair.Goals as goal
+
+pub put_number-n-requires : goal.put_number-n-requires
+put_number-n-requires c =
+    omega (arith, c.requires, short_number c.args.left c.ranges.left.fits)
+
+pub put_labelled-m-requires : goal.put_labelled-m-requires
+put_labelled-m-requires c =
+    let left = c.put_number-n in
+    omega (
+      arith,
+      c.requires,
+      left.ensures.past,
+      left.auto.0,
+      short_number c.args.left c.ranges.left.fits,
+      short-labelled (ascii " ") c.args.right c.ranges.right.fits,
+    )
+
+pub put_word-requires : goal.put_word-requires
+put_word-requires c =
+    let right = c.put_labelled-m in
+    let left = c.put_number-n in
+    omega (
+      arith,
+      c.requires,
+      left.ensures.past,
+      left.auto.0,
+      right.ensures.past,
+      right.auto.0,
+      short_number c.args.left c.ranges.left.fits,
+      short-labelled (ascii " ") c.args.right c.ranges.right.fits,
+    )
+
+pub returns : goal.returns
+unfolding pair_line
+returns c =
+    let end = c.put_word in
+    let right = c.put_labelled-m in
+    let left = c.put_number-n in
+    record {
+      put = put_append left.ensures (put_append right.ensures end.ensures);
+      upper_bound = omega (
+        arith,
+        left.ensures.past,
+        right.ensures.past,
+        end.ensures.past,
+        short_number c.args.left c.ranges.left.fits,
+        short-labelled (ascii " ") c.args.right c.ranges.right.fits,
+      );
+    }

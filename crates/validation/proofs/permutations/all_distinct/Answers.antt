@@ -1,0 +1,64 @@
+use mathlib.Core.Path.{◌≡◌, refl, sym, ◌∙◌}
+use mathlib.Core.List.{List}
+use mathlib.Core.Bool.{◌&&◌}
+use Prim.Native.Nat.{ℕ, ◌-◌, ◌<◌, ◌≤◌}
+use native.Mathlib.Omega.{arith}
+use borrow.Author.Tests.{ltb-true}
+use lib.Dec.{eqb, ltb}
+use lib.ListN.{length, drop, get_or, length-set}
+use Rattle.lists.proofs.Throughout.{all_at}
+use Rattle.validation.proofs.permutations.Fresh.{fresh_in, fresh_start, fresh_next, fresh_end}
+use Rattle.validation.proofs.permutations.all_distinct.Goals as goal
+use Rattle.validation.proofs.permutations.all_distinct.Goals.{After-slice_known-1}
+
+record FreshLeft (ranks was seen : List ℕ) (again i : ℕ) : Type 0 where
+  low : i ≤ length ranks
+  left : (eqb again 0 && fresh_in seen (drop i ranks)) ≡ fresh_in was ranks
+  same : length seen ≡ length was
+
+-- the rank at hand has a mark
+marked : (c : After-slice_known-1)
+    → get_or c.args.ranks.now c.loop-i.i 0
+    < length c.loop-i.seen
+marked c =
+    let a = c.args in
+    let i = c.loop-i.i in
+    let pre = (c.requires.clear, c.requires.room) in
+    omega (
+      arith,
+      c.loop-i.invariant.same,
+      ltb-true (get_or a.ranks.now i 0) (length a.seen.now)
+          (all_at (λ x. ltb x (length a.seen.now)) 0 a.ranks.now pre.1 i (omega arith)),
+    )
+
+pub loop-i-init : goal.loop-i-init
+loop-i-init c = record { low = omega arith; left = refl; same = refl }
+
+pub overflow_cast-x : goal.overflow_cast-x
+overflow_cast-x c = omega (arith, c.shared_slice_known-1.given c.loop-i.i)
+
+pub slice-read-preserved : goal.slice-read-preserved
+slice-read-preserved c = marked (goal.at.slice-read-preserved c).After-slice_known-1
+
+pub bounds-seen-x-in-loop-i : goal.bounds-seen-x-in-loop-i
+bounds-seen-x-in-loop-i c = marked (goal.at.bounds-seen-x-in-loop-i c).After-slice_known-1
+
+pub loop-i-preserved : goal.loop-i-preserved
+loop-i-preserved c =
+    let a = c.args in
+    let l = c.loop-i in
+    record {
+      low = omega arith;
+      left = fresh_next l.i l.seen a.ranks.now l.again (omega arith) ∙ l.invariant.left;
+      same = length-set l.seen (get_or a.ranks.now l.i 0) 1 ∙ l.invariant.same;
+    }
+
+pub shape_of-seen : goal.shape_of-seen
+shape_of-seen c = c.loop-i.invariant.same
+
+pub returns : goal.returns
+returns c =
+    let a = c.args in
+    let l = c.loop-i in
+    sym (fresh_end l.i l.seen a.ranks.now l.again (omega arith)) ∙ l.invariant.left
+    ∙ fresh_start a.seen.now a.ranks.now c.requires.clear c.requires.room

@@ -1,0 +1,76 @@
+use Prim.Native.Nat.{ℕ, ◌-◌}
+use mathlib.Core.Path.{◌≡◌, ap, ◌∙◌}
+use native.Mathlib.Omega.{arith}
+use lib.ListN.{get_or}
+use Rattle.lists.specs.Lists.{one, memb, rising, slice}
+use Rattle.lists.proofs.Slices.{frame-slice}
+use Rattle.words.specs.Merges.{Rising}
+use Rattle.words.proofs.flags.Keeping.{keeping_start, keeping_step, keeping_end}
+use Rattle.words.proofs.found.keep_found.Goals as goal
+use Rattle.words.proofs.found.keep_found.Goals.{At-loop-j}
+
+-- the first part as it was
+same-part : (l : At-loop-j)
+    → slice l.args.a l.args.b l.loop-j.work ≡ slice l.args.a l.args.b l.args.work.now
+same-part l =
+    let a = l.args in
+    frame-slice a.a a.b a.out a.work.now l.loop-j.work l.requires.b_le_out l.loop-j.invariant.changed.low
+
+part-rises : (l : At-loop-j) → Rising l.args.a l.args.b l.loop-j.work
+part-rises l =
+    record {
+      within = omega (arith, l.requires.rising.within, l.loop-j.invariant.changed.size);
+      rise = ap rising (same-part l) ∙ l.requires.rising.rise;
+    }
+
+pub loop-j-init : goal.loop-j-init
+loop-j-init c = keeping_start
+
+pub word_at-x-requires : goal.word_at-x-requires
+word_at-x-requires c =
+    let behind = c.requires.behind in
+    omega (arith, c.loop-j-test.true, behind.low, behind.room, c.loop-j.invariant.changed.size)
+
+pub is_among-found-requires : goal.is_among-found-requires
+is_among-found-requires c =
+    record {
+      a_le_b = c.requires.a_le_b;
+      rising = part-rises (goal.at.is_among-found-requires c).At-loop-j;
+    }
+
+pub overflow_cast-work : goal.overflow_cast-work
+overflow_cast-work c = omega (arith, c.word_at-x.ensures.small)
+
+pub offset_bounds-work-n : goal.offset_bounds-work-n
+offset_bounds-work-n c =
+    omega (arith, c.loop-j-test.true, c.requires.behind, c.loop-j.invariant)
+
+pub bounds-work-n : goal.bounds-work-n
+bounds-work-n c =
+    omega (arith, c.loop-j-test.true, c.requires.behind, c.loop-j.invariant)
+
+pub overflow_add-n : goal.overflow_add-n
+overflow_add-n c =
+    omega (arith, c.number-n.ensures.small, c.loop-j.invariant.high, c.requires.behind.room)
+
+pub overflow_add-j : goal.overflow_add-j
+overflow_add-j c = omega (arith, c.loop-j-test.true)
+
+pub loop-j-smaller : goal.loop-j-smaller
+loop-j-smaller c = omega (arith, c.loop-j-test.true)
+
+pub loop-j-preserved : goal.loop-j-preserved
+loop-j-preserved c =
+    let a = c.args in
+    let word = c.word_at-x.ensures.is in
+    let told : c.number-n.result ≡ one (memb (get_or c.loop-j.work c.loop-j.j 0) (slice a.a a.b a.work.now)) =
+    c.number-n.ensures.is
+    ∙ ap one (c.is_among-found.ensures ∙ ap (memb c.word_at-x.result) (same-part (goal.at.loop-j-preserved c).At-loop-j)
+    ∙ ap (λ (x : ℕ). memb x (slice a.a a.b a.work.now)) word) in
+    rw word (keeping_step c.loop-j.invariant c.requires.behind c.loop-j-test.true told)
+
+pub shape_of-work : goal.shape_of-work
+shape_of-work c = c.loop-j.invariant.changed.size
+
+pub returns : goal.returns
+returns c = keeping_end c.loop-j.invariant c.loop-j-test.false

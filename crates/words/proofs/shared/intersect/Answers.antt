@@ -1,0 +1,80 @@
+-- `words::shared::intersect` meets its contract: what is found of the second part in the first is what they share, and so is what the
+-- flags of the first part keep of the second; the first part lies below what was written, so that its flags are found again and taken
+-- away.
+use Prim.Native.Nat.{ℕ}
+use mathlib.Core.Path.{◌≡◌, ◌∙◌}
+use lib.ListN.{length}
+use native.Mathlib.Omega.{arith}
+use Rattle.words.specs.flags.Flags.{flag_room}
+use Rattle.words.proofs.flags.Flagging.{below_length, flagged_own}
+use Rattle.words.proofs.shared.Sharing.{found_shared, kept_shared, below_changed, flagged_changed}
+use Rattle.words.proofs.shared.intersect.Goals as goal
+use Rattle.words.proofs.shared.intersect.Goals.{After-flag_words}
+
+pub overflow_sub-e : goal.overflow_sub-e
+overflow_sub-e c = omega (arith, c.requires.below_2.order)
+
+pub overflow_sub-b : goal.overflow_sub-b
+overflow_sub-b c = omega (arith, c.requires.below.order)
+
+pub keep_found-requires : goal.keep_found-requires
+keep_found-requires c =
+    let asked = (c.requires.rising, (c.requires.rising_2, (c.requires.apart, (c.requires.below, (c.requires.below_2, c.requires.clear_2))))) in
+    let apart = asked.1.1.0 in
+    record {
+      a_le_b = asked.1.1.1.0.order;
+      rising = asked.0;
+      b_le_out = apart.first;
+      behind = record { low = apart.second; room = apart.room };
+    }
+
+pub returns-then-is_far_shorter : goal.returns-then-is_far_shorter
+returns-then-is_far_shorter c =
+    let asked = (c.requires.rising, (c.requires.rising_2, (c.requires.apart, (c.requires.below, (c.requires.below_2, c.requires.clear_2))))) in
+    record {
+      shared = found_shared asked.0 asked.1.0 c.keep_found.ensures;
+      clear = asked.1.1.1.1.1;
+    }
+
+pub flag_words-requires : goal.flag_words-requires
+flag_words-requires c =
+    let clear = c.requires.clear_2 in
+    record {
+      below = below_length c.args.flags.now clear.size c.requires.below;
+      flagged = clear.none;
+    }
+
+-- the table is as long after the flagging
+flags-size : (c : After-flag_words) → length {A = ℕ} c.flag_words.new.1.1.1.0 ≡ flag_room
+flags-size c = c.flag_words.auto.1.1.1.0 ∙ c.requires.clear_2.size
+
+pub keep_flagged-r-requires : goal.keep_flagged-r-requires
+keep_flagged-r-requires c =
+    let apart = c.requires.apart in
+    record {
+      below = below_length c.flag_words.new.1.1.1.0 (flags-size (goal.at.keep_flagged-r-requires c).After-flag_words) c.requires.below_2;
+      behind = record { low = apart.second; room = apart.room };
+      flagged = flagged_own c.flag_words.ensures;
+    }
+
+pub unflag_words-requires : goal.unflag_words-requires
+unflag_words-requires c =
+    let apart = c.requires.apart in
+    let changed = c.keep_flagged-r.ensures.changed in
+    record {
+      below = below_length c.flag_words.new.1.1.1.0 (flags-size (goal.at.unflag_words-requires c).After-flag_words)
+          (below_changed c.args.a apart.first changed c.requires.below);
+      flagged = flagged_changed c.args.a apart.first changed c.flag_words.ensures;
+    }
+
+pub returns : goal.returns
+returns c =
+    let flags = c.flag_words.new.1.1.1.0 in
+    record {
+      shared = kept_shared c.requires.rising c.requires.rising_2 (below_length flags (flags-size (goal.at.returns c).After-flag_words) c.requires.below_2)
+          c.flag_words.ensures c.keep_flagged-r.ensures;
+      clear = record {
+        size = c.unflag_words.auto.1.1.1.0 ∙ flags-size (goal.at.returns c).After-flag_words;
+        none = c.unflag_words.ensures;
+      };
+    }

@@ -1,0 +1,10 @@
+-- `words::word_at` meets its contract: a word fits 32 bits.
+use mathlib.Core.Path.{refl}
+use native.Mathlib.Omega.{arith}
+use Rattle.words.proofs.word_at.Goals as goal
+
+pub overflow_cast-result : goal.overflow_cast-result
+overflow_cast-result c = omega (arith, c.shared_slice_known-1.given c.args.i)
+
+pub returns : goal.returns
+returns c = record { is = refl; small = omega (arith, c.shared_slice_known-1.given c.args.i) }
