@@ -6,7 +6,7 @@ use Rattle.sets.specs.declared.Tested.TheVariants.{Passed}
 use Rattle.first_search_spec.specs.declared.FirstAnswer.TheVariants.{Searched}
 use Rattle.first_search_spec.specs.First.{first_test}
 use Rattle.first_search_spec.proofs.FirstTests.{Searchable, first_passed, first_refused, first_searched}
-use Rattle.first_search.proofs.Searching.{right-fits, marked_first}
+use Rattle.first_search.proofs.Searching.{right_fits, marked_first}
 use Rattle.first_search.proofs.find_first.Goals as goal
 use Rattle.first_search.proofs.find_first.Goals.{After-test_first-tested, In-Passed, Start}
 
@@ -20,14 +20,14 @@ found p = sym p.test_first-tested.ensures
 
 passed : (p : In-Passed)
     → first_test p.args.t (lefts p) p.args.right.now ≡ Passed
-passed p = found p ∙ p.enum_told-1.given.1
+passed p = found p ∙ p.in-Passed.is
 
 searchable : (p : In-Passed) → Searchable p.args.t (lefts p) p.args.right.now
 searchable p = first_passed p.args.t (lefts p) p.args.right.now (passed p)
 
 pub insert_part-requires : goal.insert_part-requires
 insert_part-requires c =
-    right-fits c.args.t c.args.right.now _ (searchable (goal.at.insert_part-requires c).In-Passed).few (searchable (goal.at.insert_part-requires c).In-Passed).right_good
+    right_fits c.args.t c.args.right.now _ (searchable (goal.at.insert_part-requires c).In-Passed).few (searchable (goal.at.insert_part-requires c).In-Passed).right_good
 
 pub slice_bounds-search-end : goal.slice_bounds-search-end
 slice_bounds-search-end c = sym c.insert_part.ensures.size
@@ -42,7 +42,7 @@ search-requires c =
 
 pub returns-in-Failed : goal.returns-in-Failed
 returns-in-Failed c =
-    first_refused c.args.t (lefts (goal.at.returns-in-Failed c).Start) c.args.right.now (found (goal.at.returns-in-Failed c).After-test_first-tested ∙ c.tested-1.given.1)
+    first_refused c.args.t (lefts (goal.at.returns-in-Failed c).Start) c.args.right.now (found (goal.at.returns-in-Failed c).After-test_first-tested ∙ c.in-Failed.is)
 
 pub returns-in-Passed : goal.returns-in-Passed
 returns-in-Passed c =

@@ -9,7 +9,7 @@ loop-k-init c =
     let a = c.args in searching_start a.left-ends.now a.left-items.now a.marks.now
 
 pub overflow_cast-end : goal.overflow_cast-end
-overflow_cast-end c = omega (arith, (c.shared_slice_known-in-loop-k-1.given c.loop-k.k).fits)
+overflow_cast-end c = omega (arith, (c.type_inv.left_ends c.loop-k.k).fits)
 
 pub is_marked-requires : goal.is_marked-requires
 is_marked-requires c =

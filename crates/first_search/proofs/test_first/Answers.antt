@@ -4,7 +4,7 @@ use Rattle.sets.specs.Collections.{Collection}
 use Rattle.sets.specs.declared.Side.TheVariants.{Left}
 use Rattle.sets.specs.declared.Tested.TheVariants.{Passed}
 use Rattle.inputs.specs.Tests.{items_test, side_test}
-use Rattle.first_search_spec.proofs.FirstTests.{first-items-failed, first_lefts_failed, first_right_next}
+use Rattle.first_search_spec.proofs.FirstTests.{first_items_failed, first_lefts_failed, first_right_next}
 use Rattle.first_search.proofs.test_first.Goals as goal
 use Rattle.first_search.proofs.test_first.Goals.{After-test_items-items, After-test_side-left, Start}
 
@@ -16,20 +16,20 @@ items-found : (p : After-test_items-items) → items_test p.args.t ≡ p.test_it
 items-found p = sym p.test_items-items.ensures
 
 items-passed : (p : After-test_side-left) → items_test p.args.t ≡ Passed
-items-passed p = items-found p ∙ p.enum_told-1.given.1
+items-passed p = items-found p ∙ p.in_default.is
 
 left-found : (p : After-test_side-left) → side_test p.args.t Left (lefts p) ≡ p.test_side-left.result
 left-found p = sym p.test_side-left.ensures
 
 pub returns-in-Failed : goal.returns-in-Failed
 returns-in-Failed c =
-    first-items-failed c.args.t (lefts (goal.at.returns-in-Failed c).Start) c.args.right.now (items-found (goal.at.returns-in-Failed c).After-test_items-items ∙ c.items-1.given.1)
+    first_items_failed c.args.t (lefts (goal.at.returns-in-Failed c).Start) c.args.right.now (items-found (goal.at.returns-in-Failed c).After-test_items-items ∙ c.in-Failed.is)
 
 pub returns-in-Failed-left : goal.returns-in-Failed-left
 returns-in-Failed-left c =
-    first_lefts_failed c.args.t (lefts (goal.at.returns-in-Failed-left c).Start) c.args.right.now (items-passed (goal.at.returns-in-Failed-left c).After-test_side-left) (left-found (goal.at.returns-in-Failed-left c).After-test_side-left ∙ c.left-1.given.1)
+    first_lefts_failed c.args.t (lefts (goal.at.returns-in-Failed-left c).Start) c.args.right.now (items-passed (goal.at.returns-in-Failed-left c).After-test_side-left) (left-found (goal.at.returns-in-Failed-left c).After-test_side-left ∙ c.in-Failed-left.is)
 
 pub returns : goal.returns
 returns c =
-    first_right_next c.args.t (lefts (goal.at.returns c).Start) c.args.right.now (items-passed (goal.at.returns c).After-test_side-left) (left-found (goal.at.returns c).After-test_side-left ∙ c.enum_told-in_default-left-1.given.1)
+    first_right_next c.args.t (lefts (goal.at.returns c).Start) c.args.right.now (items-passed (goal.at.returns c).After-test_side-left) (left-found (goal.at.returns c).After-test_side-left ∙ c.in_default-left.is)
     c.test_lone.ensures

@@ -14,12 +14,8 @@ byte_one false = refl
 
 pub returns-in-Searched : goal.returns-in-Searched
 returns-in-Searched c =
-    let a = c.answer-1.given in
-    let s = a.0.0 in
-    rw (byte_one s.found) (sym (ap first_words a.1))
+    rw (byte_one c.in-Searched.search.found) (sym (ap first_words c.in-Searched.is))
 
 pub returns-in-Refused : goal.returns-in-Refused
 returns-in-Refused c =
-    let a = c.answer-in-Refused-1.given in
-    let e = c.head_of-head.ensures in
-    refused_words_lem a.0.0 3 e.0 e.1 e.2 ∙ sym (ap first_words a.1)
+    refused_words_lem c.in-Refused.why 3 c.head_of-head.ensures.0 c.head_of-head.ensures.1 c.head_of-head.ensures.2 ∙ sym (ap first_words c.in-Refused.is)

@@ -4,9 +4,9 @@ use Rattle.inputs.proofs.TestLaws.{sets_failed, sets_next}
 use Rattle.inputs.proofs.test_sets.Goals as goal
 
 pub returns-in-Failed : goal.returns-in-Failed
-returns-in-Failed c = sets_failed _ (sym c.test_side-left.ensures ∙ c.left-1.given.1)
+returns-in-Failed c = sets_failed _ (sym c.test_side-left.ensures ∙ c.in-Failed.is)
 
 pub returns-in-Passed : goal.returns-in-Passed
 returns-in-Passed c =
     c.test_side.ensures
-    ∙ sets_next _ (sym c.test_side-left.ensures ∙ c.enum_told-1.given.1)
+    ∙ sets_next _ (sym c.test_side-left.ensures ∙ c.in-Passed.is)

@@ -4,7 +4,7 @@ use Rattle.inputs.proofs.TestLaws.{side_passed, side_failed}
 use Rattle.inputs.proofs.test_side.Goals as goal
 
 pub returns-in-Good : goal.returns-in-Good
-returns-in-Good c = side_passed _ _ _ (sym c.first_bad-verdict.ensures ∙ c.enum_told-1.given.1)
+returns-in-Good c = side_passed _ _ _ (sym c.first_bad-verdict.ensures ∙ c.in-Good.is)
 
 pub returns-in-Bad : goal.returns-in-Bad
-returns-in-Bad c = side_failed _ _ _ (sym c.first_bad-verdict.ensures ∙ c.verdict-1.given.1)
+returns-in-Bad c = side_failed _ _ _ (sym c.first_bad-verdict.ensures ∙ c.in-Bad.is)

@@ -3,8 +3,8 @@ use mathlib.Core.Path.{◌≡◌, sym, ◌∙◌}
 use lib.ListN.{length}
 use Rattle.inputs.specs.Input.{Input, input_of}
 use Rattle.item_order_spec.specs.Order.{order_test}
-use Rattle.item_order_spec.proofs.Answers.{call-refused, call-ordered}
-use Rattle.item_order.proofs.Filling.{can-fill}
+use Rattle.item_order_spec.proofs.Answers.{call_refused, call-ordered}
+use Rattle.item_order.proofs.Filling.{can_fill}
 use Rattle.item_order.proofs.order.Goals as goal
 use Rattle.item_order.proofs.order.Goals.{After-test_order-tested, Start}
 
@@ -19,13 +19,13 @@ found p = sym p.test_order-tested.ensures
 
 pub fill_ranks-requires : goal.fill_ranks-requires
 fill_ranks-requires c =
-    can-fill (input (goal.at.fill_ranks-requires c).Start) c.args.ranks.now (found (goal.at.fill_ranks-requires c).After-test_order-tested ∙ c.enum_told-1.given.1)
+    can_fill (input (goal.at.fill_ranks-requires c).Start) c.args.ranks.now (found (goal.at.fill_ranks-requires c).After-test_order-tested ∙ c.in-Passed.is)
 
 pub returns-in-Failed : goal.returns-in-Failed
 returns-in-Failed c =
-    call-refused (input (goal.at.returns-in-Failed c).Start) c.args.falling c.args.ranks.now _ (found (goal.at.returns-in-Failed c).After-test_order-tested ∙ c.tested-1.given.1)
+    call_refused (input (goal.at.returns-in-Failed c).Start) c.args.falling c.args.ranks.now _ (found (goal.at.returns-in-Failed c).After-test_order-tested ∙ c.in-Failed.is)
 
 pub returns-in-Passed : goal.returns-in-Passed
 returns-in-Passed c =
-    call-ordered (input (goal.at.returns-in-Passed c).Start) c.args.falling c.args.ranks.now _ (found (goal.at.returns-in-Passed c).After-test_order-tested ∙ c.enum_told-1.given.1)
+    call-ordered (input (goal.at.returns-in-Passed c).Start) c.args.falling c.args.ranks.now _ (found (goal.at.returns-in-Passed c).After-test_order-tested ∙ c.in-Passed.is)
     c.fill_ranks.ensures

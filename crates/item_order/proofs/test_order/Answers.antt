@@ -17,13 +17,13 @@ found p = sym p.test_items-items.ensures
 
 pub returns-in-Failed : goal.returns-in-Failed
 returns-in-Failed c =
-    test-items (input (goal.at.returns-in-Failed c).Start) c.args.places (found (goal.at.returns-in-Failed c).After-test_items-items ∙ c.items-1.given.1)
+    test-items (input (goal.at.returns-in-Failed c).Start) c.args.places (found (goal.at.returns-in-Failed c).After-test_items-items ∙ c.in-Failed.is)
 
 pub returns-then-places-t : goal.returns-then-places-t
 returns-then-places-t c =
-    test-length (input (goal.at.returns-then-places-t c).Start) c.args.places (found (goal.at.returns-then-places-t c).After-test_items-items ∙ c.enum_told-1.given.1) c.if-places-t.true
+    test-length (input (goal.at.returns-then-places-t c).Start) c.args.places (found (goal.at.returns-then-places-t c).After-test_items-items ∙ c.in_default.is) c.if-places-t.true
 
 pub returns : goal.returns
 returns c =
-    test-sets (input (goal.at.returns c).Start) c.args.places (found (goal.at.returns c).After-test_items-items ∙ c.enum_told-1.given.1) c.if-places-t.false
+    test-sets (input (goal.at.returns c).Start) c.args.places (found (goal.at.returns c).After-test_items-items ∙ c.in_default.is) c.if-places-t.false
     c.test_sets.ensures

@@ -6,6 +6,4 @@ use Rattle.item_order_spec.proofs.order_words.Goals as goal
 
 pub returns-in-Refused : goal.returns-in-Refused
 returns-in-Refused c =
-    let a = c.answer-1.given in
-    let e = c.head_of-head.ensures in
-    refused_words_lem a.0.0 0 e.0 e.1 e.2 ∙ sym (ap order_words a.1)
+    refused_words_lem c.in-Refused.why 0 c.head_of-head.ensures.0 c.head_of-head.ensures.1 c.head_of-head.ensures.2 ∙ sym (ap order_words c.in-Refused.is)

@@ -3,7 +3,7 @@ use mathlib.Core.Path.{sym, ◌∙◌}
 use lib.ListN.{length}
 use Rattle.inputs.specs.Input.{input_of}
 use Rattle.merge_rows.proofs.MergedAnswer.{merge_sizes}
-use Rattle.join.proofs.RowsChoice.{rows-room, rows_answer}
+use Rattle.join.proofs.RowsChoice.{rows_room, rows_answer}
 use Rattle.join.proofs.join_ready.Goals as goal
 
 pub takes_rows-rows-requires : goal.takes_rows-rows-requires
@@ -11,7 +11,7 @@ takes_rows-rows-requires c = merge_sizes c.requires
 
 pub merge_sets-requires : goal.merge_sets-requires
 merge_sets-requires c =
-    rows-room c.args.rule c.requires (sym c.takes_rows-rows.ensures ∙ c.if-rows.true)
+    rows_room c.args.rule c.requires (sym c.takes_rows-rows.ensures ∙ c.if-rows.true)
 
 pub returns-then-rows : goal.returns-then-rows
 returns-then-rows c =

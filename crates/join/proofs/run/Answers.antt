@@ -7,13 +7,13 @@ use Rattle.join.proofs.run.Goals as goal
 
 pub join_ready-requires : goal.join_ready-requires
 join_ready-requires c =
-    tests_passed _ _ _ _ (sym c.test_join-tested.ensures ∙ c.enum_told-1.given.1)
+    tests_passed _ _ _ _ (sym c.test_join-tested.ensures ∙ c.in-Passed.is)
 
 pub returns-in-Failed : goal.returns-in-Failed
 returns-in-Failed c =
-    call_refused _ _ _ _ (sym c.test_join-tested.ensures ∙ c.tested-1.given.1)
+    call_refused _ _ _ _ (sym c.test_join-tested.ensures ∙ c.in-Failed.is)
 
 pub returns-in-Passed : goal.returns-in-Passed
 returns-in-Passed c =
-    call_walked _ _ _ _ (sym c.test_join-tested.ensures ∙ c.enum_told-1.given.1) c.join_ready.ensures.answer
-    c.join_ready.ensures.pairs c.join_ready.auto.1.1.1.1.1.1.1.1.1.0
+    call_walked _ _ _ _ (sym c.test_join-tested.ensures ∙ c.in-Passed.is) c.join_ready.ensures.answer
+    c.join_ready.ensures.pairs c.join_ready.auto.work

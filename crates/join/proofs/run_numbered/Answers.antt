@@ -6,9 +6,9 @@ use Rattle.join.proofs.run_numbered.Goals as goal
 
 pub returns-in-Failed : goal.returns-in-Failed
 returns-in-Failed c =
-    number_failed _ _ _ _ _ _ _ _ (sym c.test_rule-tested.ensures ∙ c.tested-1.given.1)
+    number_failed _ _ _ _ _ _ _ _ (sym c.test_rule-tested.ensures ∙ c.in-Failed.is)
 
 pub returns-in-Passed : goal.returns-in-Passed
 returns-in-Passed c =
-    number_passed _ _ _ _ _ _ _ _ _ (sym c.test_rule-tested.ensures ∙ c.enum_told-1.given.1) c.rule_of-rule.ensures
+    number_passed _ _ _ _ _ _ _ _ _ (sym c.test_rule-tested.ensures ∙ c.in-Passed.is) c.rule_of-rule.ensures
     c.run.ensures

@@ -3,4 +3,4 @@ use Rattle.join.proofs.RowsChoice.{rows_fitting}
 use Rattle.join.proofs.takes_rows.Goals as goal
 
 pub returns-in-Merge : goal.returns-in-Merge
-returns-in-Merge c = rows_fitting _ _ _ _ _ c.enum_told-1.given.1 c.rows_fit.ensures
+returns-in-Merge c = rows_fitting _ _ _ _ _ c.in-Merge.is c.rows_fit.ensures

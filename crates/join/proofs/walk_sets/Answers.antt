@@ -3,7 +3,7 @@
 use Rattle.inputs.specs.Input.{Input, input_of}
 use Rattle.join_index.specs.Asking.{Index}
 use Rattle.join_walk.specs.Partitions.{WalkDone}
-use Rattle.join.proofs.AnswerLaws.{query_by, build_room, walk_index, walk_ready, walk-made, sums_fit}
+use Rattle.join.proofs.AnswerLaws.{query_by, build_room, walk_index, walk_ready, walk_made, sums_fit}
 use Rattle.join.proofs.AnswerLaws.{answer_is, answer_room}
 use Rattle.join.proofs.walk_sets.Goals as goal
 use Rattle.join.proofs.walk_sets.Goals.{After-build-lay, After-walk-walked, Start}
@@ -16,15 +16,15 @@ input c =
 -- the index that was built, and what the walk over it found
 index : (c : After-build-lay)
     → let a = c.args in
-    Index c.build-lay.result (query_by (input c) a.limit a.ranks.now a.rule) c.build-lay.new.1.1.1.1.1.1.1.1.0
+    Index c.build-lay.result (query_by (input c) a.limit a.ranks.now a.rule) c.build-lay.new.work
 index c = walk_index c.requires c.args.rule c.build-lay.ensures.ground c.build-lay.ensures.room
 
 done : (c : After-walk-walked)
     → let a = c.args in
     WalkDone c.build-lay.result (query_by (input c) a.limit a.ranks.now a.rule) a.budget
-    c.build-lay.new.1.1.1.1.1.1.1.1.0 c.walk-walked.new.0 c.walk-walked.result
+    c.build-lay.new.work c.walk-walked.new.work c.walk-walked.result
 done c =
-    walk-made c.requires c.args.rule c.build-lay.ensures.ground c.build-lay.ensures.room c.walk-walked.ensures.walked
+    walk_made c.requires c.args.rule c.build-lay.ensures.ground c.build-lay.ensures.room c.walk-walked.ensures.walked
 
 pub build-lay-requires : goal.build-lay-requires
 build-lay-requires c = build_room c.requires

@@ -27,7 +27,7 @@ returns-in-Dropped c =
       grown = omega arith;
       tallied = λ q there.
           raise_dropped a.tally (probe_outcome q a.work.now a.p a.s)
-          (sym (c.check_probe-end.ensures q there) ∙ ap outcome_of c.enum_told-1.given.1);
+          (sym (c.check_probe-end.ensures q there) ∙ ap outcome_of c.in-Dropped.is);
     }
 
 pub returns-in-FalseDrop : goal.returns-in-FalseDrop
@@ -38,7 +38,7 @@ returns-in-FalseDrop c =
       grown = omega arith;
       tallied = λ q there.
           raise_false a.tally (probe_outcome q a.work.now a.p a.s)
-          (sym (c.check_probe-end.ensures q there) ∙ ap outcome_of c.enum_told-in-FalseDrop-1.given.1);
+          (sym (c.check_probe-end.ensures q there) ∙ ap outcome_of c.in-FalseDrop.is);
     }
 
 pub returns-in-Confirmed : goal.returns-in-Confirmed
@@ -49,5 +49,5 @@ returns-in-Confirmed c =
       grown = omega arith;
       tallied = λ q there.
           raise_confirmed a.tally (probe_outcome q a.work.now a.p a.s)
-          (sym (c.check_probe-end.ensures q there) ∙ ap outcome_of c.enum_told-in-Confirmed-1.given.1);
+          (sym (c.check_probe-end.ensures q there) ∙ ap outcome_of c.in-Confirmed.is);
     }

@@ -5,7 +5,7 @@ use native.Mathlib.Omega.{arith}
 use lib.ListN.{length, drop}
 use Rattle.lists.specs.Parts.{Changed}
 use Rattle.lists.proofs.Slices.{changed_none}
-use Rattle.lists.proofs.Writing.{Writing, writing_start, writing_step, writing_end, writing-room, written-whole}
+use Rattle.lists.proofs.Writing.{Writing, writing_start, writing_step, writing_end, writing_room, written_whole}
 use Rattle.join_spec.specs.Query.{Query}
 use Rattle.sets.specs.Collections.{contained}
 use Rattle.join_spec.specs.PairList.{pairs_from, pair_list}
@@ -43,7 +43,7 @@ module _ {lay : Layout} {w : List ℕ} {lefts : ℕ} {was v pairs : List ℕ} {n
           top = there.top;
           rows = rows_framed there.index.ground writing.changed.high there.rows;
           room =
-              writing-room (writing.written q there) (row_at q k) (pairs_from contained (k + 1) (drop (k + 1) q.lefts) q.rights)
+              writing_room (writing.written q there) (row_at q k) (pairs_from contained (k + 1) (drop (k + 1) q.lefts) q.rights)
               (pairs_next q k (omega (arith, there.left_count)));
         }
 
@@ -60,7 +60,7 @@ module _ {lay : Layout} {w : List ℕ} {lefts : ℕ} {was v pairs : List ℕ} {n
     pairs_end : lefts ≤ k → (q : Query) → PairsRoom lay q w lefts was
         → pairs ≡ pair_list q.lefts q.rights ++ drop (length (pair_list q.lefts q.rights)) was
     pairs_end past q there =
-        written-whole (writing_end (writing.written q there) (pairs_none q k (omega (arith, there.left_count)))) (list-room there)
+        written_whole (writing_end (writing.written q there) (pairs_none q k (omega (arith, there.left_count)))) (list-room there)
 
 pub loop-k-init : goal.loop-k-init
 loop-k-init c =
@@ -75,11 +75,10 @@ loop-k-init c =
 
 pub write_left-n-requires : goal.write_left-n-requires
 write_left-n-requires c =
-    let asked = c.requires.some_query in
     record {
       some_query = record {
-        query = asked.query;
-        holds = left-room c.loop-k.invariant.0 c.loop-k-test.true asked.holds;
+        query = c.requires.some_query.query;
+        holds = left-room c.loop-k.invariant.0 c.loop-k-test.true c.requires.some_query.holds;
       };
       clear_2 = c.loop-k.invariant.1;
     }
@@ -102,7 +101,7 @@ shape_of-flags c = omega (arith, c.loop-k.invariant.1.size, c.requires.clear.siz
 
 pub shape_of-pairs : goal.shape_of-pairs
 shape_of-pairs c =
-    let asked = c.requires.some_query in (c.loop-k.invariant.0.written asked.query asked.holds).same
+    (c.loop-k.invariant.0.written c.requires.some_query.query c.requires.some_query.holds).same
 
 pub returns : goal.returns
 returns c = pairs_end c.loop-k.invariant.0 c.loop-k-test.false

@@ -21,7 +21,7 @@ returns-in-Ordered c =
     let a = c.args in
     fills_same
     (ap (λ (ranks : List ℕ). join_text a.repeats a.left-numbers.now a.right-numbers.now (input (goal.at.returns-in-Ordered c).After-order-answer) (settings_under ranks))
-    (ordered_ranks (input (goal.at.returns-in-Ordered c).After-order-answer) c.order-answer.ensures c.enum_told-1.given.1))
+    (ordered_ranks (input (goal.at.returns-in-Ordered c).After-order-answer) c.order-answer.ensures c.in-Ordered.is))
     c.list_ordered.ensures
 
 pub returns-in-Refused : goal.returns-in-Refused
@@ -29,6 +29,6 @@ returns-in-Refused c =
     let a = c.args in
     let line = c.put_refusal in
     fills_same
-    (refused_order (input (goal.at.returns-in-Refused c).After-order-answer) c.order-answer.ensures c.answer-1.given.1 c.requires.ranks_len
+    (refused_order (input (goal.at.returns-in-Refused c).After-order-answer) c.order-answer.ensures c.in-Refused.is c.requires.ranks_len
     a.repeats a.left-numbers.now a.right-numbers.now)
     (put_fills line.ensures.0 (omega (arith, line.ensures.1, c.requires.numbered.room)))

@@ -4,7 +4,7 @@ use Rattle.join_spec.specs.Query.{Settings}
 use Rattle.join_spec.specs.Answer.{RunCall}
 use Rattle.join_text.specs.JoinText.{settings_under}
 use Rattle.join_text.proofs.Texts.{put_fills, fills_same}
-use Rattle.join_text.proofs.JoinTexts.{call_text, answer-fits}
+use Rattle.join_text.proofs.JoinTexts.{call_text, answer_fits}
 use Rattle.join_text.proofs.list_ordered.Goals as goal
 use Rattle.join_text.proofs.list_ordered.Goals.{After-run-answer}
 
@@ -18,14 +18,14 @@ asked p = settings_under p.args.ranks.now
 
 ran : (p : After-run-answer)
     → RunCall (input p) (asked p) p.new_work-work.result p.new_pairs-pairs.result
-    p.run-answer.new.1.1.1.1.1.1.1.1.1.0 p.run-answer.new.1.1.1.1.1.1.1.1.1.1.0 p.run-answer.result
+    p.run-answer.new.work p.run-answer.new.pairs p.run-answer.result
 ran p = p.run-answer.ensures
 
 pub put_answer-requires : goal.put_answer-requires
 put_answer-requires c =
     let a = c.args in
-    answer-fits (input (goal.at.put_answer-requires c).After-run-answer) (asked (goal.at.put_answer-requires c).After-run-answer) a.repeats a.left-numbers.now a.right-numbers.now (ran (goal.at.put_answer-requires c).After-run-answer)
-    c.new_pairs-pairs.ensures _ c.run-answer.auto.1.1.1.1.1.1.1.1.1.1.0 c.requires.room
+    answer_fits (input (goal.at.put_answer-requires c).After-run-answer) (asked (goal.at.put_answer-requires c).After-run-answer) a.repeats a.left-numbers.now a.right-numbers.now (ran (goal.at.put_answer-requires c).After-run-answer)
+    c.new_pairs-pairs.ensures _ c.run-answer.auto.pairs c.requires.room
     c.requires.lefts c.requires.rights
 
 pub returns : goal.returns

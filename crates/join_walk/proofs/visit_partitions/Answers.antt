@@ -9,9 +9,7 @@ use Rattle.join_walk.proofs.visit_partitions.Goals as goal
 
 pub loop-i-init : goal.loop-i-init
 loop-i-init c =
-    let asked = (c.requires.some_query, c.requires.clear_2) in
-    let some = asked.0 in
-    (continuing_start _ _ _ _ _ _ (record { query = some.query; path = []; holds = some.holds }), asked.1)
+    (continuing_start _ _ _ _ _ _ (record { query = c.requires.some_query.query; path = []; holds = c.requires.some_query.holds }), c.requires.clear_2)
 
 pub range_end-j-requires : goal.range_end-j-requires
 range_end-j-requires c =
@@ -33,7 +31,7 @@ visit_partition-one-requires c =
 
 pub shape_of-work-then-one : goal.shape_of-work-then-one
 shape_of-work-then-one c =
-    c.visit_partition-one.auto.0 ∙ c.loop-i.invariant.0.size
+    c.visit_partition-one.auto.work ∙ c.loop-i.invariant.0.size
 
 pub shape_of-flags-then-one : goal.shape_of-flags-then-one
 shape_of-flags-then-one c =
@@ -57,7 +55,7 @@ pub loop-i-preserved : goal.loop-i-preserved
 loop-i-preserved c = (
   continuing_step c.loop-i.invariant.0 (omega (arith, c.range_end-j.ensures.more)) c.range_end-j.ensures.within
       (partitions_done c.loop-i-test.true c.range_end-j.ensures c.visit_partition-one.ensures.visited)
-      c.visit_partition-one.auto.0 c.if-one.false,
+      c.visit_partition-one.auto.work c.if-one.false,
   c.visit_partition-one.ensures.clear,
 )
 

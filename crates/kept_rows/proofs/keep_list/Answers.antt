@@ -15,13 +15,11 @@ copy_words-end-requires c =
 
 pub share_row-requires : goal.share_row-requires
 share_row-requires c =
-    let some = c.requires in
     record {
-      query = some.query;
-      holds = copy_shared c.copy_words-end.ensures some.holds (omega (arith, c.if-lay-top.false));
+      query = c.requires.query;
+      holds = copy_shared c.copy_words-end.ensures c.requires.holds (omega (arith, c.if-lay-top.false));
     }
 
 pub returns : goal.returns
 returns c =
-    let some = c.requires in
-    list_kept c.copy_words-end.ensures some (omega (arith, c.if-lay-top.false)) c.share_row.ensures
+    list_kept c.copy_words-end.ensures c.requires (omega (arith, c.if-lay-top.false)) c.share_row.ensures

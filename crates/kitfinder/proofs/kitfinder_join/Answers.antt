@@ -6,8 +6,7 @@ use Rattle.kitfinder.proofs.kitfinder_join.Goals as goal
 
 pub returns : goal.returns
 returns c =
-    let given = c.run_numbered.ensures in
     record {
-      answer = c.join_words.ensures ∙ ap join_words given.answer;
-      lists = call_right given;
+      answer = c.join_words.ensures ∙ ap join_words c.run_numbered.ensures.answer;
+      lists = call_right c.run_numbered.ensures;
     }

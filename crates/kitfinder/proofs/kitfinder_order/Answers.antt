@@ -5,8 +5,7 @@ use Rattle.kitfinder.proofs.kitfinder_order.Goals as goal
 
 pub returns : goal.returns
 returns c =
-    let given = c.order.ensures in
     record {
-      answer = c.order_words.ensures ∙ ap order_words given.answered;
-      ranks = given.ranks;
+      answer = c.order_words.ensures ∙ ap order_words c.order.ensures.answered;
+      ranks = c.order.ensures.ranks;
     }

@@ -5,8 +5,7 @@ use Rattle.kitfinder.proofs.kitfinder_write.Goals as goal
 
 pub returns : goal.returns
 returns c =
-    let given = c.write.ensures in
     record {
-      answer = c.write_words.ensures ∙ ap write_words given.answered;
-      file = given.file;
+      answer = c.write_words.ensures ∙ ap write_words c.write.ensures.answered;
+      file = c.write.ensures.file;
     }

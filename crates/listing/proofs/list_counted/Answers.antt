@@ -33,12 +33,11 @@ slice_bounds-list_loaded-end-8 c =
 
 pub list_loaded-requires : goal.list_loaded-requires
 list_loaded-requires c =
-    let within = c.requires in
     record {
       numbered = record {
-        lefts = length-take-le _ _ within.left_ended ∙ sym (length-take-le _ _ within.left_numbered);
-        rights = length-take-le _ _ within.right_ended ∙ sym (length-take-le _ _ within.right_numbered);
-        room = within.room;
+        lefts = length-take-le _ _ c.requires.left_ended ∙ sym (length-take-le _ _ c.requires.left_numbered);
+        rights = length-take-le _ _ c.requires.right_ended ∙ sym (length-take-le _ _ c.requires.right_numbered);
+        room = c.requires.room;
       };
-      ranks_len = length-take-le _ _ within.ranked;
+      ranks_len = length-take-le _ _ c.requires.ranked;
     }

@@ -4,7 +4,7 @@ use native.Mathlib.Omega.{arith}
 use Rattle.tag_file.specs.Loading.{Lists, lists_of}
 use Rattle.join_text.proofs.Texts.{put_fills, fills_same}
 use Rattle.listing_spec.proofs.LoadRoom.{ProgramLists}
-use Rattle.listing_spec.proofs.LoadTexts.{loaded_text, loaded-within, refused_load}
+use Rattle.listing_spec.proofs.LoadTexts.{loaded_text, loaded_within, refused_load}
 use Rattle.listing.proofs.list_short.Goals as goal
 use Rattle.listing.proofs.list_short.Goals.{After-load-answer}
 
@@ -35,19 +35,19 @@ program-lists p =
 
 pub list_counted-requires : goal.list_counted-requires
 list_counted-requires c =
-    loaded-within c.args.file.now {lent = lent (goal.at.list_counted-requires c).After-load-answer} {got = got (goal.at.list_counted-requires c).After-load-answer} c.load-answer.ensures c.answer-1.given.1 _ _
+    loaded_within c.args.file.now {lent = lent (goal.at.list_counted-requires c).After-load-answer} {got = got (goal.at.list_counted-requires c).After-load-answer} c.load-answer.ensures c.in-Loaded.is _ _
     (omega (arith, c.new_places-ranks.ensures)) c.requires.1
-    c.load-answer.auto.1.1.0 c.load-answer.auto.1.1.1.0 c.load-answer.auto.1.1.1.1.0
-    c.load-answer.auto.1.1.1.1.1.0 c.load-answer.auto.1.1.1.1.1.1.0 c.load-answer.auto.1.1.1.1.1.1.1.0
+    c.load-answer.auto.left_numbers c.load-answer.auto.left_ends c.load-answer.auto.left_items
+    c.load-answer.auto.right_numbers c.load-answer.auto.right_ends c.load-answer.auto.right_items
 
 pub returns-in-Loaded : goal.returns-in-Loaded
 returns-in-Loaded c =
-    fills_same (loaded_text c.args.file.now {lent = lent (goal.at.returns-in-Loaded c).After-load-answer} {got = got (goal.at.returns-in-Loaded c).After-load-answer} c.load-answer.ensures c.answer-1.given.1)
+    fills_same (loaded_text c.args.file.now {lent = lent (goal.at.returns-in-Loaded c).After-load-answer} {got = got (goal.at.returns-in-Loaded c).After-load-answer} c.load-answer.ensures c.in-Loaded.is)
     c.list_counted.ensures
 
 pub returns-in-Refused : goal.returns-in-Refused
 returns-in-Refused c =
     let line = c.put_refusal in
     fills_same
-    (refused_load c.args.file.now {lent = lent (goal.at.returns-in-Refused c).After-load-answer} {got = got (goal.at.returns-in-Refused c).After-load-answer} c.load-answer.ensures c.answer-in-Refused-1.given.1 (program-lists (goal.at.returns-in-Refused c).After-load-answer) c.requires.0)
+    (refused_load c.args.file.now {lent = lent (goal.at.returns-in-Refused c).After-load-answer} {got = got (goal.at.returns-in-Refused c).After-load-answer} c.load-answer.ensures c.in-Refused.is (program-lists (goal.at.returns-in-Refused c).After-load-answer) c.requires.0)
     (put_fills line.ensures.0 (omega (arith, line.ensures.1, c.requires.1)))

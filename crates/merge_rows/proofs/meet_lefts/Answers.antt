@@ -23,7 +23,7 @@ loop-k-init c =
     lefts_start c.args.pairs.now c.requires.there
 
 pub overflow_cast-end : goal.overflow_cast-end
-overflow_cast-end c = omega (arith, c.shared_slice_known-in-loop-k-1.given c.loop-k.k)
+overflow_cast-end c = omega (arith, c.type_inv.left_ends c.loop-k.k)
 
 pub store_counters-requires : goal.store_counters-requires
 store_counters-requires c =
@@ -59,7 +59,7 @@ shape_of-work-then-budget-checks_of c =
     c.meet_left-met.ensures.signs.size ∙ c.store_counters.ensures.changed.size ∙ c.loop-k.invariant.size
 
 pub shape_of-path-then-budget-checks_of : goal.shape_of-path-then-budget-checks_of
-shape_of-path-then-budget-checks_of c = c.meet_left-met.auto.1.1.1.1.1.1.1.1.1.1.1.0 ∙ c.loop-k.invariant.path_size
+shape_of-path-then-budget-checks_of c = c.meet_left-met.auto.path ∙ c.loop-k.invariant.path_size
 
 pub shape_of-pairs-then-budget-checks_of : goal.shape_of-pairs-then-budget-checks_of
 shape_of-pairs-then-budget-checks_of c = c.meet_left-met.ensures.added.listed.size ∙ c.loop-k.invariant.listed.size
@@ -76,7 +76,7 @@ pub loop-k-preserved : goal.loop-k-preserved
 loop-k-preserved c =
     lefts_step c.loop-k.invariant c.loop-k-test.true c.store_counters.ensures c.meet_left-met.ensures.added
     c.meet_left-met.ensures.signs _ (omega (arith, c.if-budget-checks_of.false, c.checks_of.ensures))
-    c.meet_left-met.auto.1.1.1.1.1.1.1.1.1.1.1.0
+    c.meet_left-met.auto.path
 
 pub shape_of-work : goal.shape_of-work
 shape_of-work c = c.loop-k.invariant.size

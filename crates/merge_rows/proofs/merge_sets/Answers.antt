@@ -13,7 +13,7 @@ done : (c : After-meet_lefts-merged)
     → let a = c.args in
     AllMet
     (merge_query a.t a.left-ends.now a.left-items.now a.right-ends.now a.right-items.now a.limit a.ranks.now)
-    a.budget c.meet_lefts-merged.result a.pairs.now c.meet_lefts-merged.new.1.1.1.1.1.1.1.1.1.1.1.0
+    a.budget c.meet_lefts-merged.result a.pairs.now c.meet_lefts-merged.new.pairs
 done c = merge_met c.requires c.lay_rows-r.ensures c.meet_lefts-merged.ensures
 
 pub lay_rows-r-requires : goal.lay_rows-r-requires
@@ -25,7 +25,7 @@ ready_rows-requires c = merge_ready c.requires c.lay_rows-r.ensures
 pub meet_lefts-merged-requires : goal.meet_lefts-merged-requires
 meet_lefts-merged-requires c =
     record {
-      there = merge_room c.requires c.lay_rows-r.ensures c.ready_rows.auto.0 c.ready_rows.ensures (omega arith);
+      there = merge_room c.requires c.lay_rows-r.ensures c.ready_rows.auto.work c.ready_rows.ensures (omega arith);
       positions = c.position_table-table.ensures;
     }
 

@@ -10,8 +10,7 @@ use Rattle.merge_rows.proofs.rows_fit.Goals as goal
 pub overflow_add-result : goal.overflow_add-result
 overflow_add-result c =
     let a = c.args in
-    let few = c.requires in
-    omega (arith, ap (λ (r : Regions). r.hints) c.lay_rows-r.ensures, row_small a.t ((a.rights + 63) / 64 + 1) few.items (omega arith))
+    omega (arith, ap (λ (r : Regions). r.hints) c.lay_rows-r.ensures, row_small a.t ((a.rights + 63) / 64 + 1) c.requires.items (omega arith))
 
 pub returns : goal.returns
 returns c =

@@ -7,4 +7,4 @@ use Rattle.merge_rows.proofs.settle.Goals as goal
 pub returns-in-Refused : goal.returns-in-Refused
 returns-in-Refused c =
     let pairs = c.args.pairs.now in
-    c.zero_u16.ensures ∙ sym (ap (λ (a : JoinAnswer). settled a pairs) c.enum_told-in-Refused-1.given.1)
+    c.zero_u16.ensures ∙ sym (ap (λ (a : JoinAnswer). settled a pairs) c.in-Refused.is)

@@ -7,9 +7,9 @@ use borrow.Author.Tests.{not-true, not-false}
 use lib.ListN.{get_or}
 use Rattle.sets.specs.Limits.{max_sets}
 use Rattle.sets.specs.declared.Side.TheVariants.{Right}
-use Rattle.lists.proofs.Bools.{by-test}
+use Rattle.lists.proofs.Bools.{by_test}
 use Rattle.bit_sets.specs.BitSets.{member}
-use Rattle.tag_file.specs.Reading.{readAt, tags_at}
+use Rattle.tag_file.specs.Reading.{read_at, tags_at}
 use Rattle.tag_file.specs.Records.{same_side}
 use Rattle.tag_file.specs.declared.ReadAnswer.TheVariants.{Record}
 use Rattle.tag_file.proofs.Ended.{no_records}
@@ -17,10 +17,10 @@ use Rattle.tag_file.proofs.RecordLaws.{read_less}
 use Rattle.tag_index.specs.Index.{table_of}
 use Rattle.tag_loader.specs.record_items.Marks.{TagsKnown}
 use Rattle.tag_loader.proofs.record_items.Marks.{unmarked_marked, more_fresh}
-use Rattle.pool_fill.proofs.Fresh.{fresh-wide, fresh_items}
-use Rattle.pool_fill.proofs.FirstWalk.{first_walk_start, first-walk-skip}
-use Rattle.pool_fill.proofs.OwnSets.{own-known, own_slot, own_room, first-walk-own}
-use Rattle.pool_fill.proofs.SecondWalk.{SecondWalk, RightHere, second_walk_start, second-walk-skip, right-here}
+use Rattle.pool_fill.proofs.Fresh.{fresh_wide, fresh_items}
+use Rattle.pool_fill.proofs.FirstWalk.{first_walk_start, first_walk_skip}
+use Rattle.pool_fill.proofs.OwnSets.{own_known, own_slot, own_room, first_walk_own}
+use Rattle.pool_fill.proofs.SecondWalk.{SecondWalk, RightHere, second_walk_start, second_walk_skip, right_here}
 use Rattle.pool_fill.proofs.SecondWalk.{walked_numbers, walked_ends, walked_items}
 use Rattle.pool_fill.proofs.NewSets.{new_known, new_room, second_walk_new}
 use Rattle.pool_fill.proofs.MetSets.{met_known, met_slot, met_standing, second_walk_met}
@@ -29,19 +29,18 @@ use Rattle.pool_fill.proofs.fill_right.Goals.{After-number_slot-slot-then-contai
 
 -- the record of the first file that was read, its side, and the file's bytes
 read : (a : In-Record-2)
-    → let r = a.answer-1.given.0 in
-    readAt a.args.first.now a.loop-side.at
-    ≡ Record r.0 r.1.0 r.1.1.0 r.1.1.1.0 r.1.1.1.1.0
-read a = sym a.read_record-answer.ensures ∙ a.answer-1.given.1
+    → read_at a.args.first.now a.loop-side.at
+    ≡ Record a.in-Record.side a.in-Record.number a.in-Record.count a.in-Record.tags_at a.in-Record.next
+read a = sym a.read_record-answer.ensures ∙ a.in-Record.is
 
 right_side : (o : Else-not-is_side)
-    → same_side Right o.answer-1.given.0.0 ≡ true
+    → same_side Right o.in-Record.side ≡ true
 right_side o =
     let side = o.is_side in
-    sym side.ensures ∙ not-false side.result o.if-not-is_side.false
+    sym side.ensures ∙ not-false side.result o.if-not-is_side.false-raw
 
 bytes : (a : At-loop-side) (i : ℕ) → get_or a.args.first.now i 0 < 256
-bytes a i = (a.shared_slice_known-1.given i).fits
+bytes a i = (a.type_inv.first i).fits
 
 -- the walk over the second file, from the lists at the function's start on
 second_walk : (a : At-loop-side-2)
@@ -59,55 +58,50 @@ second_walk a =
 
 -- the same of the second file
 read-second : (a : In-Record-answer-2)
-    → let r = a.answer-in-Record-answer-2-1.given.0 in
-    readAt a.args.second.now a.loop-side-2.on
-    ≡ Record r.0 r.1.0 r.1.1.0 r.1.1.1.0 r.1.1.1.1.0
-read-second a = sym a.read_record-answer-in-loop-side-2.ensures ∙ a.answer-in-Record-answer-2-1.given.1
+    → read_at a.args.second.now a.loop-side-2.on
+    ≡ Record a.in-Record-answer.side a.in-Record-answer.number a.in-Record-answer.count a.in-Record-answer.tags_at a.in-Record-answer.next
+read-second a = sym a.read_record-answer-in-loop-side-2.ensures ∙ a.in-Record-answer.is
 
 second-right-side : (o : Else-not-is_side-2)
-    → same_side Right o.answer-in-Record-answer-2-1.given.0.0 ≡ true
+    → same_side Right o.in-Record-answer.side ≡ true
 second-right-side o =
     let side = o.is_side-in-loop-side-2 in
-    sym side.ensures ∙ not-false side.result o.if-not-is_side-2.false
+    sym side.ensures ∙ not-false side.result o.if-not-is_side-2.false-raw
 
 second-bytes : (a : At-loop-side-2) (i : ℕ) → get_or a.args.second.now i 0 < 256
 second-bytes a i =
-    (a.shared_slice_known-2-1.given i).fits
+    (a.type_inv.second i).fits
 
 -- the index has the tags of a right set's record
 tags-known : (own : Else-not-is_side)
     → let a = own.args in
-    let r = own.answer-1.given.0 in
-    TagsKnown a.first.now a.heads.now a.tails.now a.n a.ids.now a.ranks.now r.1.1.1.0 r.1.1.0
+    TagsKnown a.first.now a.heads.now a.tails.now a.n a.ids.now a.ranks.now own.in-Record.tags_at own.in-Record.count
 tags-known own =
-    own-known own.requires own.loop-side.invariant (read own) (right_side own) (bytes own)
+    own_known own.requires own.loop-side.invariant (read own) (right_side own) (bytes own)
 
 -- the same of the second file: the record, and its tags
 right_there : (own : Else-not-is_side-2)
-    → let r = own.answer-in-Record-answer-2-1.given.0 in
-    let second = own.args.second.now in
-    RightHere second (second_walk own).seen own.loop-side-2.on r.1.1.0 r.1.1.1.0 r.1.1.1.1.0
-    (record { side = r.0; number = r.1.0; tags = tags_at r.1.1.0 second r.1.1.1.0 })
+    → let second = own.args.second.now in
+    RightHere second (second_walk own).seen own.loop-side-2.on own.in-Record-answer.count own.in-Record-answer.tags_at own.in-Record-answer.next
+    (record { side = own.in-Record-answer.side; number = own.in-Record-answer.number; tags = tags_at own.in-Record-answer.count second own.in-Record-answer.tags_at })
 right_there own =
-    right-here own.requires (second_walk own) (read-second own) (second-right-side own) (second-bytes own)
+    right_here own.requires (second_walk own) (read-second own) (second-right-side own) (second-bytes own)
 
 second-known : (own : Else-not-is_side-2)
     → let a = own.args in
-    let r = own.answer-in-Record-answer-2-1.given.0 in
-    TagsKnown a.second.now a.heads.now a.tails.now a.n a.ids.now a.ranks.now r.1.1.1.0 r.1.1.0
+    TagsKnown a.second.now a.heads.now a.tails.now a.n a.ids.now a.ranks.now own.in-Record-answer.tags_at own.in-Record-answer.count
 second-known own =
-    let ready = own.requires in
     let w = second_walk own in
-    by-test (member own.args.used.now own.answer-in-Record-answer-2-1.given.0.1.0)
-    (met_known ready w (right_there own)) (new_known ready w (right_there own))
+    by_test (member own.args.used.now own.in-Record-answer.number)
+    (met_known own.requires w (right_there own)) (new_known own.requires w (right_there own))
 
 -- whether the first file has its number
 there : (met : Then-contains)
-    → member met.args.used.now met.answer-in-Record-answer-2-1.given.0.1.0 ≡ true
+    → member met.args.used.now met.in-Record-answer.number ≡ true
 there met = sym met.contains.ensures ∙ met.if-contains.true
 
 absent : (missed : Else-contains)
-    → member missed.args.used.now missed.answer-in-Record-answer-2-1.given.0.1.0 ≡ false
+    → member missed.args.used.now missed.in-Record-answer.number ≡ false
 absent missed = sym missed.contains.ensures ∙ missed.if-contains.false
 
 -- where it has, its slot is one
@@ -135,8 +129,8 @@ loop-side-smaller-then-not-is_side c = read_less _ _ (read (goal.at.loop-side-sm
 pub loop-side-preserved-then-not-is_side : goal.loop-side-preserved-then-not-is_side
 loop-side-preserved-then-not-is_side c =
     let side = c.is_side in
-    first-walk-skip c.requires c.loop-side.invariant (read (goal.at.loop-side-preserved-then-not-is_side c).In-Record-2)
-    (sym side.ensures ∙ not-true side.result c.if-not-is_side.true)
+    first_walk_skip c.requires c.loop-side.invariant (read (goal.at.loop-side-preserved-then-not-is_side c).In-Record-2)
+    (sym side.ensures ∙ not-true side.result c.if-not-is_side.true-raw)
 
 pub slice_bounds-mark_tags-end : goal.slice_bounds-mark_tags-end
 slice_bounds-mark_tags-end c = sym c.loop-side.invariant.unmarked.wide
@@ -154,18 +148,16 @@ number_slot-slot-requires c = c.requires.counted
 
 pub slice_bounds-put_own-end : goal.slice_bounds-put_own-end
 slice_bounds-put_own-end c =
-    sym (fresh-wide (tags-known (goal.at.slice_bounds-put_own-end c).Else-not-is_side) c.loop-side.invariant.unmarked c.mark_tags.ensures)
+    sym (fresh_wide (tags-known (goal.at.slice_bounds-put_own-end c).Else-not-is_side) c.loop-side.invariant.unmarked c.mark_tags.ensures)
 
 pub put_own-done-requires : goal.put_own-done-requires
 put_own-done-requires c =
-    let ready = c.requires in
     let w = c.loop-side.invariant in
-    let slot = c.number_slot-slot.ensures in
     let items = fresh_items (tags-known (goal.at.put_own-done-requires c).Else-not-is_side) w.unmarked c.mark_tags.ensures in
     record {
-      marks_len = fresh-wide (tags-known (goal.at.put_own-done-requires c).Else-not-is_side) w.unmarked c.mark_tags.ensures;
-      slot_in_bounds = rw slot (own_slot ready w (read (goal.at.put_own-done-requires c).In-Record-2) (right_side (goal.at.put_own-done-requires c).Else-not-is_side) (bytes (goal.at.put_own-done-requires c).At-loop-side)).within;
-      room_for_own = rw (slot, items) (own_room ready w (read (goal.at.put_own-done-requires c).In-Record-2) (right_side (goal.at.put_own-done-requires c).Else-not-is_side) (bytes (goal.at.put_own-done-requires c).At-loop-side));
+      marks_len = fresh_wide (tags-known (goal.at.put_own-done-requires c).Else-not-is_side) w.unmarked c.mark_tags.ensures;
+      slot_in_bounds = rw c.number_slot-slot.ensures (own_slot c.requires w (read (goal.at.put_own-done-requires c).In-Record-2) (right_side (goal.at.put_own-done-requires c).Else-not-is_side) (bytes (goal.at.put_own-done-requires c).At-loop-side)).within;
+      room_for_own = rw (c.number_slot-slot.ensures, items) (own_room c.requires w (read (goal.at.put_own-done-requires c).In-Record-2) (right_side (goal.at.put_own-done-requires c).Else-not-is_side) (bytes (goal.at.put_own-done-requires c).At-loop-side));
     }
 
 pub loop-side-smaller : goal.loop-side-smaller
@@ -174,10 +166,9 @@ loop-side-smaller c = read_less _ _ (read (goal.at.loop-side-smaller c).In-Recor
 pub loop-side-preserved : goal.loop-side-preserved
 loop-side-preserved c =
     let w = c.loop-side.invariant in
-    let o = (c.put_own-done.ensures.marks, c.put_own-done.ensures.lists) in
     let items = fresh_items (tags-known (goal.at.loop-side-preserved c).Else-not-is_side) w.unmarked c.mark_tags.ensures in
-    first-walk-own c.requires w (read (goal.at.loop-side-preserved c).In-Record-2) (right_side (goal.at.loop-side-preserved c).Else-not-is_side) (bytes (goal.at.loop-side-preserved c).At-loop-side)
-    (rw (c.number_slot-slot.ensures, items) at o.1) o.0
+    first_walk_own c.requires w (read (goal.at.loop-side-preserved c).In-Record-2) (right_side (goal.at.loop-side-preserved c).Else-not-is_side) (bytes (goal.at.loop-side-preserved c).At-loop-side)
+    (rw (c.number_slot-slot.ensures, items) at c.put_own-done.ensures.lists) c.put_own-done.ensures.marks
 
 pub loop-side-2-init : goal.loop-side-2-init
 loop-side-2-init c = λ n₀ e₀ i₀ w. w
@@ -222,8 +213,8 @@ pub loop-side-2-preserved-then-not-is_side-2 : goal.loop-side-2-preserved-then-n
 loop-side-2-preserved-then-not-is_side-2 c =
     let side = c.is_side-in-loop-side-2 in
     λ n₀ e₀ i₀ w.
-    second-walk-skip c.requires (c.loop-side-2.invariant n₀ e₀ i₀ w) (read-second (goal.at.loop-side-2-preserved-then-not-is_side-2 c).In-Record-answer-2)
-    (sym side.ensures ∙ not-true side.result c.if-not-is_side-2.true)
+    second_walk_skip c.requires (c.loop-side-2.invariant n₀ e₀ i₀ w) (read-second (goal.at.loop-side-2-preserved-then-not-is_side-2 c).In-Record-answer-2)
+    (sym side.ensures ∙ not-true side.result c.if-not-is_side-2.true-raw)
 
 pub slice_bounds-mark_tags-end-in-loop-side-2 : goal.slice_bounds-mark_tags-end-in-loop-side-2
 slice_bounds-mark_tags-end-in-loop-side-2 c = sym (second_walk (goal.at.slice_bounds-mark_tags-end-in-loop-side-2 c).At-loop-side-2).unmarked.wide
@@ -249,11 +240,11 @@ pub bounds-slots-slot : goal.bounds-slots-slot
 bounds-slots-slot c = omega (arith, slot-below (goal.at.bounds-slots-slot c).After-number_slot-slot-then-contains, (second_walk (goal.at.bounds-slots-slot c).At-loop-side-2).long)
 
 pub overflow_cast-slots : goal.overflow_cast-slots
-overflow_cast-slots c = omega (arith, (c.slice_known-then-contains-1.given c.number_slot-slot-then-contains.result).fits)
+overflow_cast-slots c = omega (arith, (c.type_inv.slots c.number_slot-slot-then-contains.result).fits)
 
 pub slice_bounds-pool_marked-end : goal.slice_bounds-pool_marked-end
 slice_bounds-pool_marked-end c =
-    sym (fresh-wide (second-known (goal.at.slice_bounds-pool_marked-end c).Else-not-is_side-2) (second_walk (goal.at.slice_bounds-pool_marked-end c).At-loop-side-2).unmarked c.mark_tags-in-loop-side-2.ensures)
+    sym (fresh_wide (second-known (goal.at.slice_bounds-pool_marked-end c).Else-not-is_side-2) (second_walk (goal.at.slice_bounds-pool_marked-end c).At-loop-side-2).unmarked c.mark_tags-in-loop-side-2.ensures)
 
 pub pool_marked-requires : goal.pool_marked-requires
 pool_marked-requires c =
@@ -266,22 +257,20 @@ loop-side-2-smaller-then-contains c = read_less _ _ (read-second (goal.at.loop-s
 
 pub loop-side-2-preserved-then-contains : goal.loop-side-2-preserved-then-contains
 loop-side-2-preserved-then-contains c =
-    let ready = c.requires in
-    let o = (c.pool_marked.ensures.marks, c.pool_marked.ensures.items) in
     λ n₀ e₀ i₀ start.
     let w = c.loop-side-2.invariant n₀ e₀ i₀ start in
-    second_walk_met ready w (right-here ready w (read-second (goal.at.loop-side-2-preserved-then-contains c).In-Record-answer-2) (second-right-side (goal.at.loop-side-2-preserved-then-contains c).Else-not-is_side-2) (second-bytes (goal.at.loop-side-2-preserved-then-contains c).At-loop-side-2)) (there (goal.at.loop-side-2-preserved-then-contains c).Then-contains)
-    (more_fresh w.unmarked c.mark_tags-in-loop-side-2.ensures) (rw c.number_slot-slot-then-contains.ensures at o.1) o.0
+    second_walk_met c.requires w (right_here c.requires w (read-second (goal.at.loop-side-2-preserved-then-contains c).In-Record-answer-2) (second-right-side (goal.at.loop-side-2-preserved-then-contains c).Else-not-is_side-2) (second-bytes (goal.at.loop-side-2-preserved-then-contains c).At-loop-side-2)) (there (goal.at.loop-side-2-preserved-then-contains c).Then-contains)
+    (more_fresh w.unmarked c.mark_tags-in-loop-side-2.ensures) (rw c.number_slot-slot-then-contains.ensures at c.pool_marked.ensures.items) c.pool_marked.ensures.marks
 
 pub slice_bounds-put_record-end : goal.slice_bounds-put_record-end
 slice_bounds-put_record-end c =
-    sym (fresh-wide (second-known (goal.at.slice_bounds-put_record-end c).Else-not-is_side-2) (second_walk (goal.at.slice_bounds-put_record-end c).At-loop-side-2).unmarked c.mark_tags-in-loop-side-2.ensures)
+    sym (fresh_wide (second-known (goal.at.slice_bounds-put_record-end c).Else-not-is_side-2) (second_walk (goal.at.slice_bounds-put_record-end c).At-loop-side-2).unmarked c.mark_tags-in-loop-side-2.ensures)
 
 pub put_record-done-requires : goal.put_record-done-requires
 put_record-done-requires c =
     let w = second_walk (goal.at.put_record-done-requires c).At-loop-side-2 in
     record {
-      marks_len = fresh-wide (second-known (goal.at.put_record-done-requires c).Else-not-is_side-2) w.unmarked c.mark_tags-in-loop-side-2.ensures;
+      marks_len = fresh_wide (second-known (goal.at.put_record-done-requires c).Else-not-is_side-2) w.unmarked c.mark_tags-in-loop-side-2.ensures;
       room_for_one = rw (fresh_items (second-known (goal.at.put_record-done-requires c).Else-not-is_side-2) w.unmarked c.mark_tags-in-loop-side-2.ensures)
           (new_room c.requires w (right_there (goal.at.put_record-done-requires c).Else-not-is_side-2) (absent (goal.at.put_record-done-requires c).Else-contains));
     }
@@ -291,9 +280,7 @@ loop-side-2-smaller c = read_less _ _ (read-second (goal.at.loop-side-2-smaller 
 
 pub loop-side-2-preserved : goal.loop-side-2-preserved
 loop-side-2-preserved c =
-    let ready = c.requires in
-    let o = (c.put_record-done.ensures.marks, c.put_record-done.ensures.lists) in
     λ n₀ e₀ i₀ start.
     let w = c.loop-side-2.invariant n₀ e₀ i₀ start in
-    second_walk_new ready w (right-here ready w (read-second (goal.at.loop-side-2-preserved c).In-Record-answer-2) (second-right-side (goal.at.loop-side-2-preserved c).Else-not-is_side-2) (second-bytes (goal.at.loop-side-2-preserved c).At-loop-side-2)) (absent (goal.at.loop-side-2-preserved c).Else-contains)
-    (rw (fresh_items (second-known (goal.at.loop-side-2-preserved c).Else-not-is_side-2) w.unmarked c.mark_tags-in-loop-side-2.ensures) at o.1) o.0
+    second_walk_new c.requires w (right_here c.requires w (read-second (goal.at.loop-side-2-preserved c).In-Record-answer-2) (second-right-side (goal.at.loop-side-2-preserved c).Else-not-is_side-2) (second-bytes (goal.at.loop-side-2-preserved c).At-loop-side-2)) (absent (goal.at.loop-side-2-preserved c).Else-contains)
+    (rw (fresh_items (second-known (goal.at.loop-side-2-preserved c).Else-not-is_side-2) w.unmarked c.mark_tags-in-loop-side-2.ensures) at c.put_record-done.ensures.lists) c.put_record-done.ensures.marks

@@ -17,25 +17,25 @@ pool_second-requires c = c.scan_first-answer.ensures
 
 -- each list is as long as it was: so says the call, of its parameters in their order
 pub shape_of-tags : goal.shape_of-tags
-shape_of-tags c = c.pool_second.auto.1.1.1.1.1.1.1.0
+shape_of-tags c = c.pool_second.auto.tags
 
 pub shape_of-left_numbers : goal.shape_of-left_numbers
-shape_of-left_numbers c = c.pool_second.auto.1.1.1.1.1.1.1.1.0
+shape_of-left_numbers c = c.pool_second.auto.left_numbers
 
 pub shape_of-left_ends : goal.shape_of-left_ends
-shape_of-left_ends c = c.pool_second.auto.1.1.1.1.1.1.1.1.1.0
+shape_of-left_ends c = c.pool_second.auto.left_ends
 
 pub shape_of-left_items : goal.shape_of-left_items
-shape_of-left_items c = c.pool_second.auto.1.1.1.1.1.1.1.1.1.1.0
+shape_of-left_items c = c.pool_second.auto.left_items
 
 pub shape_of-right_numbers : goal.shape_of-right_numbers
-shape_of-right_numbers c = c.pool_second.auto.1.1.1.1.1.1.1.1.1.1.1.0
+shape_of-right_numbers c = c.pool_second.auto.right_numbers
 
 pub shape_of-right_ends : goal.shape_of-right_ends
-shape_of-right_ends c = c.pool_second.auto.1.1.1.1.1.1.1.1.1.1.1.1.0
+shape_of-right_ends c = c.pool_second.auto.right_ends
 
 pub shape_of-right_items : goal.shape_of-right_items
-shape_of-right_items c = c.pool_second.auto.1.1.1.1.1.1.1.1.1.1.1.1.1.0
+shape_of-right_items c = c.pool_second.auto.right_items
 
 pub returns : goal.returns
 returns c = c.pool_second.ensures

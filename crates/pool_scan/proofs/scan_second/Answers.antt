@@ -5,53 +5,52 @@ use Rattle.sets.specs.declared.Refusal.TheVariants.{Malformed, NumberUsed, TooMa
 use Rattle.sets.specs.declared.Side.TheVariants.{Right}
 use Rattle.tag_file.specs.declared.LoadAnswer.TheVariants as load
 use Rattle.tag_file.specs.declared.ReadAnswer.TheVariants.{Record}
-use Rattle.tag_file.specs.Reading.{readAt}
+use Rattle.tag_file.specs.Reading.{read_at}
 use Rattle.tag_file.specs.Records.{same_side}
 use Rattle.tag_file.proofs.Ended.{no_records}
 use Rattle.tag_file.proofs.RecordLaws.{read_less, read_number, read_count}
 use Rattle.pool_scan.specs.declared.counting.Counted.{Counted}
 use Rattle.pool_scan.specs.counting.Counting.{counted_by}
-use Rattle.pool_scan.proofs.Passing.{over_of, passing-by, passing_start, passing_whole, passing_cut, passing_left, passing_used}
+use Rattle.pool_scan.proofs.Passing.{over_of, passing_by, passing_start, passing_whole, passing_cut, passing_left, passing_used}
 use Rattle.pool_scan.proofs.Passing.{passing_repeats, passing_past, passing_next}
-use Rattle.pool_scan.proofs.Step.{step-ready, step_bounds, stepped}
+use Rattle.pool_scan.proofs.Step.{step_ready, step_bounds, stepped}
 use Rattle.pool_scan.proofs.Words.{noted_start}
 use Rattle.pool_scan.proofs.scan_second.Goals as goal
 use Rattle.pool_scan.proofs.scan_second.Goals.{Else-claim, In-Record-2, Then-is_side}
 
 -- the record that was read
 read : (a : In-Record-2)
-    → let r = a.answer-1.given.0 in
-    readAt a.args.second.now a.loop-side.at
-    ≡ Record r.0 r.1.0 r.1.1.0 r.1.1.1.0 r.1.1.1.1.0
-read a = sym a.read_record-answer.ensures ∙ a.answer-1.given.1
+    → read_at a.args.second.now a.loop-side.at
+    ≡ Record a.in-Record.side a.in-Record.number a.in-Record.count a.in-Record.tags_at a.in-Record.next
+read a = sym a.read_record-answer.ensures ∙ a.in-Record.is
 
-small : (a : In-Record-2) → a.answer-1.given.0.1.0 < half_words
-small a = read_number _ _ (read a) (λ i. (a.shared_slice_known-2-1.given i).fits)
+small : (a : In-Record-2) → a.in-Record.number < half_words
+small a = read_number _ _ (read a) (λ i. (a.type_inv.second i).fits)
 
-few : (a : In-Record-2) → a.answer-1.given.0.1.1.0 ≤ max_set_length
-few a = read_count _ _ (read a) (λ i. (a.shared_slice_known-2-1.given i).fits)
+few : (a : In-Record-2) → a.in-Record.count ≤ max_set_length
+few a = read_count _ _ (read a) (λ i. (a.type_inv.second i).fits)
 
 -- it is of the right side
-right : (a : Then-is_side) → same_side Right a.answer-1.given.0.0 ≡ true
+right : (a : Then-is_side) → same_side Right a.in-Record.side ≡ true
 right a = sym a.is_side.ensures ∙ a.if-is_side.true
 
-right-here : (e : Else-claim) → same_side Right e.answer-1.given.0.0 ≡ true
+right-here : (e : Else-claim) → same_side Right e.in-Record.side ≡ true
 right-here e = right e
 
 -- its number was not noted
-free : (e : Else-claim) → member e.loop-side.noted e.answer-1.given.0.1.0 ≡ false
+free : (e : Else-claim) → member e.loop-side.noted e.in-Record.number ≡ false
 free e = sym e.claim.ensures.before ∙ e.if-claim.false
 
 -- the first file has bytes
 bytes : (e : Else-claim) (i : ℕ) → get_or e.args.first.now i 0 < 256
-bytes e i = (e.shared_slice_known-1.given i).fits
+bytes e i = (e.type_inv.first i).fits
 
 pub count_from-counted-requires : goal.count_from-counted-requires
 count_from-counted-requires c = tt
 
 pub loop-side-init : goal.loop-side-init
 loop-side-init c =
-    passing-by c.count_from-counted.ensures (passing_start c.requires noted_start)
+    passing_by c.count_from-counted.ensures (passing_start c.requires noted_start)
 
 pub read_record-answer-requires : goal.read_record-answer-requires
 read_record-answer-requires c = tt
@@ -110,15 +109,14 @@ returns-then-claim c =
 
 pub unite-united-requires : goal.unite-united-requires
 unite-united-requires c =
-    step-ready c.requires (bytes (goal.at.unite-united-requires c).Else-claim) c.loop-side.invariant (read (goal.at.unite-united-requires c).In-Record-2) (right-here (goal.at.unite-united-requires c).Else-claim) (small (goal.at.unite-united-requires c).In-Record-2) (free (goal.at.unite-united-requires c).Else-claim) (few (goal.at.unite-united-requires c).In-Record-2)
+    step_ready c.requires (bytes (goal.at.unite-united-requires c).Else-claim) c.loop-side.invariant (read (goal.at.unite-united-requires c).In-Record-2) (right-here (goal.at.unite-united-requires c).Else-claim) (small (goal.at.unite-united-requires c).In-Record-2) (free (goal.at.unite-united-requires c).Else-claim) (few (goal.at.unite-united-requires c).In-Record-2)
 
 pub count_set-counted-requires : goal.count_set-counted-requires
 count_set-counted-requires c =
     let inv = c.loop-side.invariant in
-    let taking = c.unite-united.ensures in
-    let bounds = step_bounds c.requires (bytes (goal.at.count_set-counted-requires c).Else-claim) inv (read (goal.at.count_set-counted-requires c).In-Record-2) (right-here (goal.at.count_set-counted-requires c).Else-claim) (small (goal.at.count_set-counted-requires c).In-Record-2) (free (goal.at.count_set-counted-requires c).Else-claim) taking in
-    let one = stepped c.requires (bytes (goal.at.count_set-counted-requires c).Else-claim) inv (read (goal.at.count_set-counted-requires c).In-Record-2) (right-here (goal.at.count_set-counted-requires c).Else-claim) (small (goal.at.count_set-counted-requires c).In-Record-2) (free (goal.at.count_set-counted-requires c).Else-claim) taking in
-    let more = passing_repeats inv (read (goal.at.count_set-counted-requires c).In-Record-2) one.distinct (omega (arith, c.good.0)) (omega (arith, c.good.1.0)) in
+    let bounds = step_bounds c.requires (bytes (goal.at.count_set-counted-requires c).Else-claim) inv (read (goal.at.count_set-counted-requires c).In-Record-2) (right-here (goal.at.count_set-counted-requires c).Else-claim) (small (goal.at.count_set-counted-requires c).In-Record-2) (free (goal.at.count_set-counted-requires c).Else-claim) c.unite-united.ensures in
+    let one = stepped c.requires (bytes (goal.at.count_set-counted-requires c).Else-claim) inv (read (goal.at.count_set-counted-requires c).In-Record-2) (right-here (goal.at.count_set-counted-requires c).Else-claim) (small (goal.at.count_set-counted-requires c).In-Record-2) (free (goal.at.count_set-counted-requires c).Else-claim) c.unite-united.ensures in
+    let more = passing_repeats inv (read (goal.at.count_set-counted-requires c).In-Record-2) one.distinct (omega (arith, c.well_formed.0)) (omega (arith, c.well_formed.1.0)) in
     record {
       limited = inv.taken.limited;
       less = bounds.0;
@@ -152,12 +150,11 @@ loop-side-smaller-else-is_past c = read_less _ _ (read (goal.at.loop-side-smalle
 pub loop-side-preserved-else-is_past : goal.loop-side-preserved-else-is_past
 loop-side-preserved-else-is_past c =
     let inv = c.loop-side.invariant in
-    let set = c.count_set-counted.ensures in
     let one = stepped c.requires (bytes (goal.at.loop-side-preserved-else-is_past c).Else-claim) inv (read (goal.at.loop-side-preserved-else-is_past c).In-Record-2) (right-here (goal.at.loop-side-preserved-else-is_past c).Else-claim) (small (goal.at.loop-side-preserved-else-is_past c).In-Record-2) (free (goal.at.loop-side-preserved-else-is_past c).Else-claim) c.unite-united.ensures in
-    passing-by
-    (set ∙ ap (counted_by c.loop-side.counted c.unite-united.result c.answer-1.given.0.1.1.0) c.wrapping_add_usize-place.ensures)
+    passing_by
+    (c.count_set-counted.ensures ∙ ap (counted_by c.loop-side.counted c.unite-united.result c.in-Record.count) c.wrapping_add_usize-place.ensures)
     (passing_next inv (read (goal.at.loop-side-preserved-else-is_past c).In-Record-2) (right-here (goal.at.loop-side-preserved-else-is_past c).Else-claim) (small (goal.at.loop-side-preserved-else-is_past c).In-Record-2) (free (goal.at.loop-side-preserved-else-is_past c).Else-claim) c.unite-united.result one.one one.size
-    (sym (ap (λ (k : Counted). over_of k.total) set) ∙ sym c.is_past.ensures ∙ c.if-is_past.false)
+    (sym (ap (λ (k : Counted). over_of k.total) c.count_set-counted.ensures) ∙ sym c.is_past.ensures ∙ c.if-is_past.false)
     c.claim.ensures.noted one.distinct one.words one.is one.counted)
 
 pub loop-side-smaller : goal.loop-side-smaller

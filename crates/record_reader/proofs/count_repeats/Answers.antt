@@ -12,9 +12,8 @@ use Rattle.record_reader.proofs.count_repeats.Goals.{In-loop-k}
 there : (c : In-loop-k)
     → TagThere c.args.file.now c.args.start c.loop-k.k
 there c =
-    let p = (c.requires.count_in_bounds, c.requires.count_le_max_set_length) in
     let more = c.loop-k-test.true in
-    record { inside = omega (arith, p.0, more); room = omega (arith, p.1, more) }
+    record { inside = omega (arith, c.requires.count_in_bounds, more); room = omega (arith, c.requires.count_le_max_set_length, more) }
 
 pub loop-k-init : goal.loop-k-init
 loop-k-init c = counted_start c.args.file.now c.args.start c.args.count

@@ -13,13 +13,13 @@ returns-in_default c =
 
 pub count_repeats-repeats-requires : goal.count_repeats-repeats-requires
 count_repeats-repeats-requires c =
-    let e = sym c.read_record-answer.ensures ∙ c.answer-1.given.1 in
+    let e = sym c.read_record-answer.ensures ∙ c.in-Record.is in
     record {
       count_in_bounds = omega (arith, read_past _ _ e, read_within _ _ e);
-      count_le_max_set_length = read_count _ _ e (λ i. (c.shared_slice_known-1.given i).fits);
+      count_le_max_set_length = read_count _ _ e (λ i. (c.type_inv.file i).fits);
     }
 
 pub returns : goal.returns
 returns c =
-    read_as c.args.file.now c.args.at _ _ (sym c.answer-1.given.1 ∙ c.read_record-answer.ensures)
+    read_as c.args.file.now c.args.at _ _ (sym c.in-Record.is ∙ c.read_record-answer.ensures)
     c.count_repeats-repeats.ensures

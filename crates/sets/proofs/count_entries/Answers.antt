@@ -10,7 +10,7 @@ pub returns-then-n-eq0 : goal.returns-then-n-eq0
 returns-then-n-eq0 c = sym (entries_none c.args.ends.now (omega arith))
 
 pub overflow_cast-result : goal.overflow_cast-result
-overflow_cast-result c = omega (arith, c.shared_slice_known-1.given (length c.args.ends.now - 1))
+overflow_cast-result c = omega (arith, c.type_inv.ends (length c.args.ends.now - 1))
 
 pub returns : goal.returns
 returns c = sym (entries_at c.args.ends.now (omega arith))

@@ -1,6 +1,6 @@
 -- `signatures::sign_collections` meets its contract: the right sets, then the left sets above them.
 use native.Mathlib.Omega.{arith}
-use Rattle.signatures.proofs.SigningSets.{both-signed}
+use Rattle.signatures.proofs.SigningSets.{both_signed}
 use Rattle.signatures.proofs.sign_collections.Goals as goal
 
 pub sign_sets-requires-2 : goal.sign_sets-requires-2
@@ -15,4 +15,4 @@ sign_sets-requires-2 c =
 
 pub returns : goal.returns
 returns c =
-    both-signed c.requires c.sign_sets.ensures c.sign_sets-2.ensures
+    both_signed c.requires c.sign_sets.ensures c.sign_sets-2.ensures

@@ -8,7 +8,7 @@ pub loop-k-init : goal.loop-k-init
 loop-k-init c = (refl, signing_start)
 
 pub overflow_cast-end : goal.overflow_cast-end
-overflow_cast-end c = omega (arith, c.shared_slice_known-in-loop-k-1.given c.loop-k.k)
+overflow_cast-end c = omega (arith, c.type_inv.ends c.loop-k.k)
 
 pub sign_set-mark-requires : goal.sign_set-mark-requires
 sign_set-mark-requires c =

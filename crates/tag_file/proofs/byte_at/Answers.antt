@@ -4,7 +4,7 @@ use native.Mathlib.Omega.{arith}
 use Rattle.tag_file.proofs.byte_at.Goals as goal
 
 pub overflow_cast-result : goal.overflow_cast-result
-overflow_cast-result c = omega (arith, c.shared_slice_known-1.given c.args.at)
+overflow_cast-result c = omega (arith, c.type_inv.file c.args.at)
 
 pub returns : goal.returns
-returns c = record { is = refl; byte = omega (arith, c.shared_slice_known-1.given c.args.at) }
+returns c = record { is = refl; byte = omega (arith, c.type_inv.file c.args.at) }

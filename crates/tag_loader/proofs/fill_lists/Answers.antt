@@ -31,36 +31,34 @@ fill_side-requires-2 c =
 
 -- each list is as long as it was: so says the call, of its parameters in their order
 pub shape_of-tags : goal.shape_of-tags
-shape_of-tags c = c.fill_tags.auto.1.1.1.1.0
+shape_of-tags c = c.fill_tags.auto.tags
 
 pub shape_of-left_numbers : goal.shape_of-left_numbers
-shape_of-left_numbers c = c.fill_side.auto.1.1.1.1.1.1.1.1.0
+shape_of-left_numbers c = c.fill_side.auto.numbers
 
 pub shape_of-left_ends : goal.shape_of-left_ends
-shape_of-left_ends c = c.fill_side.auto.1.1.1.1.1.1.1.1.1.0
+shape_of-left_ends c = c.fill_side.auto.ends
 
 pub shape_of-left_items : goal.shape_of-left_items
-shape_of-left_items c = c.fill_side.auto.1.1.1.1.1.1.1.1.1.1.0
+shape_of-left_items c = c.fill_side.auto.items
 
 pub shape_of-right_numbers : goal.shape_of-right_numbers
-shape_of-right_numbers c = c.fill_side-2.auto.1.1.1.1.1.1.1.1.0
+shape_of-right_numbers c = c.fill_side-2.auto.numbers
 
 pub shape_of-right_ends : goal.shape_of-right_ends
-shape_of-right_ends c = c.fill_side-2.auto.1.1.1.1.1.1.1.1.1.0
+shape_of-right_ends c = c.fill_side-2.auto.ends
 
 pub shape_of-right_items : goal.shape_of-right_items
-shape_of-right_items c = c.fill_side-2.auto.1.1.1.1.1.1.1.1.1.1.0
+shape_of-right_items c = c.fill_side-2.auto.items
 
 pub returns : goal.returns
 returns c =
-    let l = (c.fill_side.ensures.numbers, (c.fill_side.ensures.ends, c.fill_side.ensures.items)) in
-    let r = (c.fill_side-2.ensures.numbers, (c.fill_side-2.ensures.ends, c.fill_side-2.ensures.items)) in
     record {
       tags_filled = tags_filled c.requires c.args.tags.now c.fill_tags.ensures;
-      left_numbers_filled = l.0;
-      left_ends_filled = ends_filled c.requires Left c.args.left-ends.now l.1.0;
-      left_items_filled = items_filled c.requires Left c.args.left-items.now l.1.1;
-      right_numbers_filled = r.0;
-      right_ends_filled = ends_filled c.requires Right c.args.right-ends.now r.1.0;
-      right_items_filled = items_filled c.requires Right c.args.right-items.now r.1.1;
+      left_numbers_filled = c.fill_side.ensures.numbers;
+      left_ends_filled = ends_filled c.requires Left c.args.left-ends.now c.fill_side.ensures.ends;
+      left_items_filled = items_filled c.requires Left c.args.left-items.now c.fill_side.ensures.items;
+      right_numbers_filled = c.fill_side-2.ensures.numbers;
+      right_ends_filled = ends_filled c.requires Right c.args.right-ends.now c.fill_side-2.ensures.ends;
+      right_items_filled = items_filled c.requires Right c.args.right-items.now c.fill_side-2.ensures.items;
     }

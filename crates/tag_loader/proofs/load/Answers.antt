@@ -13,90 +13,89 @@ lent at-scan =
 
 -- each list is as long as it was: so says the call, of its parameters in their order
 pub shape_of-tags-in_default : goal.shape_of-tags-in_default
-shape_of-tags-in_default c = c.clear_lists.auto.0
+shape_of-tags-in_default c = c.clear_lists.auto.tags
 
 pub shape_of-left_numbers-in_default : goal.shape_of-left_numbers-in_default
-shape_of-left_numbers-in_default c = c.clear_lists.auto.1.0
+shape_of-left_numbers-in_default c = c.clear_lists.auto.left_numbers
 
 pub shape_of-left_ends-in_default : goal.shape_of-left_ends-in_default
-shape_of-left_ends-in_default c = c.clear_lists.auto.1.1.0
+shape_of-left_ends-in_default c = c.clear_lists.auto.left_ends
 
 pub shape_of-left_items-in_default : goal.shape_of-left_items-in_default
-shape_of-left_items-in_default c = c.clear_lists.auto.1.1.1.0
+shape_of-left_items-in_default c = c.clear_lists.auto.left_items
 
 pub shape_of-right_numbers-in_default : goal.shape_of-right_numbers-in_default
-shape_of-right_numbers-in_default c = c.clear_lists.auto.1.1.1.1.0
+shape_of-right_numbers-in_default c = c.clear_lists.auto.right_numbers
 
 pub shape_of-right_ends-in_default : goal.shape_of-right_ends-in_default
-shape_of-right_ends-in_default c = c.clear_lists.auto.1.1.1.1.1.0
+shape_of-right_ends-in_default c = c.clear_lists.auto.right_ends
 
 pub shape_of-right_items-in_default : goal.shape_of-right_items-in_default
-shape_of-right_items-in_default c = c.clear_lists.auto.1.1.1.1.1.1.0
+shape_of-right_items-in_default c = c.clear_lists.auto.right_items
 
 pub returns-in_default : goal.returns-in_default
 returns-in_default c =
-    let told = c.enum_told-1.given in
-    call-fault {before = lent (goal.at.returns-in_default c).After-scan-answer} told.0.0 c.scan-answer.ensures told.1 c.clear_lists.ensures
+    call-fault {before = lent (goal.at.returns-in_default c).After-scan-answer} c.in_default.field-0 c.scan-answer.ensures c.in_default.is c.clear_lists.ensures
 
 pub has_room-requires : goal.has_room-requires
 has_room-requires c =
-    sound-limited c.scan-answer.ensures c.answer-1.given.1
+    sound-limited c.scan-answer.ensures c.in-Loaded.is
 
 pub shape_of-tags-then-not-has_room : goal.shape_of-tags-then-not-has_room
-shape_of-tags-then-not-has_room c = c.clear_lists-then-not-has_room.auto.0
+shape_of-tags-then-not-has_room c = c.clear_lists-then-not-has_room.auto.tags
 
 pub shape_of-left_numbers-then-not-has_room : goal.shape_of-left_numbers-then-not-has_room
-shape_of-left_numbers-then-not-has_room c = c.clear_lists-then-not-has_room.auto.1.0
+shape_of-left_numbers-then-not-has_room c = c.clear_lists-then-not-has_room.auto.left_numbers
 
 pub shape_of-left_ends-then-not-has_room : goal.shape_of-left_ends-then-not-has_room
-shape_of-left_ends-then-not-has_room c = c.clear_lists-then-not-has_room.auto.1.1.0
+shape_of-left_ends-then-not-has_room c = c.clear_lists-then-not-has_room.auto.left_ends
 
 pub shape_of-left_items-then-not-has_room : goal.shape_of-left_items-then-not-has_room
-shape_of-left_items-then-not-has_room c = c.clear_lists-then-not-has_room.auto.1.1.1.0
+shape_of-left_items-then-not-has_room c = c.clear_lists-then-not-has_room.auto.left_items
 
 pub shape_of-right_numbers-then-not-has_room : goal.shape_of-right_numbers-then-not-has_room
-shape_of-right_numbers-then-not-has_room c = c.clear_lists-then-not-has_room.auto.1.1.1.1.0
+shape_of-right_numbers-then-not-has_room c = c.clear_lists-then-not-has_room.auto.right_numbers
 
 pub shape_of-right_ends-then-not-has_room : goal.shape_of-right_ends-then-not-has_room
-shape_of-right_ends-then-not-has_room c = c.clear_lists-then-not-has_room.auto.1.1.1.1.1.0
+shape_of-right_ends-then-not-has_room c = c.clear_lists-then-not-has_room.auto.right_ends
 
 pub shape_of-right_items-then-not-has_room : goal.shape_of-right_items-then-not-has_room
-shape_of-right_items-then-not-has_room c = c.clear_lists-then-not-has_room.auto.1.1.1.1.1.1.0
+shape_of-right_items-then-not-has_room c = c.clear_lists-then-not-has_room.auto.right_items
 
 pub returns-then-not-has_room : goal.returns-then-not-has_room
 returns-then-not-has_room c =
-    call-short c.scan-answer.ensures c.answer-1.given.1 (lent (goal.at.returns-then-not-has_room c).After-scan-answer)
-    c.has_room.ensures c.if-not-has_room.true
+    call-short c.scan-answer.ensures c.in-Loaded.is (lent (goal.at.returns-then-not-has_room c).After-scan-answer)
+    c.has_room.ensures c.if-not-has_room.true-raw
     c.clear_lists-then-not-has_room.ensures
 
 pub fill_lists-requires : goal.fill_lists-requires
 fill_lists-requires c =
-    room-fillable c.scan-answer.ensures c.answer-1.given.1 (lent (goal.at.fill_lists-requires c).After-scan-answer)
-    c.has_room.ensures c.if-not-has_room.false
+    room-fillable c.scan-answer.ensures c.in-Loaded.is (lent (goal.at.fill_lists-requires c).After-scan-answer)
+    c.has_room.ensures c.if-not-has_room.false-raw
 
 pub shape_of-tags : goal.shape_of-tags
-shape_of-tags c = c.fill_lists.auto.1.1.1.1.1.1.0
+shape_of-tags c = c.fill_lists.auto.tags
 
 pub shape_of-left_numbers : goal.shape_of-left_numbers
-shape_of-left_numbers c = c.fill_lists.auto.1.1.1.1.1.1.1.0
+shape_of-left_numbers c = c.fill_lists.auto.left_numbers
 
 pub shape_of-left_ends : goal.shape_of-left_ends
-shape_of-left_ends c = c.fill_lists.auto.1.1.1.1.1.1.1.1.0
+shape_of-left_ends c = c.fill_lists.auto.left_ends
 
 pub shape_of-left_items : goal.shape_of-left_items
-shape_of-left_items c = c.fill_lists.auto.1.1.1.1.1.1.1.1.1.0
+shape_of-left_items c = c.fill_lists.auto.left_items
 
 pub shape_of-right_numbers : goal.shape_of-right_numbers
-shape_of-right_numbers c = c.fill_lists.auto.1.1.1.1.1.1.1.1.1.1.0
+shape_of-right_numbers c = c.fill_lists.auto.right_numbers
 
 pub shape_of-right_ends : goal.shape_of-right_ends
-shape_of-right_ends c = c.fill_lists.auto.1.1.1.1.1.1.1.1.1.1.1.0
+shape_of-right_ends c = c.fill_lists.auto.right_ends
 
 pub shape_of-right_items : goal.shape_of-right_items
-shape_of-right_items c = c.fill_lists.auto.1.1.1.1.1.1.1.1.1.1.1.1.0
+shape_of-right_items c = c.fill_lists.auto.right_items
 
 pub returns : goal.returns
 returns c =
-    call-loaded c.scan-answer.ensures c.answer-1.given.1 (lent (goal.at.returns c).After-scan-answer)
+    call-loaded c.scan-answer.ensures c.in-Loaded.is (lent (goal.at.returns c).After-scan-answer)
     c.has_room.ensures c.if-not-has_room.left
     c.fill_lists.ensures

@@ -9,7 +9,7 @@ use Rattle.bit_sets.specs.BitSets.{member}
 use Rattle.sets.specs.Limits.{max_set_length, half_words}
 use Rattle.tag_file.specs.declared.LoadAnswer.{LoadAnswer}
 use Rattle.tag_file.specs.declared.ReadAnswer.TheVariants.{Record}
-use Rattle.tag_file.specs.Reading.{readAt}
+use Rattle.tag_file.specs.Reading.{read_at}
 use Rattle.tag_file.specs.Records.{insert_all, all_tags}
 use Rattle.tag_file.proofs.Ended.{no_records}
 use Rattle.tag_file.proofs.RecordLaws.{read_less, read_number, read_count}
@@ -19,23 +19,22 @@ use Rattle.tag_scan.specs.used_numbers.Keys.{used_words, key_of}
 use Rattle.tag_scan.proofs.used_numbers.Numbers.{Noted, noted_start}
 use Rattle.tag_scan.specs.Scan.{Scanned}
 use Rattle.tag_scan.proofs.Taking.{taken_start}
-use Rattle.tag_scan.proofs.Scanning.{scanning_start, scanning_stop, scanning-used, scanning_room}
-use Rattle.tag_scan.proofs.Scanning.{distinct_few, repeats-room, scanning-past, scanning-next}
+use Rattle.tag_scan.proofs.Scanning.{scanning_start, scanning_stop, scanning_used, scanning_room}
+use Rattle.tag_scan.proofs.Scanning.{distinct_few, repeats_room, scanning_past, scanning_next}
 use Rattle.tag_scan.proofs.scan_records.Goals as goal
 use Rattle.tag_scan.proofs.scan_records.Goals.{After-add_tags-added, At-loop-side, In-Record-2, Start}
 
 -- the record that was read
 read : (a : In-Record-2)
-    → let r = a.answer-1.given.0 in
-    readAt a.args.file.now a.loop-side.at
-    ≡ Record r.0 r.1.0 r.1.1.0 r.1.1.1.0 r.1.1.1.1.0
-read a = sym a.read_record-answer.ensures ∙ a.answer-1.given.1
+    → read_at a.args.file.now a.loop-side.at
+    ≡ Record a.in-Record.side a.in-Record.number a.in-Record.count a.in-Record.tags_at a.in-Record.next
+read a = sym a.read_record-answer.ensures ∙ a.in-Record.is
 
-small : (a : In-Record-2) → a.answer-1.given.0.1.0 < half_words
-small a = read_number _ _ (read a) (λ i. (a.shared_slice_known-1.given i).fits)
+small : (a : In-Record-2) → a.in-Record.number < half_words
+small a = read_number _ _ (read a) (λ i. (a.type_inv.file i).fits)
 
-few : (a : In-Record-2) → a.answer-1.given.0.1.1.0 ≤ max_set_length
-few a = read_count _ _ (read a) (λ i. (a.shared_slice_known-1.given i).fits)
+few : (a : In-Record-2) → a.in-Record.count ≤ max_set_length
+few a = read_count _ _ (read a) (λ i. (a.type_inv.file i).fits)
 
 -- no tags of it are added yet
 none-added : (l : At-loop-side)
@@ -43,8 +42,7 @@ none-added : (l : At-loop-side)
 none-added l = adding_start l.loop-side.invariant.true.sorted
 
 free : (g : After-add_tags-added)
-    → let r = g.answer-1.given.0 in
-    member g.loop-side.used (key_of r.0 r.1.0) ≡ false
+    → member g.loop-side.used (key_of g.in-Record.side g.in-Record.number) ≡ false
 free g = sym g.claim.ensures.before ∙ g.if-claim.false
 
 -- the lent bit set keeps its length
@@ -93,7 +91,7 @@ shape_of-used-then-claim c =
 
 pub returns-then-claim : goal.returns-then-claim
 returns-then-claim c =
-    scanning-used c.loop-side.invariant (read (goal.at.returns-then-claim c).In-Record-2) (small (goal.at.returns-then-claim c).In-Record-2) (sym c.claim.ensures.before ∙ c.if-claim.true)
+    scanning_used c.loop-side.invariant (read (goal.at.returns-then-claim c).In-Record-2) (small (goal.at.returns-then-claim c).In-Record-2) (sym c.claim.ensures.before ∙ c.if-claim.true)
 
 pub slice_bounds-add_tags-end : goal.slice_bounds-add_tags-end
 slice_bounds-add_tags-end c =
@@ -124,7 +122,7 @@ shape_of-used-then-is_over c =
 
 pub returns-then-is_over : goal.returns-then-is_over
 returns-then-is_over c =
-    scanning-past c.loop-side.invariant (read (goal.at.returns-then-is_over c).In-Record-2) (c.add_tags-added.ensures [] (none-added (goal.at.returns-then-is_over c).At-loop-side)) (small (goal.at.returns-then-is_over c).In-Record-2) (free (goal.at.returns-then-is_over c).After-add_tags-added) c.grown-total.ensures
+    scanning_past c.loop-side.invariant (read (goal.at.returns-then-is_over c).In-Record-2) (c.add_tags-added.ensures [] (none-added (goal.at.returns-then-is_over c).At-loop-side)) (small (goal.at.returns-then-is_over c).In-Record-2) (free (goal.at.returns-then-is_over c).After-add_tags-added) c.grown-total.ensures
     (sym c.is_over.ensures ∙ c.if-is_over.true)
 
 pub overflow_sub-count : goal.overflow_sub-count
@@ -134,7 +132,7 @@ overflow_sub-count c =
 
 pub repeated-repeats-requires : goal.repeated-repeats-requires
 repeated-repeats-requires c =
-    repeats-room c.loop-side.invariant (read (goal.at.repeated-repeats-requires c).In-Record-2) (c.add_tags-added.ensures [] (none-added (goal.at.repeated-repeats-requires c).At-loop-side)) (omega (arith, c.good.0))
+    repeats_room c.loop-side.invariant (read (goal.at.repeated-repeats-requires c).In-Record-2) (c.add_tags-added.ensures [] (none-added (goal.at.repeated-repeats-requires c).At-loop-side)) (omega (arith, c.well_formed.0))
 
 pub loop-side-smaller : goal.loop-side-smaller
 loop-side-smaller c =
@@ -142,5 +140,5 @@ loop-side-smaller c =
 
 pub loop-side-preserved : goal.loop-side-preserved
 loop-side-preserved c =
-    scanning-next c.loop-side.invariant (read (goal.at.loop-side-preserved c).In-Record-2) (c.add_tags-added.ensures [] (none-added (goal.at.loop-side-preserved c).At-loop-side)) (small (goal.at.loop-side-preserved c).In-Record-2) (free (goal.at.loop-side-preserved c).After-add_tags-added) c.grown-total.ensures
+    scanning_next c.loop-side.invariant (read (goal.at.loop-side-preserved c).In-Record-2) (c.add_tags-added.ensures [] (none-added (goal.at.loop-side-preserved c).At-loop-side)) (small (goal.at.loop-side-preserved c).In-Record-2) (free (goal.at.loop-side-preserved c).After-add_tags-added) c.grown-total.ensures
     c.claim.ensures.noted (sym c.is_over.ensures ∙ c.if-is_over.false) c.repeated-repeats.ensures

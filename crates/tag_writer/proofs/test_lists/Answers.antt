@@ -3,7 +3,7 @@ use mathlib.Core.Path.{◌≡◌, sym, ◌∙◌}
 use Rattle.sets.specs.declared.Side.TheVariants.{Left}
 use Rattle.tag_file.specs.Loading.{Lists, lists_of}
 use Rattle.tag_writer_spec.specs.Writer.{table_test, numbered_test}
-use Rattle.tag_writer_spec.proofs.Tests.{lists-table, lists_left, lists_right}
+use Rattle.tag_writer_spec.proofs.Tests.{lists_table, lists_left, lists_right}
 use Rattle.tag_writer.proofs.test_lists.Goals as goal
 use Rattle.tag_writer.proofs.test_lists.Goals.{After-test_numbered-left, After-test_table-table, Start}
 
@@ -25,14 +25,14 @@ left p = sym p.test_numbered-left.ensures
 
 pub returns-in-Failed : goal.returns-in-Failed
 returns-in-Failed c =
-    lists-table c.args.t (lists (goal.at.returns-in-Failed c).Start) _ (table (goal.at.returns-in-Failed c).After-test_table-table ∙ c.table-1.given.1)
+    lists_table c.args.t (lists (goal.at.returns-in-Failed c).Start) _ (table (goal.at.returns-in-Failed c).After-test_table-table ∙ c.in-Failed.is)
 
 pub returns-in-Failed-left : goal.returns-in-Failed-left
 returns-in-Failed-left c =
-    lists_left c.args.t (lists (goal.at.returns-in-Failed-left c).Start) (table (goal.at.returns-in-Failed-left c).After-test_table-table ∙ c.enum_told-1.given.1) _
-    (left (goal.at.returns-in-Failed-left c).After-test_numbered-left ∙ c.left-1.given.1)
+    lists_left c.args.t (lists (goal.at.returns-in-Failed-left c).Start) (table (goal.at.returns-in-Failed-left c).After-test_table-table ∙ c.in_default.is) _
+    (left (goal.at.returns-in-Failed-left c).After-test_numbered-left ∙ c.in-Failed-left.is)
 
 pub returns : goal.returns
 returns c =
-    lists_right c.args.t (lists (goal.at.returns c).Start) (table (goal.at.returns c).After-test_table-table ∙ c.enum_told-1.given.1)
-    (left (goal.at.returns c).After-test_numbered-left ∙ c.enum_told-in_default-left-1.given.1) c.test_numbered.ensures
+    lists_right c.args.t (lists (goal.at.returns c).Start) (table (goal.at.returns c).After-test_table-table ∙ c.in_default.is)
+    (left (goal.at.returns c).After-test_numbered-left ∙ c.in_default-left.is) c.test_numbered.ensures

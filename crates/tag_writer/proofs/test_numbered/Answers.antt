@@ -12,22 +12,22 @@ found p = sym p.test_side-sets.ensures
 pub returns-in-Failed : goal.returns-in-Failed
 returns-in-Failed c =
     let a = c.args in
-    side_bad a.t a.side a.numbers.now a.ends.now a.items.now (found (goal.at.returns-in-Failed c).After-test_side-sets ∙ c.sets-1.given.1)
+    side_bad a.t a.side a.numbers.now a.ends.now a.items.now (found (goal.at.returns-in-Failed c).After-test_side-sets ∙ c.in-Failed.is)
 
 pub returns-then-numbers-ends : goal.returns-then-numbers-ends
 returns-then-numbers-ends c =
     let a = c.args in
-    side_even a.t a.side a.numbers.now a.ends.now a.items.now (found (goal.at.returns-then-numbers-ends c).After-test_side-sets ∙ c.enum_told-1.given.1)
+    side_even a.t a.side a.numbers.now a.ends.now a.items.now (found (goal.at.returns-then-numbers-ends c).After-test_side-sets ∙ c.in_default.is)
     c.if-numbers-ends.true
 
 pub returns-then-numbers-ends-2 : goal.returns-then-numbers-ends-2
 returns-then-numbers-ends-2 c =
     let a = c.args in
-    side_fewer a.t a.side a.numbers.now a.ends.now a.items.now (found (goal.at.returns-then-numbers-ends-2 c).After-test_side-sets ∙ c.enum_told-1.given.1)
+    side_fewer a.t a.side a.numbers.now a.ends.now a.items.now (found (goal.at.returns-then-numbers-ends-2 c).After-test_side-sets ∙ c.in_default.is)
     c.if-numbers-ends-2.true
 
 pub returns : goal.returns
 returns c =
     let a = c.args in
-    side_more a.t a.side a.numbers.now a.ends.now a.items.now (found (goal.at.returns c).After-test_side-sets ∙ c.enum_told-1.given.1)
+    side_more a.t a.side a.numbers.now a.ends.now a.items.now (found (goal.at.returns c).After-test_side-sets ∙ c.in_default.is)
     c.if-numbers-ends.false c.if-numbers-ends-2.false

@@ -10,7 +10,7 @@ use Rattle.text.proofs.put_number.Goals as goal
 use Rattle.text.proofs.put_number.Goals.{After-decimal-n}
 
 -- what the library spelled
-spelled : (c : After-decimal-n) → take c.decimal-n.result c.decimal-n.new.1.0 ≡ decimal c.args.number
+spelled : (c : After-decimal-n) → take c.decimal-n.result c.decimal-n.new.out ≡ decimal c.args.number
 spelled c = (c.decimal-n.ensures.digits, c.decimal-n.ensures.rest) ∙ digits_decimal _ _ c.decimal-n.ensures.len
 
 pub put_word-requires : goal.put_word-requires

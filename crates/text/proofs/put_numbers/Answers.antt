@@ -2,12 +2,12 @@
 use native.Mathlib.Omega.{arith}
 use Rattle.lists.proofs.Writing.{put_append}
 use Rattle.text.specs.Lines.{ascii}
-use Rattle.text.proofs.LineBounds.{long-labelled}
+use Rattle.text.proofs.LineBounds.{long_labelled}
 use Rattle.text.proofs.put_numbers.Goals as goal
 
 pub put_labelled-n-requires : goal.put_labelled-n-requires
 put_labelled-n-requires c =
-    omega (arith, c.requires, long-labelled c.args.word.now c.args.first c.ranges.first.fits)
+    omega (arith, c.requires, long_labelled c.args.word.now c.args.first c.ranges.first.fits)
 
 pub put_labelled-m-requires : goal.put_labelled-m-requires
 put_labelled-m-requires c =
@@ -17,8 +17,8 @@ put_labelled-m-requires c =
       c.requires,
       first.ensures.past,
       first.auto.0,
-      long-labelled c.args.word.now c.args.first c.ranges.first.fits,
-      long-labelled (ascii " ") c.args.second c.ranges.second.fits,
+      long_labelled c.args.word.now c.args.first c.ranges.first.fits,
+      long_labelled (ascii " ") c.args.second c.ranges.second.fits,
     )
 
 pub put_word-requires : goal.put_word-requires
@@ -32,8 +32,8 @@ put_word-requires c =
       first.auto.0,
       second.ensures.past,
       second.auto.0,
-      long-labelled c.args.word.now c.args.first c.ranges.first.fits,
-      long-labelled (ascii " ") c.args.second c.ranges.second.fits,
+      long_labelled c.args.word.now c.args.first c.ranges.first.fits,
+      long_labelled (ascii " ") c.args.second c.ranges.second.fits,
     )
 
 pub returns : goal.returns
@@ -48,7 +48,7 @@ returns c =
         first.ensures.past,
         second.ensures.past,
         end.ensures.past,
-        long-labelled c.args.word.now c.args.first c.ranges.first.fits,
-        long-labelled (ascii " ") c.args.second c.ranges.second.fits,
+        long_labelled c.args.word.now c.args.first c.ranges.first.fits,
+        long_labelled (ascii " ") c.args.second c.ranges.second.fits,
       );
     }

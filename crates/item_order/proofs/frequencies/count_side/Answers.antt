@@ -11,5 +11,5 @@ tally-requires c =
 
 pub returns : goal.returns
 returns c =
-    side_counted c.requires c.count_entries-n.ensures c.tally.new.1.0
+    side_counted c.requires c.count_entries-n.ensures c.tally.new.counts
     c.tally.ensures

@@ -7,7 +7,7 @@ pub loop-i-init : goal.loop-i-init
 loop-i-init c = tally_start c.args.xs.now c.args.counts.now
 
 pub overflow_cast-x : goal.overflow_cast-x
-overflow_cast-x c = omega (arith, c.shared_slice_known-1.given c.loop-i.i)
+overflow_cast-x c = omega (arith, c.type_inv.xs c.loop-i.i)
 
 pub offset_bounds-counts-x : goal.offset_bounds-counts-x
 offset_bounds-counts-x c =

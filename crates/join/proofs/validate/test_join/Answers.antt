@@ -9,15 +9,15 @@ returns-then-bad_settings c = settings_failed _ _ _ _ (sym c.bad_settings.ensure
 pub test_work-requires : goal.test_work-requires
 test_work-requires c =
     sizes _ _ _ 0 (sym c.bad_settings.ensures ∙ c.if-bad_settings.false)
-    (sym c.test_sets-sets.ensures ∙ c.enum_told-1.given.1)
+    (sym c.test_sets-sets.ensures ∙ c.in-Passed.is)
 
 pub returns-in-Failed : goal.returns-in-Failed
 returns-in-Failed c =
     sets_failed _ _ _ _ (sym c.bad_settings.ensures ∙ c.if-bad_settings.false)
-    (sym c.test_sets-sets.ensures ∙ c.sets-1.given.1)
+    (sym c.test_sets-sets.ensures ∙ c.in-Failed.is)
 
 pub returns-in-Passed : goal.returns-in-Passed
 returns-in-Passed c =
     c.test_work.ensures
     ∙ work_last _ _ _ _ (sym c.bad_settings.ensures ∙ c.if-bad_settings.false)
-    (sym c.test_sets-sets.ensures ∙ c.enum_told-1.given.1)
+    (sym c.test_sets-sets.ensures ∙ c.in-Passed.is)

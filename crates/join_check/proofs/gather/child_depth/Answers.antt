@@ -4,5 +4,4 @@ use Rattle.join_check.proofs.gather.child_depth.Goals as goal
 
 pub key_at-requires : goal.key_at-requires
 key_at-requires c =
-    let some = c.requires.some_query in
-    record { query = some.query; holds = range_left some.holds c.args.i some.holds.some c.word_at-k.ensures }
+    record { query = c.requires.some_query.query; holds = range_left c.requires.some_query.holds c.args.i c.requires.some_query.holds.some c.word_at-k.ensures }

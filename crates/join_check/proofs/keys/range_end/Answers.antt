@@ -29,10 +29,9 @@ word_at-k-requires c = omega (arith, range_within c.requires.holds)
 
 pub key_at-requires : goal.key_at-requires
 key_at-requires c =
-    let some = c.requires in
     record {
-      query = some.query;
-      holds = range_left some.holds c.loop-j.j c.loop-j-test.true c.word_at-k.ensures;
+      query = c.requires.query;
+      holds = range_left c.requires.holds c.loop-j.j c.loop-j-test.true c.word_at-k.ensures;
     }
 
 pub returns-then-key_at-key : goal.returns-then-key_at-key

@@ -1,8 +1,8 @@
 -- `join_index::build::build` meets its contract: each stage requires what the layout and the stages before it leave.
 use native.Mathlib.Omega.{arith}
 use Rattle.join_index.proofs.build.BuildPlan.{Planned, by_length, sizes, plan_sizes, wide}
-use Rattle.join_index.proofs.build.BuildStages.{right_room, left-room, least-room, order-room, sign-room}
-use Rattle.join_index.proofs.build.BuildGround.{ground, ground-items}
+use Rattle.join_index.proofs.build.BuildStages.{right_room, left_room, least_room, order_room, sign_room}
+use Rattle.join_index.proofs.build.BuildGround.{ground, ground_items}
 use Rattle.join_index.proofs.build.build.Goals as goal
 use Rattle.join_index.proofs.build.build.Goals.{After-lay_out-lay}
 
@@ -31,27 +31,27 @@ build_side-requires c = right_room (planned (goal.at.build_side-requires c).Afte
 
 pub build_side-requires-2 : goal.build_side-requires-2
 build_side-requires-2 c =
-    left-room (planned (goal.at.build_side-requires-2 c).After-lay_out-lay) c.build_side.ensures
+    left_room (planned (goal.at.build_side-requires-2 c).After-lay_out-lay) c.build_side.ensures
 
 pub build_least-requires : goal.build_least-requires
 build_least-requires c =
-    least-room (planned (goal.at.build_least-requires c).After-lay_out-lay) c.build_side.ensures c.build_side-2.ensures
+    least_room (planned (goal.at.build_least-requires c).After-lay_out-lay) c.build_side.ensures c.build_side-2.ensures
 
 pub build_order-requires : goal.build_order-requires
 build_order-requires c =
-    order-room (planned (goal.at.build_order-requires c).After-lay_out-lay) c.build_side.ensures c.build_side-2.ensures
+    order_room (planned (goal.at.build_order-requires c).After-lay_out-lay) c.build_side.ensures c.build_side-2.ensures
     c.build_least.ensures
 
 pub sign_collections-requires : goal.sign_collections-requires
 sign_collections-requires c =
-    sign-room (planned (goal.at.sign_collections-requires c).After-lay_out-lay) c.build_side.ensures c.build_side-2.ensures c.build_least.ensures
+    sign_room (planned (goal.at.sign_collections-requires c).After-lay_out-lay) c.build_side.ensures c.build_side-2.ensures c.build_least.ensures
     c.args.limit
     c.build_order.ensures
 
 pub returns : goal.returns
 returns c =
     record {
-      ground = ground-items c.args.limit c.args.rule c.requires
+      ground = ground_items c.args.limit c.args.rule c.requires
           (ground
           record {
             plan = planned (goal.at.returns c).After-lay_out-lay;
@@ -64,10 +64,10 @@ returns c =
       room = omega (
         arith,
         wide (planned (goal.at.returns c).After-lay_out-lay),
-        c.build_side.auto.0,
-        c.build_side-2.auto.0,
-        c.build_least.auto.0,
-        c.build_order.auto.0,
-        c.sign_collections.auto.0,
+        c.build_side.auto.work,
+        c.build_side-2.auto.work,
+        c.build_least.auto.work,
+        c.build_order.auto.work,
+        c.sign_collections.auto.work,
       );
     }

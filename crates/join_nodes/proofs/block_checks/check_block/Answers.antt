@@ -9,15 +9,14 @@ use Rattle.join_nodes.proofs.block_checks.check_block.Goals as goal
 
 pub overflow_mul-checks : goal.overflow_mul-checks
 overflow_mul-checks c =
-    let small = c.requires.small in
-    omega (arith, mul-le-mul small.lefts small.rights)
+    omega (arith, mul-le-mul c.requires.small.lefts c.requires.small.rights)
 
 pub returns-then-not-covers : goal.returns-then-not-covers
 returns-then-not-covers c =
     record {
       tallied = λ calm. true-false refl calm;
       within = λ calm. true-false refl calm;
-      beyond = λ spent. c.covers.ensures.beyond (not-true c.covers.result c.if-not-covers.true);
+      beyond = λ spent. c.covers.ensures.beyond (not-true c.covers.result c.if-not-covers.true-raw);
       top = refl;
     }
 
@@ -27,7 +26,7 @@ gather-r-requires c =
     let covered = c.covers in
     record {
       some_query = c.requires.some_query;
-      from_bound = omega (arith, covered.ensures.within (not-false covered.result c.if-not-covers.false));
+      from_bound = omega (arith, covered.ensures.within (not-false covered.result c.if-not-covers.false-raw));
     }
 
 pub returns : goal.returns
@@ -36,7 +35,7 @@ returns c =
     record {
       tallied = λ calm q there. c.gather-r.ensures.tallied q there;
       within = λ calm.
-          omega (arith, c.gather-r.ensures.grown, covered.ensures.within (not-false covered.result c.if-not-covers.false));
+          omega (arith, c.gather-r.ensures.grown, covered.ensures.within (not-false covered.result c.if-not-covers.false-raw));
       beyond = λ spent. true-false spent refl;
       top = refl;
     }

@@ -15,7 +15,7 @@ finish_one-one-requires c =
 
 pub shape_of-work-then-one : goal.shape_of-work-then-one
 shape_of-work-then-one c =
-    c.finish_one-one.auto.0 ∙ c.loop-i.invariant.size
+    c.finish_one-one.auto.work ∙ c.loop-i.invariant.size
 
 pub returns-then-one : goal.returns-then-one
 returns-then-one c =
@@ -35,7 +35,7 @@ pub loop-i-preserved : goal.loop-i-preserved
 loop-i-preserved c =
     let more = c.loop-i-test.true in
     continuing_step c.loop-i.invariant (omega arith) (omega (arith, more))
-    (λ q path at. limit_done at more (c.finish_one-one.ensures q path (limit_first at more))) c.finish_one-one.auto.0
+    (λ q path at. limit_done at more (c.finish_one-one.ensures q path (limit_first at more))) c.finish_one-one.auto.work
     c.if-one.false
 
 pub shape_of-work : goal.shape_of-work

@@ -17,14 +17,13 @@ key_at-requires c =
 -- the left set ends here
 pub pair_ended-at-requires : goal.pair_ended-at-requires
 pair_ended-at-requires c =
-    let some = c.requires in
     record {
-      some_query = some-query some
+      some_query = some-query c.requires
           (λ q path at.
           one_list at c.word_at-k.ensures
           (sym (one_key at c.word_at-k.ensures c.key_at.ensures) ∙ c.if-key_at-eq0.true));
       lo_le_hi = omega arith;
-      is_by_path_bound = one_room some.holds c.word_at-k.ensures;
+      is_by_path_bound = one_room c.requires.holds c.word_at-k.ensures;
     }
 
 pub returns-then-key_at-eq0 : goal.returns-then-key_at-eq0
@@ -36,11 +35,10 @@ returns-then-key_at-eq0 c =
 -- there is no room for its row
 pub check_block-requires : goal.check_block-requires
 check_block-requires c =
-    let some = c.requires in
     record {
-      some_query = some-query some (λ q path at. going_there at.going);
-      small = one_small some.holds c.word_at-k.ensures
-          (λ none. c.if-key_at-eq0.false (one_key some.holds c.word_at-k.ensures c.key_at.ensures ∙ none));
+      some_query = some-query c.requires (λ q path at. going_there at.going);
+      small = one_small c.requires.holds c.word_at-k.ensures
+          (λ none. c.if-key_at-eq0.false (one_key c.requires.holds c.word_at-k.ensures c.key_at.ensures ∙ none));
     }
 
 pub returns-then-lay-p : goal.returns-then-lay-p
@@ -52,14 +50,13 @@ returns-then-lay-p c =
 -- there is
 pub finish_row-requires : goal.finish_row-requires
 finish_row-requires c =
-    let some = c.requires in
     record {
-      some_query = some-query some
+      some_query = some-query c.requires
           (λ q path at.
           row_record at.going c.args.i (omega arith) (omega arith) c.word_at-k.ensures.is
           (omega (arith, c.if-lay-p.false, at.going.rows.high)));
-      from_le_to = some.holds.going.rise;
-      tally_bound = some.holds.going.underway.budget;
+      from_le_to = c.requires.holds.going.rise;
+      tally_bound = c.requires.holds.going.underway.budget;
     }
 
 pub returns : goal.returns

@@ -12,7 +12,7 @@ returns-then-not-covers c =
       rows = λ calm. true-false refl calm;
       tallied = λ calm. true-false refl calm;
       within = λ calm. true-false refl calm;
-      beyond = λ spent. c.covers.ensures.beyond (not-true c.covers.result c.if-not-covers.true);
+      beyond = λ spent. c.covers.ensures.beyond (not-true c.covers.result c.if-not-covers.true-raw);
     }
 
 pub record_row-r-requires : goal.record_row-r-requires
@@ -20,18 +20,17 @@ record_row-r-requires c =
     let covered = c.covers in
     record {
       some_query = c.requires.some_query;
-      from_bound = omega (arith, c.well-formed.1.1.0, covered.ensures.within (not-false covered.result c.if-not-covers.false));
+      from_bound = omega (arith, c.well_formed.1.1.0, covered.ensures.within (not-false covered.result c.if-not-covers.false-raw));
     }
 
 pub returns : goal.returns
 returns c =
     let covered = c.covers in
-    let row = c.record_row-r.ensures in
     record {
-      framed = record { size = row.size; frame = row.frame };
-      rows = λ calm q there. row.rows q there;
-      tallied = λ calm q there. row.checked.tallied q there.row;
+      framed = record { size = c.record_row-r.ensures.size; frame = c.record_row-r.ensures.frame };
+      rows = λ calm q there. c.record_row-r.ensures.rows q there;
+      tallied = λ calm q there. c.record_row-r.ensures.checked.tallied q there.row;
       within = λ calm.
-          omega (arith, row.checked.grown, covered.ensures.within (not-false covered.result c.if-not-covers.false));
+          omega (arith, c.record_row-r.ensures.checked.grown, covered.ensures.within (not-false covered.result c.if-not-covers.false-raw));
       beyond = λ spent. true-false spent refl;
     }

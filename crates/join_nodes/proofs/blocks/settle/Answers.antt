@@ -13,11 +13,10 @@ merged_end-mid-requires c =
 pub pair_ended-at-requires : goal.pair_ended-at-requires
 pair_ended-at-requires c =
     let end = c.merged_end-mid in
-    let some = c.requires.some_path in
     record {
-      some_query = some-query some (λ q path going. merged_list going c.requires.lo_lt_hi end.ensures);
+      some_query = some-query c.requires.some_path (λ q path going. merged_list going c.requires.lo_lt_hi end.ensures);
       lo_le_hi = end.ensures.low;
-      is_by_path_bound = going_room some.holds (end.result - c.args.lo) (omega (arith, end.ensures.high));
+      is_by_path_bound = going_room c.requires.some_path.holds (end.result - c.args.lo) (omega (arith, end.ensures.high));
     }
 
 pub returns : goal.returns

@@ -6,8 +6,7 @@ use Rattle.join_nodes.proofs.decide.rank_on.Goals as goal
 
 pub key_at-requires : goal.key_at-requires
 key_at-requires c =
-    let some = c.requires in
-    record { query = some.query; holds = on_word some.holds c.word_at-k.ensures }
+    record { query = c.requires.query; holds = on_word c.requires.holds c.word_at-k.ensures }
 
 pub overflow_sub-result : goal.overflow_sub-result
 overflow_sub-result c =

@@ -7,7 +7,7 @@ use lib.ListN.{length}
 use Rattle.join_spec.specs.declared.Rule.{Rule}
 use Rattle.join_spec.specs.Node.{goes_on, last_of}
 use Rattle.join_nodes.proofs.Asked.{some_path, some-query}
-use Rattle.join_nodes.proofs.NodeFacts.{node_path, first_read, last_read, inverted-there, counted_few}
+use Rattle.join_nodes.proofs.NodeFacts.{node_path, first_read, last_read, inverted_there, counted_few}
 use Rattle.join_nodes.proofs.NodeFacts.{counted_goes, weighed_asks}
 use Rattle.join_nodes.proofs.CandidateLaws.{inverted_read}
 use Rattle.join_nodes.proofs.decide.weigh_node.Goals as goal
@@ -35,16 +35,16 @@ rank-low c =
     )
 
 pub overflow_add-offsets : goal.overflow_add-offsets
-overflow_add-offsets c = omega (arith, rank-low (goal.at.overflow_add-offsets c).After-rank_on-rank, c.well-formed)
+overflow_add-offsets c = omega (arith, rank-low (goal.at.overflow_add-offsets c).After-rank_on-rank, c.well_formed)
 
 pub word_at-first-requires : goal.word_at-first-requires
 word_at-first-requires c = omega (arith, rank-low (goal.at.word_at-first-requires c).After-rank_on-rank)
 
 pub overflow_add-offsets-2 : goal.overflow_add-offsets-2
-overflow_add-offsets-2 c = omega (arith, rank-low (goal.at.overflow_add-offsets-2 c).After-rank_on-rank, c.well-formed)
+overflow_add-offsets-2 c = omega (arith, rank-low (goal.at.overflow_add-offsets-2 c).After-rank_on-rank, c.well_formed)
 
 pub overflow_add-offsets-3 : goal.overflow_add-offsets-3
-overflow_add-offsets-3 c = omega (arith, rank-low (goal.at.overflow_add-offsets-3 c).After-rank_on-rank, c.well-formed)
+overflow_add-offsets-3 c = omega (arith, rank-low (goal.at.overflow_add-offsets-3 c).After-rank_on-rank, c.well_formed)
 
 pub word_at-last-requires : goal.word_at-last-requires
 word_at-last-requires c = omega (arith, rank-low (goal.at.word_at-last-requires c).After-rank_on-rank)
@@ -61,15 +61,15 @@ list-low c =
     (omega (arith, held.rise), omega (arith, held.within, cands.index.room))
 
 pub overflow_add-index : goal.overflow_add-index
-overflow_add-index c = omega (arith, (list-low (goal.at.overflow_add-index c).After-word_at-last).0, (list-low (goal.at.overflow_add-index c).After-word_at-last).1, c.well-formed)
+overflow_add-index c = omega (arith, (list-low (goal.at.overflow_add-index c).After-word_at-last).0, (list-low (goal.at.overflow_add-index c).After-word_at-last).1, c.well_formed)
 
 pub overflow_add-index-2 : goal.overflow_add-index-2
-overflow_add-index-2 c = omega (arith, (list-low (goal.at.overflow_add-index-2 c).After-word_at-last).1, c.well-formed)
+overflow_add-index-2 c = omega (arith, (list-low (goal.at.overflow_add-index-2 c).After-word_at-last).1, c.well_formed)
 
 pub count_seen-t-requires : goal.count_seen-t-requires
 count_seen-t-requires c =
     some-query c.requires (λ q path node.
-    inverted-there (last_of path) c.word_at-first.result c.word_at-last.result node.candidates.index
+    inverted_there (last_of path) c.word_at-first.result c.word_at-last.result node.candidates.index
     node.candidates.last
     (inverted_read node.candidates (last_read node c.rank_on-rank.ensures) c.word_at-first.ensures
     c.word_at-last.ensures))

@@ -7,7 +7,7 @@ use mathlib.Core.Bool.{false}
 use native.Mathlib.Omega.{arith}
 use Rattle.join_spec.specs.Query.{Query}
 use Rattle.join_nodes.specs.Visiting.{RangeVisited}
-use Rattle.join_nodes.proofs.Asked.{some-path, some-query}
+use Rattle.join_nodes.proofs.Asked.{some_path, some-query}
 use Rattle.join_nodes.proofs.NodeFacts.{node_path, last_read}
 use Rattle.join_nodes.specs.blocks.Blocks.{Going}
 use Rattle.join_nodes.proofs.blocks.GoingLaws.{going_range}
@@ -25,17 +25,16 @@ overflow_sub-d c = omega (arith, c.requires.some_path.holds.node.at.candidates.d
 
 pub rank_on-rank-requires : goal.rank_on-rank-requires
 rank_on-rank-requires c =
-    some-path c.requires.some_path
+    some_path c.requires.some_path
     (λ q path going.
     node_path going.node.at (c.args.d - 1) (omega (arith, going.node.at.candidates.deep)))
 
 pub narrow-part-requires : goal.narrow-part-requires
 narrow-part-requires c =
-    let asked = (c.requires.some_path, c.requires.clear_2) in
     record {
-      some_path = some-path asked.0
+      some_path = some_path c.requires.some_path
           (λ q path going. (going.node.at.candidates, last_read going.node.at c.rank_on-rank.ensures));
-      clear_2 = asked.1;
+      clear_2 = c.requires.clear_2;
     }
 
 abbrev Begun : Start → Query → List ℕ → Type 0
@@ -45,7 +44,7 @@ Begun s q path =
 
 onward : (c : After-narrow-part) (q : Query) (path : List ℕ) → Begun c q path
     → let a = c.args in
-    Onward a.lay a.st q path a.work.now c.narrow-part.new.0 a.d a.lo a.hi a.from a.to a.p
+    Onward a.lay a.st q path a.work.now c.narrow-part.new.work a.d a.lo a.hi a.from a.to a.p
     c.narrow-part.result a.p.top
 onward c q path going = onward_read going.node going.on c.rank_on-rank.ensures c.narrow-part.ensures.narrowed
 
@@ -67,7 +66,7 @@ returns-then-last-first c =
 -- the limit is reached
 pub finish-done-requires : goal.finish-done-requires
 finish-done-requires c =
-    some-path c.requires.some_path (λ q path going. node_limit (onward (goal.at.finish-done-requires c).After-narrow-part q path going) (omega (arith, c.if-limit-d.true)))
+    some_path c.requires.some_path (λ q path going. node_limit (onward (goal.at.finish-done-requires c).After-narrow-part q path going) (omega (arith, c.if-limit-d.true)))
 
 pub returns-then-limit-d : goal.returns-then-limit-d
 returns-then-limit-d c =
@@ -81,10 +80,9 @@ returns-then-limit-d c =
 -- a lone left set
 pub is_lone-requires : goal.is_lone-requires
 is_lone-requires c =
-    let some = c.requires.some_path in
-    let so = onward (goal.at.is_lone-requires c).After-narrow-part some.query some.path some.holds in
+    let so = onward (goal.at.is_lone-requires c).After-narrow-part c.requires.some_path.query c.requires.some_path.path c.requires.some_path.holds in
     record {
-      some_query = some-query some
+      some_query = some-query c.requires.some_path
           (λ q path going. going_range (onward_going (onward (goal.at.is_lone-requires c).After-narrow-part q path going)) going.node.at.some);
       from_le_to = so.rise;
       top_le_end = so.rows.high;
@@ -94,10 +92,10 @@ pub pair_lone-paired-requires : goal.pair_lone-paired-requires
 pair_lone-paired-requires c =
     let a = c.args in
     let p = c.narrow-part.result in
-    let w = c.narrow-part.new.0 in
+    let w = c.narrow-part.new.work in
     let lone = c.is_lone.ensures c.if-is_lone.true in
     record {
-      some_path = some-path c.requires.some_path
+      some_path = some_path c.requires.some_path
           (λ q path going.
           subst (λ (n : ℕ). Going a.lay a.st q path w a.d a.lo n p.from p.to a.p) lone.one
           (onward_going (onward (goal.at.pair_lone-paired-requires c).After-narrow-part q path going)));
@@ -108,7 +106,7 @@ pub returns-then-is_lone : goal.returns-then-is_lone
 returns-then-is_lone c =
     let a = c.args in
     let p = c.narrow-part.result in
-    let w = c.narrow-part.new.0 in
+    let w = c.narrow-part.new.work in
     let lone = c.is_lone.ensures c.if-is_lone.true in
     record {
       entered = λ q path going.
@@ -116,7 +114,7 @@ returns-then-is_lone c =
           entered_over refl
           (limit_visited so
           (subst
-          (λ (n : ℕ). RangeVisited a.lay q a.st.budget a.lay.row_starts a.d w c.pair_lone-paired.new.0 a.lo n
+          (λ (n : ℕ). RangeVisited a.lay q a.st.budget a.lay.row_starts a.d w c.pair_lone-paired.new.work a.lo n
           a.p.tally (record { at = c.pair_lone-paired.result; spent = false }))
           (sym lone.one)
           (c.pair_lone-paired.ensures q path
@@ -128,10 +126,9 @@ returns-then-is_lone c =
 -- its left sets that end here are paired, and the others go on
 pub settle-settled-requires : goal.settle-settled-requires
 settle-settled-requires c =
-    let asked = c.requires.some_path in
     record {
-      some_path = some-path asked (λ q path going. onward_going (onward (goal.at.settle-settled-requires c).After-narrow-part q path going));
-      lo_lt_hi = asked.holds.node.at.some;
+      some_path = some_path c.requires.some_path (λ q path going. onward_going (onward (goal.at.settle-settled-requires c).After-narrow-part q path going));
+      lo_lt_hi = c.requires.some_path.holds.node.at.some;
     }
 
 pub returns : goal.returns

@@ -18,10 +18,9 @@ returns-then-lay-top c = λ yes. true-false yes refl
 
 pub key_at-requires : goal.key_at-requires
 key_at-requires c =
-    let some = c.requires.some_query in
     record {
-      query = some.query;
-      holds = range_left some.holds c.args.lo some.holds.some c.word_at-k.ensures;
+      query = c.requires.some_query.query;
+      holds = range_left c.requires.some_query.holds c.args.lo c.requires.some_query.holds.some c.word_at-k.ensures;
     }
 
 pub returns-in-Merge : goal.returns-in-Merge
@@ -29,7 +28,7 @@ returns-in-Merge c =
     λ yes.
     record {
       one = omega (arith, c.if-hi-lo-ne1.false, c.requires.some_query.holds.some);
-      c = c.enum_told-1.given.1;
+      c = c.in-Merge.is;
       short = λ q there.
           subst (λ (k : ℕ). length (left_at q k) ≤ c.args.st.limit) c.word_at-k.ensures.is
           (key_within q c.args.st.limit c.word_at-k.result

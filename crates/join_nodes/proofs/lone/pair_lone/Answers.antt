@@ -20,10 +20,9 @@ record_row-row-requires c =
 pub overflow_sub-row : goal.overflow_sub-row
 overflow_sub-row c =
     let read = c.word_at-k in
-    let some = c.requires.some_path in
     omega (
       arith,
-      c.record_row-row.ensures.past some.query (lone_record some.holds c.requires.lone read.ensures),
+      c.record_row-row.ensures.past c.requires.some_path.query (lone_record c.requires.some_path.holds c.requires.lone read.ensures),
     )
 
 pub add_paths-paired-requires : goal.add_paths-paired-requires

@@ -21,10 +21,10 @@ list-low c =
 pub overflow_add-result : goal.overflow_add-result
 overflow_add-result c =
     let low = list-low (goal.at.overflow_add-result c).After-word_at-last in
-    omega (arith, low.0, low.1, c.well-formed.0)
+    omega (arith, low.0, low.1, c.well_formed.0)
 
 pub overflow_add-result-then-d-eq1 : goal.overflow_add-result-then-d-eq1
-overflow_add-result-then-d-eq1 c = omega (arith, (list-low (goal.at.overflow_add-result-then-d-eq1 c).After-word_at-last).1, c.well-formed.0)
+overflow_add-result-then-d-eq1 c = omega (arith, (list-low (goal.at.overflow_add-result-then-d-eq1 c).After-word_at-last).1, c.well_formed.0)
 
 pub returns-then-d-eq1 : goal.returns-then-d-eq1
 returns-then-d-eq1 c =
@@ -38,10 +38,10 @@ returns-then-d-eq1 c =
 pub overflow_add-index : goal.overflow_add-index
 overflow_add-index c =
     let low = list-low (goal.at.overflow_add-index c).After-word_at-last in
-    omega (arith, low.0, low.1, c.well-formed.0)
+    omega (arith, low.0, low.1, c.well_formed.0)
 
 pub overflow_add-index-2 : goal.overflow_add-index-2
-overflow_add-index-2 c = omega (arith, (list-low (goal.at.overflow_add-index-2 c).After-word_at-last).1, c.well-formed.0)
+overflow_add-index-2 c = omega (arith, (list-low (goal.at.overflow_add-index-2 c).After-word_at-last).1, c.well_formed.0)
 
 pub intersect-end-requires : goal.intersect-end-requires
 intersect-end-requires c =

@@ -8,8 +8,7 @@ use Rattle.join_pairs.proofs.left_search.search_left.Goals as goal
 
 pub probe_left-p-requires : goal.probe_left-p-requires
 probe_left-p-requires c =
-    let asked = c.requires.some_query in
-    record { query = asked.query; holds = asked.holds.left }
+    record { query = c.requires.some_query.query; holds = c.requires.some_query.holds.left }
 
 pub shape_of-work-then-p : goal.shape_of-work-then-p
 shape_of-work-then-p c = refl
@@ -27,43 +26,38 @@ returns-then-p c =
 
 pub pivot-r-requires : goal.pivot-r-requires
 pivot-r-requires c =
-    let asked = c.requires.some_query in
     record {
-      query = asked.query;
-      holds = ranks_there c.probe_left-p.ensures asked.holds.left (omega (arith, c.if-p.false));
+      query = c.requires.some_query.query;
+      holds = ranks_there c.probe_left-p.ensures c.requires.some_query.holds.left (omega (arith, c.if-p.false));
     }
 
 pub find_candidates-c-requires : goal.find_candidates-c-requires
 find_candidates-c-requires c =
-    let asked = c.requires.some_query in
     record {
       some_query = record {
-        query = asked.query;
-        holds = find_there c.probe_left-p.ensures asked.holds.left c.pivot-r.ensures;
+        query = c.requires.some_query.query;
+        holds = find_there c.probe_left-p.ensures c.requires.some_query.holds.left c.pivot-r.ensures;
       };
       clear_2 = c.requires.clear_2;
     }
 
 pub write_row-requires : goal.write_row-requires
 write_row-requires c =
-    let asked = c.requires.some_query in
     record {
-      query = asked.query;
+      query = c.requires.some_query.query;
       holds =
           shortlist_room c.probe_left-p.ensures c.pivot-r.ensures c.find_candidates-c.ensures.listed
-          asked.holds;
+          c.requires.some_query.holds;
     }
 
 pub returns : goal.returns
 returns c =
-    let found = c.probe_left-p.ensures in
-    let list = (c.find_candidates-c.ensures.listed, c.find_candidates-c.ensures.clear) in
     record {
       wrote = record {
-        changed = list.0.changed;
+        changed = c.find_candidates-c.ensures.listed.changed;
         c = λ q there.
-            shortlist_put found c.pivot-r.ensures list.0 there
-            (c.write_row.ensures q (shortlist_room found c.pivot-r.ensures list.0 there));
+            shortlist_put c.probe_left-p.ensures c.pivot-r.ensures c.find_candidates-c.ensures.listed there
+            (c.write_row.ensures q (shortlist_room c.probe_left-p.ensures c.pivot-r.ensures c.find_candidates-c.ensures.listed there));
       };
-      clear = list.1;
+      clear = c.find_candidates-c.ensures.clear;
     }

@@ -19,17 +19,17 @@ confirms end = is_confirmed (outcome_of end)
 pub returns-in-Dropped : goal.returns-in-Dropped
 returns-in-Dropped c =
     λ q k there.
-    sym (ap confirms c.enum_told-1.given.1) ∙ ap is_confirmed (c.check_probe-end.ensures q there.right)
+    sym (ap confirms c.in-Dropped.is) ∙ ap is_confirmed (c.check_probe-end.ensures q there.right)
     ∙ contains_confirmed there
 
 pub returns-in-FalseDrop : goal.returns-in-FalseDrop
 returns-in-FalseDrop c =
     λ q k there.
-    sym (ap confirms c.enum_told-in-FalseDrop-1.given.1) ∙ ap is_confirmed (c.check_probe-end.ensures q there.right)
+    sym (ap confirms c.in-FalseDrop.is) ∙ ap is_confirmed (c.check_probe-end.ensures q there.right)
     ∙ contains_confirmed there
 
 pub returns-in-Confirmed : goal.returns-in-Confirmed
 returns-in-Confirmed c =
     λ q k there.
-    sym (ap confirms c.enum_told-in-Confirmed-1.given.1) ∙ ap is_confirmed (c.check_probe-end.ensures q there.right)
+    sym (ap confirms c.in-Confirmed.is) ∙ ap is_confirmed (c.check_probe-end.ensures q there.right)
     ∙ contains_confirmed there

@@ -6,7 +6,7 @@ use native.Mathlib.Omega.{arith}
 use Rattle.lists.specs.Lists.{slice}
 use Rattle.lists.specs.Writing.{Put}
 use Rattle.lists.proofs.Slices.{slice_past, slice_next}
-use Rattle.lists.proofs.Writing.{Writing, writing_start, writing_step, writing_end, writing-room}
+use Rattle.lists.proofs.Writing.{Writing, writing_start, writing_step, writing_end, writing_room}
 use Rattle.join_spec.specs.Query.{Query}
 use Rattle.join_spec.specs.PairList.{onto_pair}
 use Rattle.join_index.specs.declared.Layout.{Layout}
@@ -62,7 +62,7 @@ module _ {lay : Layout} {w : List ℕ} {p : Probe} {k from to at : ℕ} {was : L
           left = omega (arith, there.left.below, there.left.index.ground.left_few);
           right = omega (arith, right.below, right.index.ground.right_few);
           room =
-              writing-room (writing.written q there) (onto_pair b k s []) (row_among q k (slice (i + 1) to w)) (row-split q there);
+              writing_room (writing.written q there) (onto_pair b k s []) (row_among q k (slice (i + 1) to w)) (row-split q there);
         }
 
 pub loop-i-init : goal.loop-i-init

@@ -62,8 +62,7 @@ word_at-r-requires c =
 
 pub overflow_sub-b : goal.overflow_sub-b
 overflow_sub-b c =
-    let asked = c.requires.some_query in
-    (c.loop-i.invariant.0.sifting asked.query asked.holds).order
+    (c.loop-i.invariant.0.sifting c.requires.some_query.query c.requires.some_query.holds).order
 
 pub overflow_sub-to : goal.overflow_sub-to
 overflow_sub-to c =
@@ -71,10 +70,9 @@ overflow_sub-to c =
 
 pub stops-requires : goal.stops-requires
 stops-requires c =
-    let asked = c.requires.some_query in
     record {
-      query = asked.query;
-      holds = (searching-span c.loop-i.invariant.0 c.loop-i-test.true c.word_at-r.ensures asked.holds).rank;
+      query = c.requires.some_query.query;
+      holds = (searching-span c.loop-i.invariant.0 c.loop-i-test.true c.word_at-r.ensures c.requires.some_query.holds).rank;
     }
 
 pub shape_of-work-then-stops : goal.shape_of-work-then-stops
@@ -94,11 +92,10 @@ returns-then-stops c =
 
 pub meet-s-requires : goal.meet-s-requires
 meet-s-requires c =
-    let asked = c.requires.some_query in
     record {
       some_query = record {
-        query = asked.query;
-        holds = searching-span c.loop-i.invariant.0 c.loop-i-test.true c.word_at-r.ensures asked.holds;
+        query = c.requires.some_query.query;
+        holds = searching-span c.loop-i.invariant.0 c.loop-i-test.true c.word_at-r.ensures c.requires.some_query.holds;
       };
       clear_2 = c.loop-i.invariant.1;
     }

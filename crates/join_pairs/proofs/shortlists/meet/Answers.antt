@@ -14,13 +14,12 @@ returns-then-r-pivot c =
 pub intersect-end-requires : goal.intersect-end-requires
 intersect-end-requires c =
     let there = c.requires.some_query.holds in
-    let list = c.list_of-list.ensures in
     record {
       rising = record { within = there.places.within; rise = there.rise };
-      rising_2 = list_rising list there.rank;
-      apart = met_apart there list c.word_at.ensures;
+      rising_2 = list_rising c.list_of-list.ensures there.rank;
+      apart = met_apart there c.list_of-list.ensures c.word_at.ensures;
       below = places_below there.places there.order;
-      below_2 = list_below list there.rank;
+      below_2 = list_below c.list_of-list.ensures there.rank;
       clear_2 = c.requires.clear_2;
     }
 

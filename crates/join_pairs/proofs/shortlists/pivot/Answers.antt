@@ -14,8 +14,7 @@ record Choosing (w : List ℕ) (from to rank i : ℕ) : Type 0 where
 
 pub count_holders-least-requires : goal.count_holders-least-requires
 count_holders-least-requires c =
-    let asked = c.requires in
-    record { query = asked.query; holds = slice_rank asked.holds c.word_at-rank.ensures (omega arith) asked.holds.some }
+    record { query = c.requires.query; holds = slice_rank c.requires.holds c.word_at-rank.ensures (omega arith) c.requires.holds.some }
 
 pub loop-i-init : goal.loop-i-init
 loop-i-init c =
@@ -29,11 +28,10 @@ loop-i-init c =
 
 pub count_holders-n-requires : goal.count_holders-n-requires
 count_holders-n-requires c =
-    let asked = c.requires in
     record {
-      query = asked.query;
+      query = c.requires.query;
       holds =
-          slice_rank asked.holds c.word_at-next.ensures c.loop-i.invariant.low c.loop-i-test.true;
+          slice_rank c.requires.holds c.word_at-next.ensures c.loop-i.invariant.low c.loop-i-test.true;
     }
 
 pub loop-i-preserved : goal.loop-i-preserved

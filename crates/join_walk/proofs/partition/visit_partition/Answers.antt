@@ -11,7 +11,7 @@ use Rattle.join_index.specs.Ground.{inverted_list, seen_count, asks_seen}
 use Rattle.join_index.specs.Asking.{RankThere}
 use Rattle.join_index.proofs.Orders.{range_left}
 use Rattle.join_walk.specs.partition.Partition.{Partition}
-use Rattle.join_walk.proofs.partition.PartitionSteps.{partition_range, partition_key, seen_word, partition_node, partition-visited}
+use Rattle.join_walk.proofs.partition.PartitionSteps.{partition_range, partition_key, seen_word, partition_node, partition_visited}
 use Rattle.join_walk.proofs.partition.PartitionSteps.{unasked_node, unheld_list, unheld_visited}
 use Rattle.join_walk.proofs.partition.visit_partition.Goals as goal
 use Rattle.join_walk.proofs.partition.visit_partition.Goals.{After-asks_seen, After-key_at-key, After-word_at-seen, Else-asks_seen, Else-is_held, Start, Then-asks_seen}
@@ -46,48 +46,43 @@ seen-is c q r part = seen_word part (key-is c q r part) c.word_at-seen.ensures
 
 pub overflow_add-offsets : goal.overflow_add-offsets
 overflow_add-offsets c =
-    let some = c.requires.some_rank in
-    let part = some.holds in
-    omega (arith, key-is (goal.at.overflow_add-offsets c).After-key_at-key some.query some.rank part, part.last, part.index.ground.least_offsets_within, part.index.room, c.good.0)
+    let part = c.requires.some_rank.holds in
+    omega (arith, key-is (goal.at.overflow_add-offsets c).After-key_at-key c.requires.some_rank.query c.requires.some_rank.rank part, part.last, part.index.ground.least_offsets_within, part.index.room, c.well_formed.0)
 
 pub word_at-seen-requires : goal.word_at-seen-requires
 word_at-seen-requires c =
-    let some = c.requires.some_rank in
-    let part = some.holds in
-    omega (arith, key-is (goal.at.word_at-seen-requires c).After-key_at-key some.query some.rank part, part.last, part.index.ground.least_offsets_within, part.index.room)
+    let part = c.requires.some_rank.holds in
+    omega (arith, key-is (goal.at.word_at-seen-requires c).After-key_at-key c.requires.some_rank.query c.requires.some_rank.rank part, part.last, part.index.ground.least_offsets_within, part.index.room)
 
 pub overflow_add-first : goal.overflow_add-first
 overflow_add-first c =
-    let some = c.requires.some_rank in
-    let part = some.holds in
+    let part = c.requires.some_rank.holds in
     omega (
       arith,
-      seen-is (goal.at.overflow_add-first c).After-word_at-seen some.query some.rank part,
-      part.index.ground.seen_within (asked (goal.at.overflow_add-first c).Then-asks_seen some.query some.rank part) some.rank part.last,
+      seen-is (goal.at.overflow_add-first c).After-word_at-seen c.requires.some_rank.query c.requires.some_rank.rank part,
+      part.index.ground.seen_within (asked (goal.at.overflow_add-first c).Then-asks_seen c.requires.some_rank.query c.requires.some_rank.rank part) c.requires.some_rank.rank part.last,
       part.index.room,
-      c.good.0,
+      c.well_formed.0,
     )
 
 pub visit_node-requires : goal.visit_node-requires
 visit_node-requires c =
-    let pre = (c.requires.some_rank, c.requires.clear_2) in
-    let some = pre.0 in
     record {
       some_path = record {
-        query = some.query;
-        path = some.rank ∷ [];
+        query = c.requires.some_rank.query;
+        path = c.requires.some_rank.rank ∷ [];
         holds =
-            partition_node some.holds (asked (goal.at.visit_node-requires c).Then-asks_seen some.query some.rank some.holds)
-            (seen-is (goal.at.visit_node-requires c).After-word_at-seen some.query some.rank some.holds);
+            partition_node c.requires.some_rank.holds (asked (goal.at.visit_node-requires c).Then-asks_seen c.requires.some_rank.query c.requires.some_rank.rank c.requires.some_rank.holds)
+            (seen-is (goal.at.visit_node-requires c).After-word_at-seen c.requires.some_rank.query c.requires.some_rank.rank c.requires.some_rank.holds);
       };
-      clear_2 = pre.1;
+      clear_2 = c.requires.clear_2;
     }
 
 pub returns-then-asks_seen : goal.returns-then-asks_seen
 returns-then-asks_seen c =
     record {
       visited = λ q r part.
-          partition-visited c.args.st r
+          partition_visited c.args.st r
           (c.visit_node.ensures.visited q (r ∷ []) (partition_node part (asked (goal.at.returns-then-asks_seen c).Then-asks_seen q r part) (seen-is (goal.at.returns-then-asks_seen c).After-word_at-seen q r part)));
       clear = c.visit_node.ensures.clear;
     }
@@ -104,32 +99,28 @@ rank-there c q r part =
 
 pub overflow_sub-key : goal.overflow_sub-key
 overflow_sub-key c =
-    let some = c.requires.some_rank in
-    omega (arith, key-is (goal.at.overflow_sub-key c).After-key_at-key some.query some.rank some.holds)
+    omega (arith, key-is (goal.at.overflow_sub-key c).After-key_at-key c.requires.some_rank.query c.requires.some_rank.rank c.requires.some_rank.holds)
 
 pub is_held-requires : goal.is_held-requires
 is_held-requires c =
-    let some = c.requires.some_rank in
-    record { query = some.query; holds = rank-there (goal.at.is_held-requires c).Else-asks_seen some.query some.rank some.holds }
+    record { query = c.requires.some_rank.query; holds = rank-there (goal.at.is_held-requires c).Else-asks_seen c.requires.some_rank.query c.requires.some_rank.rank c.requires.some_rank.holds }
 
 pub visit_node-requires-then-is_held : goal.visit_node-requires-then-is_held
 visit_node-requires-then-is_held c =
-    let pre = (c.requires.some_rank, c.requires.clear_2) in
-    let some = pre.0 in
     record {
       some_path = record {
-        query = some.query;
-        path = some.rank ∷ [];
-        holds = unasked_node some.holds (unasked (goal.at.visit_node-requires-then-is_held c).Else-asks_seen some.query some.rank some.holds);
+        query = c.requires.some_rank.query;
+        path = c.requires.some_rank.rank ∷ [];
+        holds = unasked_node c.requires.some_rank.holds (unasked (goal.at.visit_node-requires-then-is_held c).Else-asks_seen c.requires.some_rank.query c.requires.some_rank.rank c.requires.some_rank.holds);
       };
-      clear_2 = pre.1;
+      clear_2 = c.requires.clear_2;
     }
 
 pub returns-then-is_held : goal.returns-then-is_held
 returns-then-is_held c =
     record {
       visited = λ q r part.
-          partition-visited c.args.st r
+          partition_visited c.args.st r
           (c.visit_node-then-is_held.ensures.visited q (r ∷ []) (unasked_node part (unasked (goal.at.returns-then-is_held c).Else-asks_seen q r part)));
       clear = c.visit_node-then-is_held.ensures.clear;
     }
@@ -143,19 +134,18 @@ unheld c q r part =
 
 pub keep_list-top-requires : goal.keep_list-top-requires
 keep_list-top-requires c =
-    let some = c.requires.some_rank in
     record {
-      query = some.query;
+      query = c.requires.some_rank.query;
       holds =
-          unheld_list some.holds (unasked (goal.at.keep_list-top-requires c).Else-asks_seen some.query some.rank some.holds)
-          (unheld (goal.at.keep_list-top-requires c).Else-is_held some.query some.rank some.holds);
+          unheld_list c.requires.some_rank.holds (unasked (goal.at.keep_list-top-requires c).Else-asks_seen c.requires.some_rank.query c.requires.some_rank.rank c.requires.some_rank.holds)
+          (unheld (goal.at.keep_list-top-requires c).Else-is_held c.requires.some_rank.query c.requires.some_rank.rank c.requires.some_rank.holds);
     }
 
 pub returns : goal.returns
 returns c =
     record {
       visited = λ q r part.
-          partition-visited c.args.st r
+          partition_visited c.args.st r
           (unheld_visited part (unasked (goal.at.returns c).Else-asks_seen q r part) (unheld (goal.at.returns c).Else-is_held q r part) c.keep_list-top.ensures);
       clear = c.requires.clear_2;
     }

@@ -9,8 +9,7 @@ use Rattle.kept_rows.proofs.checked.record_row.Goals.{After-check_one-r, After-s
 
 pub probe_left-p-requires : goal.probe_left-p-requires
 probe_left-p-requires c =
-    let some = c.requires.some_query in
-    record { query = some.query; holds = some.holds.row.left }
+    record { query = c.requires.some_query.query; holds = c.requires.some_query.holds.row.left }
 
 pub loop-i-init : goal.loop-i-init
 loop-i-init c = recording_start
@@ -91,7 +90,7 @@ keep_row-requires c =
 
 pub shape_of-work : goal.shape_of-work
 shape_of-work c =
-    omega (arith, c.keep_row.auto.0, c.loop-i.invariant.changed.size)
+    omega (arith, c.keep_row.auto.work, c.loop-i.invariant.changed.size)
 
 pub returns : goal.returns
 returns c =

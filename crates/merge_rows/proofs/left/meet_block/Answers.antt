@@ -24,23 +24,20 @@ overflow_mul-t c =
 
 pub shared-held-requires : goal.shared-held-requires
 shared-held-requires c =
-    let there = c.requires.there in
-    row_room there.ground c.args.q c.args.more.now there.block there.besides
+    row_room c.requires.there.ground c.args.q c.args.more.now c.requires.there.block c.requires.there.besides
 
 pub list_word-end-requires : goal.list_word-end-requires
 list_word-end-requires c =
-    let there = c.requires.there in
     record {
-      places = block_places there;
-      small = held_small there c.shared-held.result c.shared-held.ensures;
+      places = block_places c.requires.there;
+      small = held_small c.requires.there c.shared-held.result c.shared-held.ensures;
     }
 
 pub returns-then-held-word : goal.returns-then-held-word
 returns-then-held-word c =
-    let there = c.requires.there in
     record {
-      yielded = block_whole there c.shared-held.result c.shared-held.ensures c.if-held-word.true c.list_word-end.ensures;
-      signs = signs_none there.ground.signed;
+      yielded = block_whole c.requires.there c.shared-held.result c.shared-held.ensures c.if-held-word.true c.list_word-end.ensures;
+      signs = signs_none c.requires.there.ground.signed;
     }
 
 pub count_drops-dropped-requires : goal.count_drops-dropped-requires

@@ -29,8 +29,7 @@ overflow_mul-t c =
 pub shared-word-requires : goal.shared-word-requires
 shared-word-requires c =
     let inv = c.loop-rest.invariant in
-    let there = c.requires.there in
-    row_room (ground_signs there.ground inv.signs) _ _ (first_block there inv c.loop-rest-test.true) there.along
+    row_room (ground_signs c.requires.there.ground inv.signs) _ _ (first_block c.requires.there inv c.loop-rest-test.true) c.requires.there.along
 
 pub meet_block-met-requires : goal.meet_block-met-requires
 meet_block-met-requires c =
@@ -45,16 +44,15 @@ loop-rest-smaller c =
 
 pub loop-rest-preserved : goal.loop-rest-preserved
 loop-rest-preserved c =
-    let there = c.requires.there in
     let inv = c.loop-rest.invariant in
     let some = c.loop-rest-test.true in
     ⊎_elim
     (λ w.
     blocks_same w.8 w.9 w.10
-    (blocks_step there inv some c.shared-word.result c.shared-word.ensures w.3.ensures.0 w.3.ensures.1))
+    (blocks_step c.requires.there inv some c.shared-word.result c.shared-word.ensures w.3.ensures.0 w.3.ensures.1))
     (λ w.
     blocks_same w.1 w.2 w.3
-    (blocks_none there inv some c.shared-word.result c.shared-word.ensures w.0.left))
+    (blocks_none c.requires.there inv some c.shared-word.result c.shared-word.ensures w.0.left))
     c.if-word-ne0.branch
 
 pub shape_of-work : goal.shape_of-work

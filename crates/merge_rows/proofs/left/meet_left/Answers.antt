@@ -18,31 +18,28 @@ longer c = omega (arith, c.if-n-limit.false)
 
 pub returns-then-n-eq0 : goal.returns-then-n-eq0
 returns-then-n-eq0 c =
-    let there = c.requires.there in
     record {
-      added = empty_added there (omega (arith, c.if-n-eq0.true));
-      signs = signs_none there.over.ground.signed;
+      added = empty_added c.requires.there (omega (arith, c.if-n-eq0.true));
+      signs = signs_none c.requires.there.over.ground.signed;
     }
 
 pub meet_path-requires : goal.meet_path-requires
 meet_path-requires c =
-    let there = c.requires.there in
     let some = has_some (goal.at.meet_path-requires c).Else-n-eq0 in
     let few = c.if-n-limit.true in
     record {
-      there = short_path there some few;
-      laid = there.over.laid;
-      hint = set_hint there some;
-      lefts = set_lefts there;
-      alike = short_alike there some few;
+      there = short_path c.requires.there some few;
+      laid = c.requires.there.over.laid;
+      hint = set_hint c.requires.there some;
+      lefts = set_lefts c.requires.there;
+      alike = short_alike c.requires.there some few;
       positions = c.requires.positions;
     }
 
 pub returns-then-n-limit : goal.returns-then-n-limit
 returns-then-n-limit c =
-    let there = c.requires.there in
     record {
-      added = short_added there (has_some (goal.at.returns-then-n-limit c).Else-n-eq0) c.if-n-limit.true c.meet_path.ensures.yielded;
+      added = short_added c.requires.there (has_some (goal.at.returns-then-n-limit c).Else-n-eq0) c.if-n-limit.true c.meet_path.ensures.yielded;
       signs = c.meet_path.ensures.signs;
     }
 
@@ -57,33 +54,28 @@ slice_bounds-meet_path-end-3 c =
 
 pub meet_path-met-requires : goal.meet_path-met-requires
 meet_path-met-requires c =
-    let there = c.requires.there in
     let many = longer (goal.at.meet_path-met-requires c).Else-n-limit in
-    let first = c.take_path-size.ensures in
     record {
-      there = long_path there many first;
-      laid = there.over.laid;
-      hint = set_hint there (omega arith);
-      lefts = set_lefts there;
-      alike = long_alike there many first;
+      there = long_path c.requires.there many c.take_path-size.ensures;
+      laid = c.requires.there.over.laid;
+      hint = set_hint c.requires.there (omega arith);
+      lefts = set_lefts c.requires.there;
+      alike = long_alike c.requires.there many c.take_path-size.ensures;
       positions = c.requires.positions;
     }
 
 pub confirm-requires : goal.confirm-requires
 confirm-requires c =
-    let there = c.requires.there in
     let many = longer (goal.at.confirm-requires c).Else-n-limit in
-    let first = c.take_path-size.ensures in
     record {
-      order = long_order there many first c.meet_path-met.ensures.yielded;
-      small = long_small there many first c.meet_path-met.ensures.yielded;
+      order = long_order c.requires.there many c.take_path-size.ensures c.meet_path-met.ensures.yielded;
+      small = long_small c.requires.there many c.take_path-size.ensures c.meet_path-met.ensures.yielded;
     }
 
 pub returns : goal.returns
 returns c =
-    let there = c.requires.there in
     let many = longer (goal.at.returns c).Else-n-limit in
     record {
-      added = long_added there many c.take_path-size.ensures c.meet_path-met.ensures.yielded c.confirm.ensures;
+      added = long_added c.requires.there many c.take_path-size.ensures c.meet_path-met.ensures.yielded c.confirm.ensures;
       signs = c.meet_path-met.ensures.signs;
     }

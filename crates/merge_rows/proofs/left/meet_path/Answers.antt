@@ -10,10 +10,9 @@ shared-blocks-requires c =
 
 pub returns-then-blocks-eq0 : goal.returns-then-blocks-eq0
 returns-then-blocks-eq0 c =
-    let there = c.requires.there in
     record {
-      yielded = path_nothing there c.args.pairs.now (path_blocks there c.shared-blocks.result c.shared-blocks.ensures) c.if-blocks-eq0.true;
-      signs = signs_none there.ground.signed;
+      yielded = path_nothing c.requires.there c.args.pairs.now (path_blocks c.requires.there c.shared-blocks.result c.shared-blocks.ensures) c.if-blocks-eq0.true;
+      signs = signs_none c.requires.there.ground.signed;
     }
 
 pub repeat_left-requires : goal.repeat_left-requires

@@ -7,7 +7,7 @@ use Rattle.merge_rows.proofs.left.repeat_left.Goals as goal
 
 pub overflow_cast-to : goal.overflow_cast-to
 overflow_cast-to c =
-    omega (arith, c.shared_slice_known-3-1.given (c.args.counters + 3 * c.args.j + 3))
+    omega (arith, c.type_inv.work (c.args.counters + 3 * c.args.j + 3))
 
 pub overflow_sub-dropped : goal.overflow_sub-dropped
 overflow_sub-dropped c =

@@ -5,7 +5,7 @@ use mathlib.Core.List.{List}
 use native.Mathlib.Omega.{arith}
 use lib.ListN.{length, set, length-set}
 use lib.Seq.{get_or-set_same, get_or-set_other}
-use Rattle.lists.proofs.Slices.{changed_none, changed-store}
+use Rattle.lists.proofs.Slices.{changed_none, changed_store}
 use Rattle.merge_rows.specs.declared.Met.{Met}
 use Rattle.merge_rows.specs.Meeting.{CountersStored}
 use Rattle.merge_rows.proofs.left.store_counters.Goals as goal
@@ -22,9 +22,9 @@ stored w counters k m room =
     let long-two = length-set one (i + 1) m.dropped in
     record {
       changed =
-          changed-store (i + 2) m.falses (omega arith) (omega arith)
-          (changed-store (i + 1) m.dropped (omega arith) (omega arith)
-          (changed-store i m.at (omega arith) (omega arith) (changed_none i (i + 3) w)));
+          changed_store (i + 2) m.falses (omega arith) (omega arith)
+          (changed_store (i + 1) m.dropped (omega arith) (omega arith)
+          (changed_store i m.at (omega arith) (omega arith) (changed_none i (i + 3) w)));
       at =
           get_or-set_other two (i + 2) i m.falses 0 (λ e. omega arith)
           ∙ get_or-set_other one (i + 1) i m.dropped 0 (λ e. omega arith)

@@ -16,20 +16,20 @@ abbrev word_at : After-shared_slice_known-2-1 → ℕ
 word_at c = c.args.r.hints + number c % c.args.lefts
 
 first_small : (c : After-shared_slice_known-2-1) → get_or c.args.set.now 0 0 < 65536
-first_small c = omega (arith, c.shared_slice_known-2-1.given 0)
+first_small c = omega (arith, c.type_inv.set 0)
 
 last-small : (c : After-shared_slice_known-2-1)
     → let set = c.args.set.now in get_or set (length set - 1) 0 < 65536
-last-small c = omega (arith, c.shared_slice_known-2-1.given (length c.args.set.now - 1))
+last-small c = omega (arith, c.type_inv.set (length c.args.set.now - 1))
 
 word_low : (c : After-shared_slice_known-2-1) → number c % c.args.lefts < c.args.lefts
 word_low c = mod-lt (number c) (omega (arith, c.requires.place))
 
 pub overflow_cast-sum : goal.overflow_cast-sum
-overflow_cast-sum c = omega (arith, c.shared_slice_known-1.given 0)
+overflow_cast-sum c = omega (arith, c.type_inv.set 0)
 
 pub overflow_mul-sum : goal.overflow_mul-sum
-overflow_mul-sum c = omega (arith, c.shared_slice_known-1.given 0)
+overflow_mul-sum c = omega (arith, c.type_inv.set 0)
 
 pub overflow_cast-sum-2 : goal.overflow_cast-sum-2
 overflow_cast-sum-2 c = omega (arith, last-small (goal.at.overflow_cast-sum-2 c).After-shared_slice_known-2-1)
@@ -53,7 +53,7 @@ pub bounds-work-i : goal.bounds-work-i
 bounds-work-i c = omega (arith, word_low (goal.at.bounds-work-i c).After-shared_slice_known-2-1)
 
 pub overflow_cast-j : goal.overflow_cast-j
-overflow_cast-j c = omega (arith, c.slice_known-1.given (word_at (goal.at.overflow_cast-j c).After-shared_slice_known-2-1))
+overflow_cast-j c = omega (arith, c.type_inv.work (word_at (goal.at.overflow_cast-j c).After-shared_slice_known-2-1))
 
 pub offset_bounds-work-i-2 : goal.offset_bounds-work-i-2
 offset_bounds-work-i-2 c = omega (arith, word_low (goal.at.offset_bounds-work-i-2 c).After-shared_slice_known-2-1)

@@ -6,7 +6,7 @@ use native.Mathlib.Omega.{arith}
 use lib.ListN.{get_or, take, drop, set, length-set, drop_of_length-le}
 use lib.Seq.{drop-cons, take-set-le}
 use Rattle.lists.specs.Writing.{Put}
-use Rattle.lists.proofs.Ranges.{length_table, getD-table}
+use Rattle.lists.proofs.Ranges.{length_table, get_d_table}
 use Rattle.lists.proofs.Slices.{frame_at}
 use Rattle.lists.proofs.Writing.{Writing, writing_start, writing_step, writing_end}
 use Rattle.merge_rows.specs.ShortLists.{pairs_with, right_places, CopyRoom}
@@ -39,7 +39,7 @@ module _ {was : List ℕ} {from n k at : ℕ} {is : List ℕ} {i : ℕ} (room : 
 
     read : get_or (right_places was from n) i 0 ≡ right
     read =
-        getD-table (λ j. get_or was (from + 2 * j + 1) 0) n i 0 more
+        get_d_table (λ j. get_or was (from + 2 * j + 1) 0) n i 0 more
         ∙ sym (frame_at 0 (from + 2 * i + 1) at was is (omega (arith, room.source.below)) left.low)
 
     next : pairs_with k (drop i (right_places was from n)) ≡ (k ∷ right ∷ []) ++ pairs_with k (drop (i + 1) (right_places was from n))

@@ -29,11 +29,10 @@ marks-all {ranks} {set} {is} n ranked marked wide =
 
 pub nth_member-requires : goal.nth_member-requires
 nth_member-requires c =
-    let marked = c.mark_ranks.ensures in
     record {
       some = c.requires.some;
-      enough = omega (arith, marks-all 64 c.requires.ranked marked (omega (arith, marked.size, c.requires.ranked.few)), c.requires.longer);
-      few = omega (arith, marked.size);
+      enough = omega (arith, marks-all 64 c.requires.ranked c.mark_ranks.ensures (omega (arith, c.mark_ranks.ensures.size, c.requires.ranked.few)), c.requires.longer);
+      few = omega (arith, c.mark_ranks.ensures.size);
     }
 
 pub returns : goal.returns

@@ -7,7 +7,7 @@ use lib.Dec.{ltb, leb}
 use lib.ListN.{length, get_or, take}
 use lib.Seq.{take_all}
 use Rattle.lists.specs.Lists.{one, count}
-use Rattle.lists.proofs.Bools.{by-test, same_test}
+use Rattle.lists.proofs.Bools.{by_test, same_test}
 use Rattle.lists.proofs.Counting.{count-take}
 use Rattle.merge_rows.specs.FirstRanks.{key_of, keys_below, FewerBelow, LeastTwo}
 use Rattle.merge_rows.proofs.RankCounts.{RankAt, rank_at}
@@ -33,7 +33,7 @@ agree a b c d to from =
 -- one more key: up to the lower of two numbers, and up to the second of three
 lower-step : (b f k n : ℕ) → leb b f ≡ ltb n 1 → leb b (min f k) ≡ ltb (n + one (ltb k b)) 1
 lower-step b f k n first =
-    by-test (ltb k b)
+    by_test (ltb k b)
     (λ e.
     let low = ltb-true k b e in
     let counts : one (ltb k b) ≡ 1 = ap one e in
@@ -47,7 +47,7 @@ lower-step b f k n first =
 
 second-step : (b f s k n : ℕ) → leb b f ≡ ltb n 1 → leb b s ≡ ltb n 2 → leb b (min s (max f k)) ≡ ltb (n + one (ltb k b)) 2
 second-step b f s k n first second =
-    by-test (ltb k b)
+    by_test (ltb k b)
     (λ e.
     let low = ltb-true k b e in
     let counts : one (ltb k b) ≡ 1 = ap one e in

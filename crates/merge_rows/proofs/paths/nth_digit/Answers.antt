@@ -11,7 +11,7 @@ use lib.Dec.{ltb}
 use lib.ListN.{length, get_or, drop, length-drop}
 use lib.Seq.{get_or-drop, drop-drop}
 use Rattle.lists.specs.Lists.{count, keep, memb, upto}
-use Rattle.lists.proofs.Bools.{by-test, and_left, and_right}
+use Rattle.lists.proofs.Bools.{by_test, and_left, and_right}
 use Rattle.lists.proofs.Filtering.{memb-keep, count-keep}
 use Rattle.lists.proofs.Membership.{memb_at}
 use Rattle.lists.proofs.Ranges.{memb-upto, count-upto}
@@ -45,7 +45,7 @@ digits-start word n some enough small =
 module _ {word n rest left : ℕ} (d : DigitsLeft word n rest left) where
   rest_some : 0 < rest
   rest_some =
-      by-test (ltb 0 rest) (ltb-true 0 rest)
+      by_test (ltb 0 rest) (ltb-true 0 rest)
       (λ f.
       let zero : rest ≡ 0 = omega (arith, ltb-false 0 rest f) in
       let none = ap (λ (r : ℕ). length (digits_from 64 0 r)) zero ∙ ap length (digits_none 64 0) in

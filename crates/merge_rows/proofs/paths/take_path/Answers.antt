@@ -12,7 +12,7 @@ use Rattle.lists.proofs.Bools.{and_both}
 use Rattle.lists.proofs.Counting.{count_bound}
 use Rattle.lists.proofs.Filtering.{keep_agree, memb-keep, length-keep}
 use Rattle.lists.proofs.Membership.{memb-some}
-use Rattle.lists.proofs.Throughout.{any-elim}
+use Rattle.lists.proofs.Throughout.{any_elim}
 use Rattle.merge_rows.specs.FirstRanks.{on_path, path_of, PathRoom, PathTaken, Border, UpToTaken}
 use Rattle.merge_rows.proofs.paths.take_path.Goals as goal
 
@@ -22,7 +22,7 @@ unfolding path_of
 path-taken {limit} {ranks} {set} {was} {is} {last} {n} room border taken same =
     record {
       some =
-          any-elim (λ (x : ℕ). eqb (get_or ranks x 0) last) set border.some
+          any_elim (λ (x : ℕ). eqb (get_or ranks x 0) last) set border.some
           (λ x there e.
           let up : leb (get_or ranks x 0) last ≡ true =
           le-leb (get_or ranks x 0) last (omega (arith, eqb-true (get_or ranks x 0) last e))
@@ -39,4 +39,4 @@ path-taken {limit} {ranks} {set} {was} {is} {last} {n} room border taken same =
 pub returns : goal.returns
 returns c =
     path-taken c.requires c.border_rank-last.ensures c.take_up_to.ensures
-    c.take_up_to.auto.1.1.1.0
+    c.take_up_to.auto.path

@@ -30,7 +30,7 @@ pub loop-e-init : goal.loop-e-init
 loop-e-init c = (refl, omega arith, added_start)
 
 pub overflow_cast-x : goal.overflow_cast-x
-overflow_cast-x c = omega (arith, c.shared_slice_known-in-loop-e-1.given c.loop-e.e)
+overflow_cast-x c = omega (arith, c.type_inv.set c.loop-e.e)
 
 pub overflow_add-row-in-loop-e : goal.overflow_add-row-in-loop-e
 overflow_add-row-in-loop-e c =

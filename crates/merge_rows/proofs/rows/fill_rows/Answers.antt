@@ -12,7 +12,7 @@ use Rattle.merge_rows.proofs.rows.fill_rows.Goals.{At-loop-s, In-loop-s}
 
 -- after the sums are cleared there is still room
 room-there : (c : At-loop-s)
-    → 2 * row_words c.args.t (length c.args.ends.now) ≤ length c.clear.new.0
+    → 2 * row_words c.args.t (length c.args.ends.now) ≤ length c.clear.new.work
 room-there c = omega (arith, c.requires.room, c.clear.ensures.changed.size)
 
 -- the right set at hand, and room for its block
@@ -21,13 +21,11 @@ set_here : (c : In-loop-s)
     let l = c.loop-s in
     SetAt a.t l.s l.start (get_or a.ends.now l.s 0) (get_or (sets_of a.ends.now a.items.now) l.s []) a.items.now
 set_here c =
-    let pre = c.requires in
-    set_next c.loop-s.invariant.1 pre.few pre.good (room-there c) (omega arith)
+    set_next c.loop-s.invariant.1 c.requires.few c.requires.good (room-there c) (omega arith)
 
 block_here : (c : In-loop-s) → BlockRoom c.args.t c.loop-s.s c.loop-s.work
 block_here c =
-    let pre = c.requires in
-    block_room c.loop-s.invariant.1 pre.few pre.good (room-there c) (omega arith)
+    block_room c.loop-s.invariant.1 c.requires.few c.requires.good (room-there c) (omega arith)
 
 pub loop-s-init : goal.loop-s-init
 loop-s-init c = (
@@ -43,7 +41,7 @@ loop-s-init c = (
 )
 
 pub overflow_cast-end : goal.overflow_cast-end
-overflow_cast-end c = omega (arith, c.shared_slice_known-in-loop-s-1.given c.loop-s.s)
+overflow_cast-end c = omega (arith, c.type_inv.ends c.loop-s.s)
 
 pub open_block-requires : goal.open_block-requires
 open_block-requires c = block_here (goal.at.open_block-requires c).In-loop-s
@@ -71,12 +69,11 @@ add_right-requires c =
     }
 
 pub loop-s-preserved : goal.loop-s-preserved
-loop-s-preserved c =
-    let pre = c.requires in (
-      refl,
-      filling_step c.loop-s.invariant.1 pre.few pre.good (room-there (goal.at.loop-s-preserved c).At-loop-s) (omega arith) c.open_block.ensures
-          c.add_right.ensures,
-    )
+loop-s-preserved c = (
+  refl,
+  filling_step c.loop-s.invariant.1 c.requires.few c.requires.good (room-there (goal.at.loop-s-preserved c).At-loop-s) (omega arith) c.open_block.ensures
+      c.add_right.ensures,
+)
 
 pub shape_of-work : goal.shape_of-work
 shape_of-work c =

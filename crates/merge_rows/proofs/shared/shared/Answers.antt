@@ -47,7 +47,7 @@ returns-then-rest-eq0 c =
     λ j. none a.work.now a.from a.list.now l.e l.rest j c.if-rest-eq0.true ∙ l.invariant.1 j
 
 pub overflow_cast-x : goal.overflow_cast-x
-overflow_cast-x c = omega (arith, c.shared_slice_known-in-loop-e-1.given c.loop-e.e)
+overflow_cast-x c = omega (arith, c.type_inv.list c.loop-e.e)
 
 -- the word of the item at hand is there
 word-there : (c : After-shared_slice_known-in-loop-e-1)

@@ -33,9 +33,8 @@ double_at-known-requires c = room (goal.at.double_at-known-requires c).Start
 pub returns-then-known-ne0 : goal.returns-then-known-ne0
 returns-then-known-ne0 c =
     let signed = c.requires.room.signed in
-    let is = c.double_at-known.ensures in
     record {
-      is = is ∙ signed.each c.args.s (place (goal.at.returns-then-known-ne0 c).Start) (λ none. c.if-known-ne0.true (is ∙ none));
+      is = c.double_at-known.ensures ∙ signed.each c.args.s (place (goal.at.returns-then-known-ne0 c).Start) (λ none. c.if-known-ne0.true (c.double_at-known.ensures ∙ none));
       signs = signs_none signed;
     }
 

@@ -7,7 +7,7 @@ use lib.ListN.{get_or}
 use Rattle.merge_rows.proofs.signed.start_of.Goals as goal
 
 pub overflow_cast-result : goal.overflow_cast-result
-overflow_cast-result c = omega (arith, c.shared_slice_known-1.given (c.args.s - 1))
+overflow_cast-result c = omega (arith, c.type_inv.ends (c.args.s - 1))
 
 pub returns : goal.returns
 returns c =

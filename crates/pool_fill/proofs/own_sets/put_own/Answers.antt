@@ -33,9 +33,8 @@ overflow_cast-ends c =
 pub returns : goal.returns
 returns c =
     let a = c.args in
-    let d = (c.drain-past.ensures.written, c.drain-past.ensures.emptied) in
     record {
-      marks = rw d.1 (unmarked_zeros (length a.marks.now) c.requires.marks_len);
+      marks = rw c.drain-past.ensures.emptied (unmarked_zeros (length a.marks.now) c.requires.marks_len);
       lists = record {
         put_slot = ap (λ (k : ℕ). set a.slots.now a.slot (place_word a.done.entries k)) (owned (goal.at.returns c).After-length_by);
         put_number = record { written = refl; past = refl };
@@ -43,7 +42,7 @@ returns c =
           written = ap (λ (k : ℕ). set a.ends.now a.done.sets (a.done.entries + k)) (taken (goal.at.returns c).After-length_by);
           past = refl;
         };
-        put_items = d.0.written;
+        put_items = c.drain-past.ensures.written.written;
         past = ap (λ (k : ℕ). a.done.entries + k) (taken (goal.at.returns c).After-length_by);
       };
     }

@@ -4,16 +4,16 @@ use Rattle.pool_loader.proofs.answer.decide.Goals as goal
 
 pub has_room-requires : goal.has_room-requires
 has_room-requires c =
-    c.requires _ _ c.answer-1.given.1
+    c.requires _ _ c.in-Loaded.is
 
 pub returns-then-not-has_room : goal.returns-then-not-has_room
 returns-then-not-has_room c =
-    decided_short _ _ _ c.answer-1.given.1 c.has_room.ensures c.if-not-has_room.true
+    decided_short _ _ _ c.in-Loaded.is c.has_room.ensures c.if-not-has_room.true-raw
 
 pub returns-in-Failed : goal.returns-in-Failed
 returns-in-Failed c =
-    decided_long _ _ _ c.answer-1.given.1 c.has_room.ensures c.if-not-has_room.false c.long-1.given.1
+    decided_long _ _ _ c.in-Loaded.is c.has_room.ensures c.if-not-has_room.false-raw c.in-Failed.is
 
 pub returns-in-Passed : goal.returns-in-Passed
 returns-in-Passed c =
-    decided_loaded _ _ _ c.answer-1.given.1 c.has_room.ensures c.if-not-has_room.false c.enum_told-in-Passed-1.given.1
+    decided_loaded _ _ _ c.in-Loaded.is c.has_room.ensures c.if-not-has_room.false-raw c.in-Passed.is

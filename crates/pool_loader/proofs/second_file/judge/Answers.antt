@@ -5,37 +5,35 @@ use Rattle.pool_loader.proofs.second_file.judge.Goals as goal
 
 pub returns-in_default : goal.returns-in_default
 returns-in_default c lent lengths =
-    let told = c.enum_told-1.given in
-    first_refused c.args.first.now c.args.second.now lent told.0.0 c.requires.scanned told.1
+    first_refused c.args.first.now c.args.second.now lent c.in_default.field-0 c.requires.scanned c.in_default.is
 
 pub index_right-requires : goal.index_right-requires
 index_right-requires c =
-    let t = first_taken c.args.first.now _ _ c.requires.scanned c.answer-1.given.1 in
+    let t = first_taken c.args.first.now _ _ c.requires.scanned c.in-Loaded.is in
     record {
       used_value = c.requires.unused;
       counts_len = c.requires.counts_size;
       slots_len = c.requires.slots_size;
-      slottable = slottable c.args.first.now t.clean (λ i. (c.shared_slice_known-1.given i).fits);
+      slottable = slottable c.args.first.now t.clean (λ i. (c.type_inv.first i).fits);
     }
 
 pub scan_second-scanned-requires : goal.scan_second-scanned-requires
 scan_second-scanned-requires c =
-    let t = first_taken c.args.first.now _ _ c.requires.scanned c.answer-1.given.1 in
+    let t = first_taken c.args.first.now _ _ c.requires.scanned c.in-Loaded.is in
     record {
       taken = t.taken;
       repeated = t.repeated;
-      slottable = slottable c.args.first.now t.clean (λ i. (c.shared_slice_known-1.given i).fits);
+      slottable = slottable c.args.first.now t.clean (λ i. (c.type_inv.first i).fits);
       slotted = c.index_right.ensures;
     }
 
 pub decide-requires : goal.decide-requires
 decide-requires c =
-    let t = first_taken c.args.first.now _ _ c.requires.scanned c.answer-1.given.1 in
+    let t = first_taken c.args.first.now _ _ c.requires.scanned c.in-Loaded.is in
     second-limited c.args.first.now c.args.second.now t.clean c.scan_second-scanned.ensures
 
 pub returns : goal.returns
 returns c lent lengths =
-    let t = first_taken c.args.first.now _ _ c.requires.scanned c.answer-1.given.1 in
-    let i = c.index_right.ensures in
-    second-decided c.args.first.now c.args.second.now t.clean c.scan_second-scanned.ensures lent i.noted
-    i.counted lengths c.decide.ensures
+    let t = first_taken c.args.first.now _ _ c.requires.scanned c.in-Loaded.is in
+    second-decided c.args.first.now c.args.second.now t.clean c.scan_second-scanned.ensures lent c.index_right.ensures.noted
+    c.index_right.ensures.counted lengths c.decide.ensures

@@ -27,59 +27,58 @@ judge-judged-requires c =
 
 -- each list is as long as it was: so says the call, of its parameters in their order
 pub shape_of-tags-in_default : goal.shape_of-tags-in_default
-shape_of-tags-in_default c = c.clear_lists.auto.0
+shape_of-tags-in_default c = c.clear_lists.auto.tags
 
 pub shape_of-left_numbers-in_default : goal.shape_of-left_numbers-in_default
-shape_of-left_numbers-in_default c = c.clear_lists.auto.1.0
+shape_of-left_numbers-in_default c = c.clear_lists.auto.left_numbers
 
 pub shape_of-left_ends-in_default : goal.shape_of-left_ends-in_default
-shape_of-left_ends-in_default c = c.clear_lists.auto.1.1.0
+shape_of-left_ends-in_default c = c.clear_lists.auto.left_ends
 
 pub shape_of-left_items-in_default : goal.shape_of-left_items-in_default
-shape_of-left_items-in_default c = c.clear_lists.auto.1.1.1.0
+shape_of-left_items-in_default c = c.clear_lists.auto.left_items
 
 pub shape_of-right_numbers-in_default : goal.shape_of-right_numbers-in_default
-shape_of-right_numbers-in_default c = c.clear_lists.auto.1.1.1.1.0
+shape_of-right_numbers-in_default c = c.clear_lists.auto.right_numbers
 
 pub shape_of-right_ends-in_default : goal.shape_of-right_ends-in_default
-shape_of-right_ends-in_default c = c.clear_lists.auto.1.1.1.1.1.0
+shape_of-right_ends-in_default c = c.clear_lists.auto.right_ends
 
 pub shape_of-right_items-in_default : goal.shape_of-right_items-in_default
-shape_of-right_items-in_default c = c.clear_lists.auto.1.1.1.1.1.1.0
+shape_of-right_items-in_default c = c.clear_lists.auto.right_items
 
 pub returns-in_default : goal.returns-in_default
 returns-in_default c =
-    let told = c.enum_told-1.given in
-    call_refused c.args.first.now c.args.second.now (lent (goal.at.returns-in_default c).Start) told.0.0 (c.judge-judged.ensures (lent (goal.at.returns-in_default c).Start) refl).answered told.1
+    call_refused c.args.first.now c.args.second.now (lent (goal.at.returns-in_default c).Start) c.in_default.field-0 (c.judge-judged.ensures (lent (goal.at.returns-in_default c).Start) refl).answered c.in_default.is
     c.clear_lists.ensures
 
 pub fill_pooled-requires : goal.fill_pooled-requires
 fill_pooled-requires c =
-    (c.judge-judged.ensures (lent (goal.at.fill_pooled-requires c).Start) refl).fillable _ _ c.judged-1.given.1
+    (c.judge-judged.ensures (lent (goal.at.fill_pooled-requires c).Start) refl).fillable _ _ c.in-Loaded.is
 
 pub shape_of-tags : goal.shape_of-tags
-shape_of-tags c = c.fill_pooled.auto.1.1.1.1.1.1.1.1.1.1.0
+shape_of-tags c = c.fill_pooled.auto.tags
 
 pub shape_of-left_numbers : goal.shape_of-left_numbers
-shape_of-left_numbers c = c.fill_pooled.auto.1.1.1.1.1.1.1.1.1.1.1.0
+shape_of-left_numbers c = c.fill_pooled.auto.left_numbers
 
 pub shape_of-left_ends : goal.shape_of-left_ends
-shape_of-left_ends c = c.fill_pooled.auto.1.1.1.1.1.1.1.1.1.1.1.1.0
+shape_of-left_ends c = c.fill_pooled.auto.left_ends
 
 pub shape_of-left_items : goal.shape_of-left_items
-shape_of-left_items c = c.fill_pooled.auto.1.1.1.1.1.1.1.1.1.1.1.1.1.0
+shape_of-left_items c = c.fill_pooled.auto.left_items
 
 pub shape_of-right_numbers : goal.shape_of-right_numbers
-shape_of-right_numbers c = c.fill_pooled.auto.1.1.1.1.1.1.1.1.1.1.1.1.1.1.0
+shape_of-right_numbers c = c.fill_pooled.auto.right_numbers
 
 pub shape_of-right_ends : goal.shape_of-right_ends
-shape_of-right_ends c = c.fill_pooled.auto.1.1.1.1.1.1.1.1.1.1.1.1.1.1.1.0
+shape_of-right_ends c = c.fill_pooled.auto.right_ends
 
 pub shape_of-right_items : goal.shape_of-right_items
-shape_of-right_items c = c.fill_pooled.auto.1.1.1.1.1.1.1.1.1.1.1.1.1.1.1.1.0
+shape_of-right_items c = c.fill_pooled.auto.right_items
 
 pub returns : goal.returns
 returns c =
     call_filled c.args.first.now c.args.second.now (lent (goal.at.returns c).Start) _ _
-    (sym (c.judge-judged.ensures (lent (goal.at.returns c).Start) refl).answered ∙ c.judged-1.given.1)
+    (sym (c.judge-judged.ensures (lent (goal.at.returns c).Start) refl).answered ∙ c.in-Loaded.is)
     c.fill_pooled.ensures

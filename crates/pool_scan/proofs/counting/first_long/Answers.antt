@@ -10,8 +10,8 @@ returns-in-Failed c =
 
 pub returns-then-all-gt-MAX_SET_LENGTH : goal.returns-then-all-gt-MAX_SET_LENGTH
 returns-then-all-gt-MAX_SET_LENGTH c =
-    long_now _ c.args.all (Overlong c.args.place) c.enum_told-1.given.1 c.if-all-gt-MAX_SET_LENGTH.true
+    long_now _ c.args.all (Overlong c.args.place) c.in-Passed.is c.if-all-gt-MAX_SET_LENGTH.true
 
 pub returns-else-all-gt-MAX_SET_LENGTH : goal.returns-else-all-gt-MAX_SET_LENGTH
 returns-else-all-gt-MAX_SET_LENGTH c =
-    long_not _ c.args.all (Overlong c.args.place) c.enum_told-1.given.1 (omega (arith, c.if-all-gt-MAX_SET_LENGTH.false))
+    long_not _ c.args.all (Overlong c.args.place) c.in-Passed.is (omega (arith, c.if-all-gt-MAX_SET_LENGTH.false))

@@ -11,13 +11,12 @@ use Rattle.pool_scan.proofs.right_slots.note_numbers.Goals.{In-Record-2}
 
 -- the record that was read
 read : (a : In-Record-2)
-    → let r = a.answer-1.given.0 in
-    read_at a.args.file.now a.loop-side.at
-    ≡ Record r.0 r.1.0 r.1.1.0 r.1.1.1.0 r.1.1.1.1.0
-read a = sym a.read_record-answer.ensures ∙ a.answer-1.given.1
+    → read_at a.args.file.now a.loop-side.at
+    ≡ Record a.in-Record.side a.in-Record.number a.in-Record.count a.in-Record.tags_at a.in-Record.next
+read a = sym a.read_record-answer.ensures ∙ a.in-Record.is
 
-small : (a : In-Record-2) → a.answer-1.given.0.1.0 < half_words
-small a = read_number _ _ (read a) (λ i. (a.shared_slice_known-1.given i).fits)
+small : (a : In-Record-2) → a.in-Record.number < half_words
+small a = read_number _ _ (read a) (λ i. (a.type_inv.file i).fits)
 
 pub loop-side-init : goal.loop-side-init
 loop-side-init c = noting_start c.args.file.now c.requires.used_value
@@ -47,7 +46,7 @@ loop-side-smaller-then-not-is_side c = read_less _ _ (read (goal.at.loop-side-sm
 pub loop-side-preserved-then-not-is_side : goal.loop-side-preserved-then-not-is_side
 loop-side-preserved-then-not-is_side c =
     let side = c.is_side in
-    noting_other c.loop-side.invariant (read (goal.at.loop-side-preserved-then-not-is_side c).In-Record-2) (sym side.ensures ∙ not-true side.result c.if-not-is_side.true)
+    noting_other c.loop-side.invariant (read (goal.at.loop-side-preserved-then-not-is_side c).In-Record-2) (sym side.ensures ∙ not-true side.result c.if-not-is_side.true-raw)
 
 pub overflow_cast-number : goal.overflow_cast-number
 overflow_cast-number c = record { fits = omega (arith, small (goal.at.overflow_cast-number c).In-Record-2) }
@@ -63,4 +62,4 @@ pub loop-side-preserved : goal.loop-side-preserved
 loop-side-preserved c =
     let side = c.is_side in
     noting_own c.loop-side.invariant (read (goal.at.loop-side-preserved c).In-Record-2)
-    (sym side.ensures ∙ not-false side.result c.if-not-is_side.false) c.insert.ensures
+    (sym side.ensures ∙ not-false side.result c.if-not-is_side.false-raw) c.insert.ensures

@@ -13,19 +13,18 @@ use Rattle.pool_scan.proofs.right_slots.put_places.Goals.{After-number_slot-slot
 
 -- the record that was read
 read : (a : In-Record-2)
-    → let r = a.answer-1.given.0 in
-    read_at a.args.file.now a.loop-side.at
-    ≡ Record r.0 r.1.0 r.1.1.0 r.1.1.1.0 r.1.1.1.1.0
-read a = sym a.read_record-answer.ensures ∙ a.answer-1.given.1
+    → read_at a.args.file.now a.loop-side.at
+    ≡ Record a.in-Record.side a.in-Record.number a.in-Record.count a.in-Record.tags_at a.in-Record.next
+read a = sym a.read_record-answer.ensures ∙ a.in-Record.is
 
 byte : (a : In-Record-2) (i : ℕ)
     → get_or a.args.file.now i 0 < 256
-byte a i = (a.shared_slice_known-1.given i).fits
+byte a i = (a.type_inv.file i).fits
 
-is_right : (c : After-number_slot-slot) → same_side Right c.answer-1.given.0.0 ≡ true
+is_right : (c : After-number_slot-slot) → same_side Right c.in-Record.side ≡ true
 is_right c =
     let side = c.is_side in
-    sym side.ensures ∙ not-false side.result c.if-not-is_side.false
+    sym side.ensures ∙ not-false side.result c.if-not-is_side.false-raw
 
 room : (c : After-number_slot-slot) → c.number_slot-slot.result < length c.loop-side.slots
 room c =
@@ -70,7 +69,7 @@ loop-side-smaller-then-not-is_side c = read_less _ _ (read (goal.at.loop-side-sm
 pub loop-side-preserved-then-not-is_side : goal.loop-side-preserved-then-not-is_side
 loop-side-preserved-then-not-is_side c =
     let side = c.is_side in
-    placing_other c.loop-side.invariant (read (goal.at.loop-side-preserved-then-not-is_side c).In-Record-2) (sym side.ensures ∙ not-true side.result c.if-not-is_side.true)
+    placing_other c.loop-side.invariant (read (goal.at.loop-side-preserved-then-not-is_side c).In-Record-2) (sym side.ensures ∙ not-true side.result c.if-not-is_side.true-raw)
 
 pub number_slot-slot-requires : goal.number_slot-slot-requires
 number_slot-slot-requires c = c.requires.blocks_counted
@@ -92,8 +91,7 @@ loop-side-smaller c = read_less _ _ (read (goal.at.loop-side-smaller c).In-Recor
 
 pub loop-side-preserved : goal.loop-side-preserved
 loop-side-preserved c =
-    let next = c.answer-1.given.0.1.1.1.1.0 in
     subst
-    (λ (k : ℕ). SlotPlacing c.args.file.now c.args.used.now (set c.loop-side.slots k c.loop-side.at) next)
+    (λ (k : ℕ). SlotPlacing c.args.file.now c.args.used.now (set c.loop-side.slots k c.loop-side.at) c.in-Record.next)
     (sym c.number_slot-slot.ensures)
     (placing_own c.loop-side.invariant (read (goal.at.loop-side-preserved c).In-Record-2) c.requires.numbers_noted (byte (goal.at.loop-side-preserved c).In-Record-2) (is_right (goal.at.loop-side-preserved c).After-number_slot-slot) c.requires.slottable.once)

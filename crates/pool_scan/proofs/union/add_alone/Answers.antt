@@ -5,17 +5,15 @@ use Rattle.pool_scan.proofs.union.add_alone.Goals as goal
 
 pub add_tags-added-requires : goal.add_tags-added-requires
 add_tags-added-requires c =
-    let p = (c.requires.index_ready, c.requires.tags_inside) in
     let a = c.args in
     record {
-      some_adding = start_some p.0 refl;
-      room_to_add = start_room p.0 a.second.now a.start a.count p.1.inside p.1.few;
+      some_adding = start_some c.requires.index_ready refl;
+      room_to_add = start_room c.requires.index_ready a.second.now a.start a.count c.requires.tags_inside.inside c.requires.tags_inside.few;
     }
 
 pub returns : goal.returns
 returns c =
-    let p = (c.requires.index_ready, c.requires.tags_inside) in
     record {
-      taken = taken_alone p.0 (c.add_tags-added.ensures [] (start_adding p.0 refl)) p.1.few refl refl refl refl;
+      taken = taken_alone c.requires.index_ready (c.add_tags-added.ensures [] (start_adding c.requires.index_ready refl)) c.requires.tags_inside.few refl refl refl refl;
       told = refl;
     }

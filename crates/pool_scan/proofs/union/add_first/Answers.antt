@@ -6,28 +6,26 @@ use Rattle.pool_scan.proofs.union.add_first.Goals as goal
 
 pub add_tags-requires : goal.add_tags-requires
 add_tags-requires c =
-    let p = (c.requires.index_ready, c.requires.seen_value) in
     let file = c.args.first.now in
     let at = c.args.at in
-    let e = sym c.read_record-answer.ensures ∙ c.answer-1.given.1 in
+    let e = sym c.read_record-answer.ensures ∙ c.in-Record.is in
     record {
-      some_adding = start_some p.0 p.1;
-      room_to_add = start_room p.0 file _ _ (omega (arith, read_past file at e, read_within file at e))
-          (read_count file at e (λ i. (c.shared_slice_known-1.given i).fits));
+      some_adding = start_some c.requires.index_ready c.requires.seen_value;
+      room_to_add = start_room c.requires.index_ready file _ _ (omega (arith, read_past file at e, read_within file at e))
+          (read_count file at e (λ i. (c.type_inv.first i).fits));
     }
 
 pub returns-in-Record : goal.returns-in-Record
 returns-in-Record c =
-    let p = (c.requires.index_ready, c.requires.seen_value) in
-    let e = sym c.read_record-answer.ensures ∙ c.answer-1.given.1 in
-    λ count start there. added_as (c.add_tags.ensures [] (start_adding p.0 p.1)) e there
+    let e = sym c.read_record-answer.ensures ∙ c.in-Record.is in
+    λ count start there. added_as (c.add_tags.ensures [] (start_adding c.requires.index_ready c.requires.seen_value)) e there
 
 pub returns-in-NoMore : goal.returns-in-NoMore
 returns-in-NoMore c =
-    let e = sym c.read_record-answer.ensures ∙ c.enum_told-1.given.1 in
+    let e = sym c.read_record-answer.ensures ∙ c.in-NoMore.is in
     λ count start there. no_record_there e there
 
 pub returns-in-Refused : goal.returns-in-Refused
 returns-in-Refused c =
-    let e = sym c.read_record-answer.ensures ∙ c.enum_told-in-Refused-1.given.1 in
+    let e = sym c.read_record-answer.ensures ∙ c.in-Refused.is in
     λ count start there. refused_there e there

@@ -12,7 +12,7 @@ use Rattle.pool_scan.proofs.union.unite.Goals.{After-number_slot-slot}
 
 -- the number is the first file's, and its slot has a place
 met : (a : After-number_slot-slot) → member a.args.used.now a.args.number ≡ true
-met a = sym a.contains.ensures ∙ not-false _ a.if-not-contains.false
+met a = sym a.contains.ensures ∙ not-false _ a.if-not-contains.false-raw
 
 slot_small : (a : After-number_slot-slot) → a.number_slot-slot.result < max_sets
 slot_small a = let below = a.requires.slot (met a) in omega (arith, below, a.number_slot-slot.ensures)
@@ -35,11 +35,10 @@ there-at a {count} {start} there =
 
 pub returns-then-not-contains : goal.returns-then-not-contains
 returns-then-not-contains c =
-    let out = sym c.contains.ensures ∙ not-true _ c.if-not-contains.true in
-    let r = c.add_alone.ensures in
+    let out = sym c.contains.ensures ∙ not-true _ c.if-not-contains.true-raw in
     record {
-      told = r.told ∙ sym out;
-      alone = λ e. r.taken;
+      told = c.add_alone.ensures.told ∙ sym out;
+      alone = λ e. c.add_alone.ensures.true;
       kept = λ e. refl;
       met = λ e. true-false e out;
       noted = λ e. true-false e out;
@@ -55,14 +54,13 @@ bounds-slots-slot c =
 
 pub overflow_cast-at : goal.overflow_cast-at
 overflow_cast-at c =
-    omega (arith, (c.slice_known-2-1.given c.number_slot-slot.result).fits)
+    omega (arith, (c.type_inv.slots c.number_slot-slot.result).fits)
 
 pub add_both-united-requires : goal.add_both-united-requires
 add_both-united-requires c =
-    let p = c.requires in
     record {
-      index_ready = p.index;
-      tags_inside = p.tags_inside;
+      index_ready = c.requires.index;
+      tags_inside = c.requires.tags_inside;
       known_record_at = known (goal.at.add_both-united-requires c).After-number_slot-slot;
     }
 
@@ -76,12 +74,10 @@ bounds-slots-slot-2 c =
 
 pub returns : goal.returns
 returns c =
-    let r = c.add_both-united.ensures in
-    let is = c.number_slot-slot.ensures in
     record {
-      told = r.told ∙ sym (met (goal.at.returns c).After-number_slot-slot);
+      told = c.add_both-united.ensures.told ∙ sym (met (goal.at.returns c).After-number_slot-slot);
       alone = λ e. true-false (met (goal.at.returns c).After-number_slot-slot) e;
       kept = λ e. true-false (met (goal.at.returns c).After-number_slot-slot) e;
-      met = λ e count start there. r.taken count start (there-at (goal.at.returns c).After-number_slot-slot there);
-      noted = λ e. ap (λ (k : ℕ). set c.args.slots.now k (pooled_mark + c.add_both-united.result.all)) is;
+      met = λ e count start there. c.add_both-united.ensures.true count start (there-at (goal.at.returns c).After-number_slot-slot there);
+      noted = λ e. ap (λ (k : ℕ). set c.args.slots.now k (pooled_mark + c.add_both-united.result.all)) c.number_slot-slot.ensures;
     }

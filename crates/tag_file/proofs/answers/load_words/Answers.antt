@@ -5,10 +5,8 @@ use Rattle.sets.proofs.Words.{refused_words_lem}
 use Rattle.tag_file.proofs.answers.load_words.Goals as goal
 
 pub returns-in-Loaded : goal.returns-in-Loaded
-returns-in-Loaded c = sym (ap load_words c.answer-1.given.1)
+returns-in-Loaded c = sym (ap load_words c.in-Loaded.is)
 
 pub returns-in-Refused : goal.returns-in-Refused
 returns-in-Refused c =
-    let a = c.answer-in-Refused-1.given in
-    let e = c.head_of-row.ensures in
-    refused_words_lem a.0.0 7 e.0 e.1 e.2 ∙ sym (ap load_words a.1)
+    refused_words_lem c.in-Refused.why 7 c.head_of-row.ensures.0 c.head_of-row.ensures.1 c.head_of-row.ensures.2 ∙ sym (ap load_words c.in-Refused.is)

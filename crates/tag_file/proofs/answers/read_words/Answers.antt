@@ -7,11 +7,9 @@ use Rattle.tag_file.proofs.answers.read_words.Goals as goal
 pub returns-in-Record : goal.returns-in-Record
 returns-in-Record c =
     side_words c.side_word.ensures
-    ∙ sym (ap (λ a. words_read a c.args.read.repeats) c.answer-1.given.1)
+    ∙ sym (ap (λ a. words_read a c.args.read.repeats) c.in-Record.is)
 
 pub returns-in-Refused : goal.returns-in-Refused
 returns-in-Refused c =
-    let why = c.answer-in-Refused-1.given.0.0 in
-    let e = c.head_of-head.ensures in
-    refused_words_lem why 7 e.0 e.1 e.2
-    ∙ sym (ap (λ a. words_read a c.args.read.repeats) c.answer-in-Refused-1.given.1)
+    refused_words_lem c.in-Refused.why 7 c.head_of-head.ensures.0 c.head_of-head.ensures.1 c.head_of-head.ensures.2
+    ∙ sym (ap (λ a. words_read a c.args.read.repeats) c.in-Refused.is)

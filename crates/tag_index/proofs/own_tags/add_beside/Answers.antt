@@ -2,7 +2,7 @@ use mathlib.Core.Path.{sym, ◌∙◌}
 use Prim.Native.Nat.{◌-◌}
 use native.Mathlib.Omega.{arith}
 use Rattle.tag_index.specs.tag_adding.Adding.{Adding}
-use Rattle.tag_index.proofs.tag_adding.AddLaws.{adding_start, Going, going_start, going_tags, going-distinct, going_step, going_end}
+use Rattle.tag_index.proofs.tag_adding.AddLaws.{adding_start, Going, going_start, going_tags, going_distinct, going_step, going_end}
 use Rattle.tag_index.proofs.own_tags.add_beside.Goals as goal
 use Rattle.tag_index.proofs.own_tags.add_beside.Goals.{At-loop-k}
 
@@ -29,36 +29,33 @@ overflow_add-place c = omega (arith, c.requires.room_to_add.inside)
 
 pub take_tag-found-requires : goal.take_tag-found-requires
 take_tag-found-requires c =
-    let room = c.requires.room_to_add in
     let more = c.loop-k-test.true in
     record {
       sorted = (going (goal.at.take_tag-found-requires c).At-loop-k).adding.sorted;
-      next_tag = record { inside = omega (arith, room.inside, more); room = omega (arith, room.room, going_tags (had (goal.at.take_tag-found-requires c).At-loop-k) (going (goal.at.take_tag-found-requires c).At-loop-k), more) };
+      next_tag = record { inside = omega (arith, c.requires.room_to_add.inside, more); c.requires.room_to_add = omega (arith, c.requires.room_to_add.room, going_tags (had (goal.at.take_tag-found-requires c).At-loop-k) (going (goal.at.take_tag-found-requires c).At-loop-k), more) };
     }
 
 pub see-distinct-requires : goal.see-distinct-requires
 see-distinct-requires c =
-    let found = c.take_tag-found.ensures in
-    (omega (arith, found.within, found.sorted.listed.room), (going (goal.at.see-distinct-requires c).At-loop-k).adding.wide)
+    (omega (arith, c.take_tag-found.ensures.within, c.take_tag-found.ensures.sorted.listed.room), (going (goal.at.see-distinct-requires c).At-loop-k).adding.wide)
 
 pub overflow_add-distinct : goal.overflow_add-distinct
 overflow_add-distinct c =
-    omega (arith, c.see-distinct.ensures.small, going-distinct (had (goal.at.overflow_add-distinct c).At-loop-k) (going (goal.at.overflow_add-distinct c).At-loop-k), c.requires.room_to_add.count_room, c.loop-k-test.true)
+    omega (arith, c.see-distinct.ensures.small, going_distinct (had (goal.at.overflow_add-distinct c).At-loop-k) (going (goal.at.overflow_add-distinct c).At-loop-k), c.requires.room_to_add.count_room, c.loop-k-test.true)
 
 pub slice_bounds-see-end : goal.slice_bounds-see-end
 slice_bounds-see-end c = sym c.loop-k.invariant.1.adding.wide
 
 pub see-own-requires : goal.see-own-requires
 see-own-requires c =
-    let found = c.take_tag-found.ensures in
-    (omega (arith, found.within, found.sorted.listed.room), c.loop-k.invariant.1.adding.wide)
+    (omega (arith, c.take_tag-found.ensures.within, c.take_tag-found.ensures.sorted.listed.room), c.loop-k.invariant.1.adding.wide)
 
 pub overflow_add-own : goal.overflow_add-own
 overflow_add-own c =
     omega (
       arith,
       c.see-own.ensures.small,
-      going-distinct (adding_start (had (goal.at.overflow_add-own c).At-loop-k).sorted) c.loop-k.invariant.1,
+      going_distinct (adding_start (had (goal.at.overflow_add-own c).At-loop-k).sorted) c.loop-k.invariant.1,
       c.requires.room_to_add.count_room,
       c.loop-k-test.true,
     )
@@ -66,9 +63,9 @@ overflow_add-own c =
 pub loop-k-preserved : goal.loop-k-preserved
 loop-k-preserved c =
     let more = c.loop-k-test.true in
-    let found = c.take_tag-found.ensures in (
-      (λ done a. going_step a (c.loop-k.invariant.0 done a) more found c.see-distinct.ensures),
-      going_step (adding_start (had (goal.at.loop-k-preserved c).At-loop-k).sorted) c.loop-k.invariant.1 more found c.see-own.ensures,
+    (
+      (λ done a. going_step a (c.loop-k.invariant.0 done a) more c.take_tag-found.ensures c.see-distinct.ensures),
+      going_step (adding_start (had (goal.at.loop-k-preserved c).At-loop-k).sorted) c.loop-k.invariant.1 more c.take_tag-found.ensures c.see-own.ensures,
     )
 
 pub shape_of-seen : goal.shape_of-seen

@@ -29,17 +29,15 @@ overflow_add-place c = omega (arith, c.requires.room_to_add.inside)
 
 pub take_tag-found-requires : goal.take_tag-found-requires
 take_tag-found-requires c =
-    let room = c.requires.room_to_add in
     let more = c.loop-k-test.true in
     record {
       sorted = (going (goal.at.take_tag-found-requires c).At-loop-k).adding.sorted;
-      next_tag = record { inside = omega (arith, room.inside, more); room = omega (arith, room.room, going_tags (had (goal.at.take_tag-found-requires c).At-loop-k) (going (goal.at.take_tag-found-requires c).At-loop-k), more) };
+      next_tag = record { inside = omega (arith, c.requires.room_to_add.inside, more); c.requires.room_to_add = omega (arith, c.requires.room_to_add.room, going_tags (had (goal.at.take_tag-found-requires c).At-loop-k) (going (goal.at.take_tag-found-requires c).At-loop-k), more) };
     }
 
 pub see-distinct-requires : goal.see-distinct-requires
 see-distinct-requires c =
-    let found = c.take_tag-found.ensures in
-    (omega (arith, found.within, found.sorted.listed.room), (going (goal.at.see-distinct-requires c).At-loop-k).adding.wide)
+    (omega (arith, c.take_tag-found.ensures.within, c.take_tag-found.ensures.sorted.listed.room), (going (goal.at.see-distinct-requires c).At-loop-k).adding.wide)
 
 pub overflow_add-distinct : goal.overflow_add-distinct
 overflow_add-distinct c =

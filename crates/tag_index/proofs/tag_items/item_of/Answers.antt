@@ -10,13 +10,12 @@ use Rattle.tag_index.proofs.tag_items.item_of.Goals as goal
 pub returns-then-id-n : goal.returns-then-id-n
 returns-then-id-n c =
     let a = c.args in
-    let ranked = c.requires.ranked in
     let hint = c.probe-hint in
     let id = hint.result.id in
     let known = c.if-id-n.true in
     let rank = get_or a.ranks.now id 0 in
     let table = table_of a.heads.now a.tails.now a.n a.ids.now in
     let here : tag_of_id a.heads.now a.tails.now (get_or a.ids.now rank 0) ≡ tag_value a.tag =
-    ap (tag_of_id a.heads.now a.tails.now) (ranked.at id known) ∙ hint.ensures.hit known in
+    ap (tag_of_id a.heads.now a.tails.now) (c.requires.ranked.at id known) ∙ hint.ensures.hit known in
     subst (λ (r : ℕ). Lower table (tag_value a.tag) r) (sym c.widen_id.ensures)
-    (sorted_lower c.requires.sorted rank (tag_value a.tag) (ranked.within id known) here)
+    (sorted_lower c.requires.sorted rank (tag_value a.tag) (c.requires.ranked.within id known) here)

@@ -5,10 +5,7 @@ use Rattle.tag_index.proofs.tag_words.tag_at.Goals as goal
 
 pub returns : goal.returns
 returns c =
-    let a = c.word_at-a.ensures in
-    let b = c.word_at-b.ensures in
-    let d = c.word_at-c.ensures in
     record {
-      is = rw (a.is, b.is, d.is) (sym (tag_words c.args.file.now c.args.at c.requires));
-      small = d.small;
+      is = rw (c.word_at-a.ensures.is, c.word_at-b.ensures.is, c.word_at-c.ensures.is) (sym (tag_words c.args.file.now c.args.at c.requires));
+      small = c.word_at-c.ensures.small;
     }

@@ -6,11 +6,7 @@ use Rattle.tag_index.proofs.tag_words.word_at.Goals as goal
 
 pub returns : goal.returns
 returns c =
-    let a = c.byte_at-a.ensures in
-    let b = c.byte_at-b.ensures in
-    let d = c.byte_at-c.ensures in
-    let e = c.byte_at-d.ensures in
     record {
-      is = rw (a.is, b.is, d.is, e.is) (sym (word_bytes c.args.file.now c.args.at c.requires));
-      small = omega (arith, a.byte, b.byte, d.byte, e.byte);
+      is = rw (c.byte_at-a.ensures.is, c.byte_at-b.ensures.is, c.byte_at-c.ensures.is, c.byte_at-d.ensures.is) (sym (word_bytes c.args.file.now c.args.at c.requires));
+      small = omega (arith, c.byte_at-a.ensures.byte, c.byte_at-b.ensures.byte, c.byte_at-c.ensures.byte, c.byte_at-d.ensures.byte);
     }

@@ -17,10 +17,9 @@ use Rattle.tag_loader.proofs.fill.fill_side.Goals.{In-Record-2}
 
 -- the record that was read
 read : (a : In-Record-2)
-    → let r = a.answer-1.given.0 in
-    read_at a.args.file.now a.loop-kind.at
-    ≡ Record r.0 r.1.0 r.1.1.0 r.1.1.1.0 r.1.1.1.1.0
-read a = sym a.read_record-answer.ensures ∙ a.answer-1.given.1
+    → read_at a.args.file.now a.loop-kind.at
+    ≡ Record a.in-Record.kind a.in-Record.number a.in-Record.count a.in-Record.tags_at a.in-Record.next
+read a = sym a.read_record-answer.ensures ∙ a.in-Record.is
 
 pub loop-kind-init : goal.loop-kind-init
 loop-kind-init c = side_filling_start c.requires
@@ -61,7 +60,7 @@ pub loop-kind-preserved-then-not-is_side : goal.loop-kind-preserved-then-not-is_
 loop-kind-preserved-then-not-is_side c =
     let side = c.is_side in
     filling_other c.loop-kind.invariant (read (goal.at.loop-kind-preserved-then-not-is_side c).In-Record-2)
-    (sym side.ensures ∙ not-true side.result c.if-not-is_side.true)
+    (sym side.ensures ∙ not-true side.result c.if-not-is_side.true-raw)
 
 pub slice_bounds-mark_tags-end : goal.slice_bounds-mark_tags-end
 slice_bounds-mark_tags-end c = sym c.loop-kind.invariant.unmarked.wide
@@ -70,11 +69,10 @@ pub mark_tags-requires : goal.mark_tags-requires
 unfolding tags_at
 mark_tags-requires c =
     let a = c.args in
-    let p = c.requires in
     let side = c.is_side in
     record {
-      tags_known = filling_known c.loop-kind.invariant (read (goal.at.mark_tags-requires c).In-Record-2) p.sorted p.ranked refl p.small
-          (sym side.ensures ∙ not-false side.result c.if-not-is_side.false);
+      tags_known = filling_known c.loop-kind.invariant (read (goal.at.mark_tags-requires c).In-Record-2) c.requires.sorted c.requires.ranked refl c.requires.small
+          (sym side.ensures ∙ not-false side.result c.if-not-is_side.false-raw);
       some_marked = record {
         done = [];
         marked = unmarked_marked (table_of a.heads.now a.tails.now a.n a.ids.now) c.loop-kind.invariant.unmarked;
@@ -88,13 +86,11 @@ slice_bounds-put_record-end c =
 pub put_record-done-requires : goal.put_record-done-requires
 put_record-done-requires c =
     let l = c.loop-kind in
-    let p = c.requires in
     let side = c.is_side in
-    let m = c.mark_tags.ensures in
     record {
-      marks_len = filling_wide l.invariant (read (goal.at.put_record-done-requires c).In-Record-2) m;
-      room_for_one = rw (filling_items l.invariant (read (goal.at.put_record-done-requires c).In-Record-2) m (omega (arith, sorted_size p.sorted, p.small)))
-          (filling_room l.invariant (read (goal.at.put_record-done-requires c).In-Record-2) p.few (sym side.ensures ∙ not-false side.result c.if-not-is_side.false));
+      marks_len = filling_wide l.invariant (read (goal.at.put_record-done-requires c).In-Record-2) c.mark_tags.ensures;
+      room_for_one = rw (filling_items l.invariant (read (goal.at.put_record-done-requires c).In-Record-2) c.mark_tags.ensures (omega (arith, sorted_size c.requires.sorted, c.requires.small)))
+          (filling_room l.invariant (read (goal.at.put_record-done-requires c).In-Record-2) c.requires.few (sym side.ensures ∙ not-false side.result c.if-not-is_side.false-raw));
     }
 
 pub loop-kind-smaller : goal.loop-kind-smaller
@@ -104,9 +100,7 @@ loop-kind-smaller c =
 pub loop-kind-preserved : goal.loop-kind-preserved
 loop-kind-preserved c =
     let l = c.loop-kind in
-    let p = c.requires in
     let side = c.is_side in
     let same = filling_items l.invariant (read (goal.at.loop-kind-preserved c).In-Record-2) c.mark_tags.ensures
-    (omega (arith, sorted_size p.sorted, p.small)) in
-    let o = (c.put_record-done.ensures.marks, c.put_record-done.ensures.lists) in
-    filling_own l.invariant (read (goal.at.loop-kind-preserved c).In-Record-2) (sym side.ensures ∙ not-false side.result c.if-not-is_side.false) (rw same at o.1) o.0
+    (omega (arith, sorted_size c.requires.sorted, c.requires.small)) in
+    filling_own l.invariant (read (goal.at.loop-kind-preserved c).In-Record-2) (sym side.ensures ∙ not-false side.result c.if-not-is_side.false-raw) (rw same at c.put_record-done.ensures.lists) c.put_record-done.ensures.marks

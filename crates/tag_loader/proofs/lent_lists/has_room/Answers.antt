@@ -22,10 +22,10 @@ pub returns-then-not-left : goal.returns-then-not-left
 returns-then-not-left c =
     let a = c.args in
     left-short _ (le-leb (tag_length * a.total.tag_count) a.room.tags c.if-room-total.false)
-    c.side_fits-left.ensures c.if-not-left.true
+    c.side_fits-left.ensures c.if-not-left.true-raw
 
 pub returns : goal.returns
 returns c =
     let a = c.args in
     left-fits (le-leb (tag_length * a.total.tag_count) a.room.tags c.if-room-total.false)
-    c.side_fits-left.ensures c.if-not-left.false c.side_fits.ensures
+    c.side_fits-left.ensures c.if-not-left.false-raw c.side_fits.ensures

@@ -2,7 +2,7 @@ use mathlib.Core.Path.{sym, ap}
 use Prim.Native.Nat.{◌+◌, ◌-◌, ◌<◌}
 use native.Mathlib.Omega.{arith}
 use lib.ListN.{get_or, drop}
-use Rattle.lists.proofs.Writing.{writing_start, writing_room, writing_step, writing_end, written-whole}
+use Rattle.lists.proofs.Writing.{writing_start, writing_room, writing_step, writing_end, written_whole}
 use Rattle.tag_file.specs.Format.{bytes_of, tag_bytes, tag_length}
 use Rattle.tag_file.proofs.ItemCount.{length-bytes_of}
 use Rattle.tag_index.specs.Index.{index_room, table_of}
@@ -49,22 +49,20 @@ bounds-tails-id c = omega (arith, id-low (goal.at.bounds-tails-id c).In-loop-i)
 pub put_tag-at-requires : goal.put_tag-at-requires
 put_tag-at-requires c =
     let a = c.args in
-    let s = c.requires.sorted in
     let table = table_of a.heads.now a.tails.now a.n a.ids.now in
     let i = c.loop-i.i in
-    let next = table_next table i (omega (arith, sorted_size s, c.loop-i-test.true)) in
+    let next = table_next table i (omega (arith, sorted_size c.requires.sorted, c.loop-i-test.true)) in
     let room = writing_room c.loop-i.invariant.0 (bytes_of tag_length (get_or table i 0)) (tag_bytes (drop (i + 1) table)) next in
     omega (arith, room, length-bytes_of tag_length (get_or table i 0))
 
 pub loop-i-preserved : goal.loop-i-preserved
 loop-i-preserved c =
     let a = c.args in
-    let s = c.requires.sorted in
     let table = table_of a.heads.now a.tails.now a.n a.ids.now in
     let i = c.loop-i.i in
     let inside = c.loop-i-test.true in
-    let next = table_next table i (omega (arith, sorted_size s)) in
-    let here = ap (bytes_of tag_length) (sym (sorted_at s i inside)) in
+    let next = table_next table i (omega (arith, sorted_size c.requires.sorted)) in
+    let here = ap (bytes_of tag_length) (sym (sorted_at c.requires.sorted i inside)) in
     (writing_step c.loop-i.invariant.0 next (rw here at c.put_tag-at.ensures), omega arith)
 
 pub shape_of-tags : goal.shape_of-tags
@@ -76,4 +74,4 @@ returns c =
     let a = c.args in
     let table = table_of a.heads.now a.tails.now a.n a.ids.now in
     let past = table_end table c.loop-i.i (omega (arith, sorted_size c.requires.sorted, c.loop-i-test.false)) in
-    written-whole (writing_end c.loop-i.invariant.0 past) (omega (arith, c.requires.ids_in_bounds))
+    written_whole (writing_end c.loop-i.invariant.0 past) (omega (arith, c.requires.ids_in_bounds))

@@ -12,9 +12,8 @@ use Rattle.tag_loader.proofs.tag_table.put_tag.Goals as goal
 pub put_number-requires : goal.put_number-requires
 put_number-requires c =
     let a = c.args in
-    let p = c.put_number-mid.ensures in
-    let same = ap length p.written ∙ length-sets a.tags.now a.at (bytes_of 8 a.head) in
-    omega (arith, c.requires, p.past, length-bytes_of 8 a.head, same)
+    let same = ap length c.put_number-mid.ensures.written ∙ length-sets a.tags.now a.at (bytes_of 8 a.head) in
+    omega (arith, c.requires, c.put_number-mid.ensures.past, length-bytes_of 8 a.head, same)
 
 pub returns : goal.returns
 returns c =

@@ -3,8 +3,8 @@ use Rattle.tag_scan.proofs.totals.is_over.Goals as goal
 
 pub returns-in-Left : goal.returns-in-Left
 returns-in-Left c =
-    rw c.enum_told-1.given.1 c.is_past.ensures
+    rw c.in-Left.is c.is_past.ensures
 
 pub returns-in-Right : goal.returns-in-Right
 returns-in-Right c =
-    rw c.enum_told-in-Right-1.given.1 c.is_past-in-Right.ensures
+    rw c.in-Right.is c.is_past-in-Right.ensures

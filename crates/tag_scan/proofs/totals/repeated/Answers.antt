@@ -2,7 +2,7 @@
 use Rattle.tag_scan.proofs.totals.repeated.Goals as goal
 
 pub returns-in-Left : goal.returns-in-Left
-returns-in-Left c = rw c.enum_told-1.given.1
+returns-in-Left c = rw c.in-Left.is
 
 pub returns-in-Right : goal.returns-in-Right
-returns-in-Right c = rw c.enum_told-in-Right-1.given.1
+returns-in-Right c = rw c.in-Right.is

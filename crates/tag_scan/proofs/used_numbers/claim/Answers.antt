@@ -10,5 +10,4 @@ claim-requires c =
 
 pub returns : goal.returns
 returns c =
-    let e = c.key_of.ensures in
-    rw e at c.claim.ensures
+    rw c.key_of.ensures at c.claim.ensures

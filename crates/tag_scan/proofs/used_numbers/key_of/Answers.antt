@@ -3,4 +3,4 @@ use Rattle.tag_scan.proofs.used_numbers.key_of.Goals as goal
 
 pub returns-in-Right : goal.returns-in-Right
 returns-in-Right c =
-    rw c.enum_told-in-Right-1.given.1
+    rw c.in-Right.is

@@ -32,12 +32,12 @@ pub put_tags-requires : goal.put_tags-requires
 put_tags-requires c =
     record {
       items_fit = c.requires.items_fit;
-      start_in_bounds = omega (arith, c.requires.start_bound.1, c.put_head.auto.1.1.1.0);
+      start_in_bounds = omega (arith, c.requires.start_bound.1, c.put_head.auto.file);
     }
 
 pub shape_of-file : goal.shape_of-file
 shape_of-file c =
-    c.put_tags.auto.1.1.1.1.0 ∙ c.put_head.auto.1.1.1.0
+    c.put_tags.auto.file ∙ c.put_head.auto.file
 
 pub returns : goal.returns
 returns c =

@@ -104,7 +104,7 @@ pub loop-k-init : goal.loop-k-init
 loop-k-init c = putting-start _ _ _ _ _ _ _ c.requires.good_side
 
 pub overflow_cast-end : goal.overflow_cast-end
-overflow_cast-end c = omega (arith, c.shared_slice_known-in-loop-k-1.given c.loop-k.k)
+overflow_cast-end c = omega (arith, c.type_inv.ends c.loop-k.k)
 
 pub put_record-requires : goal.put_record-requires
 put_record-requires c =
@@ -122,7 +122,7 @@ record_length-to-requires c = (now-turn (goal.at.record_length-to-requires c).In
 
 pub overflow_add-to : goal.overflow_add-to
 overflow_add-to c =
-    omega (arith, c.record_length-to.ensures, (now-turn (goal.at.overflow_add-to c).In-loop-k).room, c.good)
+    omega (arith, c.record_length-to.ensures, (now-turn (goal.at.overflow_add-to c).In-loop-k).room, c.well_formed)
 
 pub loop-k-preserved : goal.loop-k-preserved
 loop-k-preserved c =

@@ -60,10 +60,10 @@ pub loop-i-init : goal.loop-i-init
 loop-i-init c = putting-start _ _ _ _ _ _ c.requires.items_fit.rise
 
 pub overflow_cast-from : goal.overflow_cast-from
-overflow_cast-from c = omega (arith, c.shared_slice_known-in-loop-i-1.given c.loop-i.i)
+overflow_cast-from c = omega (arith, c.type_inv.items c.loop-i.i)
 
 pub overflow_mul-from : goal.overflow_mul-from
-overflow_mul-from c = omega (arith, c.shared_slice_known-in-loop-i-1.given c.loop-i.i)
+overflow_mul-from c = omega (arith, c.type_inv.items c.loop-i.i)
 
 pub put_tag-requires : goal.put_tag-requires
 put_tag-requires c =
@@ -73,7 +73,7 @@ put_tag-requires c =
 
 pub loop-i-preserved : goal.loop-i-preserved
 loop-i-preserved c =
-    putting-step _ _ _ _ _ _ _ _ _ _ c.requires.items_fit c.requires.start_in_bounds (λ k. (c.shared_slice_known-1.given k).fits)
+    putting-step _ _ _ _ _ _ _ _ _ _ c.requires.items_fit c.requires.start_in_bounds (λ k. (c.type_inv.tags k).fits)
     c.loop-i-test.true c.loop-i.invariant c.put_tag.ensures
 
 pub shape_of-file : goal.shape_of-file

@@ -6,8 +6,7 @@ use Rattle.text.proofs.number_lines.put_refused.Goals as goal
 pub returns : goal.returns
 unfolding refused_line
 returns c =
-    let line = (c.put_numbers.ensures.put, c.put_numbers.ensures.upper_bound) in
     record {
-      put = line.0;
-      upper_bound = omega (arith, line.1);
+      put = c.put_numbers.ensures.put;
+      upper_bound = omega (arith, c.put_numbers.ensures.upper_bound);
     }

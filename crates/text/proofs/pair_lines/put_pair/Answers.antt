@@ -2,7 +2,7 @@
 use native.Mathlib.Omega.{arith}
 use Rattle.lists.proofs.Writing.{put_append}
 use Rattle.text.specs.Lines.{ascii, pair_line}
-use Rattle.text.proofs.LineBounds.{short_number, short-labelled}
+use Rattle.text.proofs.LineBounds.{short_number, short_labelled}
 use Rattle.text.proofs.pair_lines.put_pair.Goals as goal
 
 pub put_number-n-requires : goal.put_number-n-requires
@@ -18,7 +18,7 @@ put_labelled-m-requires c =
       left.ensures.past,
       left.auto.0,
       short_number c.args.left c.ranges.left.fits,
-      short-labelled (ascii " ") c.args.right c.ranges.right.fits,
+      short_labelled (ascii " ") c.args.right c.ranges.right.fits,
     )
 
 pub put_word-requires : goal.put_word-requires
@@ -33,7 +33,7 @@ put_word-requires c =
       right.ensures.past,
       right.auto.0,
       short_number c.args.left c.ranges.left.fits,
-      short-labelled (ascii " ") c.args.right c.ranges.right.fits,
+      short_labelled (ascii " ") c.args.right c.ranges.right.fits,
     )
 
 pub returns : goal.returns
@@ -50,6 +50,6 @@ returns c =
         right.ensures.past,
         end.ensures.past,
         short_number c.args.left c.ranges.left.fits,
-        short-labelled (ascii " ") c.args.right c.ranges.right.fits,
+        short_labelled (ascii " ") c.args.right c.ranges.right.fits,
       );
     }

@@ -52,7 +52,7 @@ loop-i-smaller c =
 
 pub loop-i-preserved : goal.loop-i-preserved
 loop-i-preserved c =
-    lines_step c.loop-i.invariant c.loop-i-test.true c.put_pair-n.ensures.put c.put_pair-n.ensures.upper_bound c.put_pair-n.auto.0
+    lines_step c.loop-i.invariant c.loop-i-test.true c.put_pair-n.ensures.put c.put_pair-n.ensures.upper_bound c.put_pair-n.auto.text
 
 pub shape_of-text : goal.shape_of-text
 shape_of-text c =

@@ -35,7 +35,7 @@ returns-then-not-good_ends c =
     not_good (leb a.t max_items) (first_bad a.t a.ends.now a.items.now)
     (λ good.
     true-false (c.good_ends.ensures ∙ good_ends_lem a.t a.ends.now a.items.now good)
-    (not-true c.good_ends.result c.if-not-good_ends.true))
+    (not-true c.good_ends.result c.if-not-good_ends.true-raw))
 
 pub returns-then-n-gt-MAX_ENTRIES : goal.returns-then-n-gt-MAX_ENTRIES
 returns-then-n-gt-MAX_ENTRIES c =
@@ -63,7 +63,7 @@ returns c =
     let a = c.args in
     let n = c.count_entries-n in
     let tested = c.good_ends in
-    let ordered = sym tested.ensures ∙ not-false tested.result c.if-not-good_ends.false in
+    let ordered = sym tested.ensures ∙ not-false tested.result c.if-not-good_ends.false-raw in
     let low = sym c.count_high-high.ensures ∙ c.if-high-ne0.false in
     rw (le-leb a.t max_items (omega arith), c.count_falls-all.ensures, c.count_border_falls-borders.ensures)
     (whole_good a.t n.result a.ends.now a.items.now (sym n.ensures) (omega arith) ordered (omega arith)

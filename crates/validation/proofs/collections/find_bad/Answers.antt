@@ -10,7 +10,7 @@ pub loop-k-init : goal.loop-k-init
 loop-k-init c = refl
 
 pub overflow_cast-end : goal.overflow_cast-end
-overflow_cast-end c = omega (arith, c.shared_slice_known-in-loop-k-1.given c.loop-k.k)
+overflow_cast-end c = omega (arith, c.type_inv.ends c.loop-k.k)
 
 pub returns-then-k-ge-MAX_SETS : goal.returns-then-k-ge-MAX_SETS
 returns-then-k-ge-MAX_SETS c =
@@ -25,7 +25,7 @@ returns-then-not-good_set c =
     let a = c.args in
     let k = c.loop-k.k in
     let start = c.loop-k.start in
-    let test = sym c.good_set.ensures ∙ not-true c.good_set.result c.if-not-good_set.true in
+    let test = sym c.good_set.ensures ∙ not-true c.good_set.result c.if-not-good_set.true-raw in
     let bad = bad_content a.t k start (get_or a.ends.now k 0) a.items.now (omega arith) test in
     sym (first_bad-stop a.t a.ends.now a.items.now k start (omega arith) bad) ∙ c.loop-k.invariant
 
@@ -34,7 +34,7 @@ loop-k-preserved c =
     let a = c.args in
     let k = c.loop-k.k in
     let start = c.loop-k.start in
-    let test = sym c.good_set.ensures ∙ not-false c.good_set.result c.if-not-good_set.false in
+    let test = sym c.good_set.ensures ∙ not-false c.good_set.result c.if-not-good_set.false-raw in
     let fine = not_bad a.t k start (get_or a.ends.now k 0) a.items.now (omega arith) test in
     sym (first_bad_next a.t a.ends.now a.items.now k start (omega arith) fine) ∙ c.loop-k.invariant
 

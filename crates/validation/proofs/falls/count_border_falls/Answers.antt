@@ -8,7 +8,7 @@ use Rattle.validation.proofs.falls.count_border_falls.Goals as goal
 use Rattle.validation.proofs.falls.count_border_falls.Goals.{After-border_fall-falls}
 
 pub overflow_cast-end : goal.overflow_cast-end
-overflow_cast-end c = omega (arith, c.shared_slice_known-in-loop-k-1.given c.loop-k.k)
+overflow_cast-end c = omega (arith, c.type_inv.ends c.loop-k.k)
 
 -- this border's part of what was left
 step : (c : After-border_fall-falls)

@@ -8,7 +8,7 @@ pub loop-k-init : goal.loop-k-init
 loop-k-init c = refl
 
 pub overflow_cast-end : goal.overflow_cast-end
-overflow_cast-end c = omega (arith, c.shared_slice_known-1.given c.loop-k.k)
+overflow_cast-end c = omega (arith, c.type_inv.ends c.loop-k.k)
 
 pub returns-then-end-before : goal.returns-then-end-before
 returns-then-end-before c =

@@ -9,7 +9,7 @@ pub loop-i-init : goal.loop-i-init
 loop-i-init c = refl
 
 pub overflow_cast-x : goal.overflow_cast-x
-overflow_cast-x c = omega (arith, c.shared_slice_known-1.given c.loop-i.i)
+overflow_cast-x c = omega (arith, c.type_inv.items c.loop-i.i)
 
 pub returns-then-x-least : goal.returns-then-x-least
 returns-then-x-least c =

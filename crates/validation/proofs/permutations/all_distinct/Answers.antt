@@ -23,19 +23,18 @@ marked : (c : After-slice_known-1)
 marked c =
     let a = c.args in
     let i = c.loop-i.i in
-    let pre = (c.requires.clear, c.requires.room) in
     omega (
       arith,
       c.loop-i.invariant.same,
       ltb-true (get_or a.ranks.now i 0) (length a.seen.now)
-          (all_at (λ x. ltb x (length a.seen.now)) 0 a.ranks.now pre.1 i (omega arith)),
+          (all_at (λ x. ltb x (length a.seen.now)) 0 a.ranks.now c.requires.room i (omega arith)),
     )
 
 pub loop-i-init : goal.loop-i-init
 loop-i-init c = record { low = omega arith; left = refl; same = refl }
 
 pub overflow_cast-x : goal.overflow_cast-x
-overflow_cast-x c = omega (arith, c.shared_slice_known-1.given c.loop-i.i)
+overflow_cast-x c = omega (arith, c.type_inv.ranks c.loop-i.i)
 
 pub slice-read-preserved : goal.slice-read-preserved
 slice-read-preserved c = marked (goal.at.slice-read-preserved c).After-slice_known-1

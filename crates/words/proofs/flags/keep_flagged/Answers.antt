@@ -27,8 +27,7 @@ bounds-work-n c =
 word_low : (c : After-slice_known-1)
     → get_or c.loop-j.work c.loop-j.j 0 < length c.args.flags.now
 word_low c =
-    let asked = (c.requires.below, (c.requires.behind, c.requires.flagged)) in
-    keeping_small c.loop-j.invariant asked.1.0 c.loop-j-test.true asked.0
+    keeping_small c.loop-j.invariant c.requires.behind c.loop-j-test.true c.requires.below
 
 -- which is 1 at the most
 flag-low : (c : After-slice_known-1)
@@ -57,9 +56,8 @@ loop-j-smaller c = omega (arith, c.loop-j-test.true)
 
 pub loop-j-preserved : goal.loop-j-preserved
 loop-j-preserved c =
-    let asked = (c.requires.below, (c.requires.behind, c.requires.flagged)) in
-    keeping_step c.loop-j.invariant asked.1.0 c.loop-j-test.true
-    (asked.1.1.is (get_or c.loop-j.work c.loop-j.j 0) (word_low (goal.at.loop-j-preserved c).After-slice_known-1))
+    keeping_step c.loop-j.invariant c.requires.behind c.loop-j-test.true
+    (c.requires.flagged.is (get_or c.loop-j.work c.loop-j.j 0) (word_low (goal.at.loop-j-preserved c).After-slice_known-1))
 
 pub shape_of-work : goal.shape_of-work
 shape_of-work c = c.loop-j.invariant.changed.size

@@ -28,8 +28,7 @@ loop-j-init c = keeping_start
 
 pub word_at-x-requires : goal.word_at-x-requires
 word_at-x-requires c =
-    let behind = c.requires.behind in
-    omega (arith, c.loop-j-test.true, behind.low, behind.room, c.loop-j.invariant.changed.size)
+    omega (arith, c.loop-j-test.true, c.requires.behind.low, c.requires.behind.room, c.loop-j.invariant.changed.size)
 
 pub is_among-found-requires : goal.is_among-found-requires
 is_among-found-requires c =

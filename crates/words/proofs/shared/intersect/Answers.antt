@@ -19,62 +19,56 @@ overflow_sub-b c = omega (arith, c.requires.below.order)
 
 pub keep_found-requires : goal.keep_found-requires
 keep_found-requires c =
-    let asked = (c.requires.rising, (c.requires.rising_2, (c.requires.apart, (c.requires.below, (c.requires.below_2, c.requires.clear_2))))) in
-    let apart = asked.1.1.0 in
     record {
-      a_le_b = asked.1.1.1.0.order;
-      rising = asked.0;
-      b_le_out = apart.first;
-      behind = record { low = apart.second; room = apart.room };
+      a_le_b = c.requires.below.order;
+      rising = c.requires.rising;
+      b_le_out = c.requires.apart.first;
+      behind = record { low = c.requires.apart.second; room = c.requires.apart.room };
     }
 
 pub returns-then-is_far_shorter : goal.returns-then-is_far_shorter
 returns-then-is_far_shorter c =
-    let asked = (c.requires.rising, (c.requires.rising_2, (c.requires.apart, (c.requires.below, (c.requires.below_2, c.requires.clear_2))))) in
     record {
-      shared = found_shared asked.0 asked.1.0 c.keep_found.ensures;
-      clear = asked.1.1.1.1.1;
+      shared = found_shared c.requires.rising c.requires.rising_2 c.keep_found.ensures;
+      clear = c.requires.clear_2;
     }
 
 pub flag_words-requires : goal.flag_words-requires
 flag_words-requires c =
-    let clear = c.requires.clear_2 in
     record {
-      below = below_length c.args.flags.now clear.size c.requires.below;
-      flagged = clear.none;
+      below = below_length c.args.flags.now c.requires.clear_2.size c.requires.below;
+      flagged = c.requires.clear_2.none;
     }
 
 -- the table is as long after the flagging
-flags-size : (c : After-flag_words) → length {A = ℕ} c.flag_words.new.1.1.1.0 ≡ flag_room
-flags-size c = c.flag_words.auto.1.1.1.0 ∙ c.requires.clear_2.size
+flags-size : (c : After-flag_words) → length {A = ℕ} c.flag_words.new.flags ≡ flag_room
+flags-size c = c.flag_words.auto.flags ∙ c.requires.clear_2.size
 
 pub keep_flagged-r-requires : goal.keep_flagged-r-requires
 keep_flagged-r-requires c =
-    let apart = c.requires.apart in
     record {
-      below = below_length c.flag_words.new.1.1.1.0 (flags-size (goal.at.keep_flagged-r-requires c).After-flag_words) c.requires.below_2;
-      behind = record { low = apart.second; room = apart.room };
+      below = below_length c.flag_words.new.flags (flags-size (goal.at.keep_flagged-r-requires c).After-flag_words) c.requires.below_2;
+      behind = record { low = c.requires.apart.second; room = c.requires.apart.room };
       flagged = flagged_own c.flag_words.ensures;
     }
 
 pub unflag_words-requires : goal.unflag_words-requires
 unflag_words-requires c =
-    let apart = c.requires.apart in
     let changed = c.keep_flagged-r.ensures.changed in
     record {
-      below = below_length c.flag_words.new.1.1.1.0 (flags-size (goal.at.unflag_words-requires c).After-flag_words)
-          (below_changed c.args.a apart.first changed c.requires.below);
-      flagged = flagged_changed c.args.a apart.first changed c.flag_words.ensures;
+      below = below_length c.flag_words.new.flags (flags-size (goal.at.unflag_words-requires c).After-flag_words)
+          (below_changed c.args.a c.requires.apart.first changed c.requires.below);
+      flagged = flagged_changed c.args.a c.requires.apart.first changed c.flag_words.ensures;
     }
 
 pub returns : goal.returns
 returns c =
-    let flags = c.flag_words.new.1.1.1.0 in
+    let flags = c.flag_words.new.flags in
     record {
       shared = kept_shared c.requires.rising c.requires.rising_2 (below_length flags (flags-size (goal.at.returns c).After-flag_words) c.requires.below_2)
           c.flag_words.ensures c.keep_flagged-r.ensures;
       clear = record {
-        size = c.unflag_words.auto.1.1.1.0 ∙ flags-size (goal.at.returns c).After-flag_words;
+        size = c.unflag_words.auto.flags ∙ flags-size (goal.at.returns c).After-flag_words;
         none = c.unflag_words.ensures;
       };
     }

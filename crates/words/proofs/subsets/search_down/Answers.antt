@@ -6,8 +6,7 @@ use Rattle.words.proofs.subsets.search_down.Goals as goal
 
 pub loop-i-init : goal.loop-i-init
 loop-i-init c =
-    let asked = (c.requires.rising, c.requires.rising_2) in
-    record { first = omega arith; second = omega arith; first_rises = asked.0.rise; second_rises = asked.1.rise; same = refl }
+    record { first = omega arith; second = omega arith; first_rises = c.requires.rising.rise; second_rises = c.requires.rising_2.rise; same = refl }
 
 pub skip_higher-j-requires : goal.skip_higher-j-requires
 skip_higher-j-requires c =
@@ -20,20 +19,17 @@ skip_higher-j-requires c =
 
 pub returns-then-j-c : goal.returns-then-j-c
 returns-then-j-c c =
-    let asked = (c.requires.rising, c.requires.rising_2) in
-    trimming_stop c.loop-i.invariant c.skip_higher-j.ensures asked.0 asked.1 c.loop-i-test.true
+    trimming_stop c.loop-i.invariant c.skip_higher-j.ensures c.requires.rising c.requires.rising_2 c.loop-i-test.true
     c.if-j-c.true
 
 pub returns-then-work-i : goal.returns-then-work-i
 returns-then-work-i c =
-    let asked = (c.requires.rising, c.requires.rising_2) in
-    trimming_other c.loop-i.invariant c.skip_higher-j.ensures asked.0 asked.1 c.loop-i-test.true
+    trimming_other c.loop-i.invariant c.skip_higher-j.ensures c.requires.rising c.requires.rising_2 c.loop-i-test.true
     (omega (arith, c.if-j-c.false)) c.if-work-i.true
 
 pub loop-i-preserved : goal.loop-i-preserved
 loop-i-preserved c =
-    let asked = (c.requires.rising, c.requires.rising_2) in
-    trimming_same c.loop-i.invariant c.skip_higher-j.ensures asked.0 asked.1 c.loop-i-test.true
+    trimming_same c.loop-i.invariant c.skip_higher-j.ensures c.requires.rising c.requires.rising_2 c.loop-i-test.true
     (omega (arith, c.if-j-c.false)) c.if-work-i.false
 
 pub returns : goal.returns

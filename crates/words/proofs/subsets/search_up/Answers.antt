@@ -5,8 +5,7 @@ use Rattle.words.proofs.subsets.search_up.Goals as goal
 
 pub loop-i-init : goal.loop-i-init
 loop-i-init c =
-    let asked = (c.requires.rising, c.requires.rising_2) in
-    record { first_rises = asked.0.rise; second_rises = asked.1.rise; same = refl }
+    record { first_rises = c.requires.rising.rise; second_rises = c.requires.rising_2.rise; same = refl }
 
 pub skip_lower-j-requires : goal.skip_lower-j-requires
 skip_lower-j-requires c =
@@ -19,20 +18,17 @@ skip_lower-j-requires c =
 
 pub returns-then-e-j : goal.returns-then-e-j
 returns-then-e-j c =
-    let asked = (c.requires.rising, c.requires.rising_2) in
-    advancing_stop c.loop-i.invariant c.skip_lower-j.ensures asked.0 asked.1 c.loop-i-test.true
+    advancing_stop c.loop-i.invariant c.skip_lower-j.ensures c.requires.rising c.requires.rising_2 c.loop-i-test.true
     c.if-e-j.true
 
 pub returns-then-work-i : goal.returns-then-work-i
 returns-then-work-i c =
-    let asked = (c.requires.rising, c.requires.rising_2) in
-    advancing_other c.loop-i.invariant c.skip_lower-j.ensures asked.0 asked.1 c.loop-i-test.true
+    advancing_other c.loop-i.invariant c.skip_lower-j.ensures c.requires.rising c.requires.rising_2 c.loop-i-test.true
     c.if-e-j.false c.if-work-i.true
 
 pub loop-i-preserved : goal.loop-i-preserved
 loop-i-preserved c =
-    let asked = (c.requires.rising, c.requires.rising_2) in
-    advancing_same c.loop-i.invariant c.skip_lower-j.ensures asked.0 asked.1 c.loop-i-test.true
+    advancing_same c.loop-i.invariant c.skip_lower-j.ensures c.requires.rising c.requires.rising_2 c.loop-i-test.true
     c.if-e-j.false c.if-work-i.false
 
 pub returns : goal.returns

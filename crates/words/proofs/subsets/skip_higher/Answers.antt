@@ -13,8 +13,7 @@ returns-then-work-j c = skipped c.loop-j.invariant (λ h. omega (arith, c.if-wor
 
 pub loop-j-preserved : goal.loop-j-preserved
 loop-j-preserved c =
-    let asked = (c.requires.a_lt_b, (c.requires.rising, c.requires.rising_2)) in
-    skipping_next c.loop-j.invariant asked.0 asked.1.0 asked.1.1 c.loop-j-test.true
+    skipping_next c.loop-j.invariant c.requires.a_lt_b c.requires.rising c.requires.rising_2 c.loop-j-test.true
     (omega (arith, c.if-work-j.false))
 
 pub returns : goal.returns

@@ -12,8 +12,7 @@ returns-then-x-work c = passed c.loop-j.invariant (λ h. c.if-x-work.true)
 
 pub loop-j-preserved : goal.loop-j-preserved
 loop-j-preserved c =
-    let asked = (c.requires.a_lt_b, (c.requires.rising, c.requires.rising_2)) in
-    passing_next c.loop-j.invariant asked.0 asked.1.0 asked.1.1 c.loop-j-test.true
+    passing_next c.loop-j.invariant c.requires.a_lt_b c.requires.rising c.requires.rising_2 c.loop-j-test.true
     (omega (arith, c.if-x-work.false))
 
 pub returns : goal.returns
