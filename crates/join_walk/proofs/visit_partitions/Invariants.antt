@@ -7,7 +7,7 @@ use Rattle.join_walk.proofs.visit_partitions.Given as goal
 
 abbrev pub invariant-loop-i : goal.invariant-loop-i
 invariant-loop-i l =
-    Continuing l.lay l.st.budget 1 l.hi (λ path w. l.lay.slots) (λ q path w l.i l.r. Partitions l.lay l.st q w l.i l.hi l.r) l.initial.work l.lo l.initial.r l.work l.i l.r
+    Continuing l.lay l.st.budget 1 l.hi (λ path w. l.lay.slots) (λ q path w i r. Partitions l.lay l.st q w i l.hi r) l.initial.work l.lo l.initial.r l.work l.i l.r
     × Clear l.flags
 
 abbrev pub decreases-loop-i : goal.decreases-loop-i

@@ -6,7 +6,7 @@ use Rattle.join_nodes.proofs.blocks.finish.Given as goal
 
 abbrev pub invariant-loop-i : goal.invariant-loop-i
 invariant-loop-i l =
-    Continuing l.lay l.st.budget l.d l.hi (λ path w. l.lay.row_starts) (λ q path w l.i l.r. AtLimit l.lay l.st q path w l.d l.i l.hi l.from l.to l.r)
+    Continuing l.lay l.st.budget l.d l.hi (λ path w. l.lay.row_starts) (λ q path w i r. AtLimit l.lay l.st q path w l.d i l.hi l.from l.to r)
     l.initial.work l.lo l.initial.r l.work l.i l.r
 
 abbrev pub decreases-loop-i : goal.decreases-loop-i

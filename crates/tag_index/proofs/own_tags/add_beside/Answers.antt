@@ -32,7 +32,7 @@ take_tag-found-requires c =
     let more = c.loop-k-test.true in
     record {
       sorted = (going (goal.at.take_tag-found-requires c).At-loop-k).adding.sorted;
-      next_tag = record { inside = omega (arith, c.requires.room_to_add.inside, more); c.requires.room_to_add = omega (arith, c.requires.room_to_add.room, going_tags (had (goal.at.take_tag-found-requires c).At-loop-k) (going (goal.at.take_tag-found-requires c).At-loop-k), more) };
+      next_tag = record { inside = omega (arith, c.requires.room_to_add.inside, more); room = omega (arith, c.requires.room_to_add.room, going_tags (had (goal.at.take_tag-found-requires c).At-loop-k) (going (goal.at.take_tag-found-requires c).At-loop-k), more) };
     }
 
 pub see-distinct-requires : goal.see-distinct-requires
@@ -62,8 +62,7 @@ overflow_add-own c =
 
 pub loop-k-preserved : goal.loop-k-preserved
 loop-k-preserved c =
-    let more = c.loop-k-test.true in
-    (
+    let more = c.loop-k-test.true in (
       (λ done a. going_step a (c.loop-k.invariant.0 done a) more c.take_tag-found.ensures c.see-distinct.ensures),
       going_step (adding_start (had (goal.at.loop-k-preserved c).At-loop-k).sorted) c.loop-k.invariant.1 more c.take_tag-found.ensures c.see-own.ensures,
     )

@@ -32,7 +32,7 @@ take_tag-found-requires c =
     let more = c.loop-k-test.true in
     record {
       sorted = (going (goal.at.take_tag-found-requires c).At-loop-k).adding.sorted;
-      next_tag = record { inside = omega (arith, c.requires.room_to_add.inside, more); c.requires.room_to_add = omega (arith, c.requires.room_to_add.room, going_tags (had (goal.at.take_tag-found-requires c).At-loop-k) (going (goal.at.take_tag-found-requires c).At-loop-k), more) };
+      next_tag = record { inside = omega (arith, c.requires.room_to_add.inside, more); room = omega (arith, c.requires.room_to_add.room, going_tags (had (goal.at.take_tag-found-requires c).At-loop-k) (going (goal.at.take_tag-found-requires c).At-loop-k), more) };
     }
 
 pub see-distinct-requires : goal.see-distinct-requires
