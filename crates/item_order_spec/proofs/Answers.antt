@@ -1,0 +1,77 @@
+-- Laws of the order's test, answer and rank list: the case of each return, and the call.
+use mathlib.Core.Path.{◌≡◌, sym, ap, ◌∙◌}
+use mathlib.Core.List.{List}
+use mathlib.Core.Bool.{Bool, true, false, not}
+use Prim.Native.Nat.{ℕ}
+use borrow.Author.Tests.{eq-eqb, ne_eqb}
+use lib.Dec.{eqb, ltb}
+use lib.ListN.{length}
+use Rattle.sets.specs.Limits.{max_items}
+use Rattle.sets.specs.Refusals.{clears, refuse_if, unless}
+use Rattle.sets.specs.Lent.{after_refusal}
+use Rattle.sets.specs.declared.Refusal.{Refusal}
+use Rattle.sets.specs.declared.Refusal.TheVariants.{BadSettings}
+use Rattle.sets.specs.declared.Tested.{Tested}
+use Rattle.sets.specs.declared.Tested.TheVariants.{Passed, Failed}
+use Rattle.inputs.specs.Input.{Input, left_sets, right_sets}
+use Rattle.inputs.specs.Tests.{items_test, sets_test}
+use Rattle.sets.proofs.Testing.{failed_same}
+use Rattle.inputs.proofs.TestLaws.{sets-keep}
+use Rattle.item_order_spec.specs.declared.OrderAnswer.{OrderAnswer}
+use Rattle.item_order_spec.specs.declared.OrderAnswer.TheVariants.{Ordered, Refused}
+use Rattle.item_order_spec.specs.Order.{order_test, order_answer, order_ranks, ranks_after, rank_table, OrderCall}
+
+module _ (i : Input) (places : ℕ) where
+  -- the case of each return
+  pub test-items : {why : Refusal} → items_test i.T ≡ Failed why → Failed why ≡ order_test i places
+  unfolding order_test
+  test-items failed = rw failed
+
+  module _ (few : items_test i.T ≡ Passed) where
+    pub test-length : (places ≡ i.T → ⊥) → Failed BadSettings ≡ order_test i places
+    unfolding order_test
+    test-length other = rw (few, ne_eqb places i.T other)
+
+    pub test-sets : {r : Tested} → places ≡ i.T → r ≡ sets_test i → r ≡ order_test i places
+    unfolding order_test
+    test-sets long e = rw (few, eq-eqb places i.T long) e
+
+  -- its refusals change nothing
+  test-keep : (why : Refusal) → order_test i places ≡ Failed why → clears why ≡ false
+  unfolding order_test
+  test-keep why e = go (ltb max_items i.T) (not (eqb places i.T)) e
+    where
+      go : (large other : Bool)
+          → unless Failed (refuse_if large BadSettings) (unless Failed (refuse_if other BadSettings) (sets_test i)) ≡ Failed why
+          → clears why ≡ false
+      go true other e = ap clears (sym (failed_same BadSettings why e))
+      go false true e = ap clears (sym (failed_same BadSettings why e))
+      go false false e = sets-keep i why e
+
+-- the call: an input that is refused, and one that passed its test
+module _ (i : Input) (falling : Bool) (ranks : List ℕ) where
+  kept-after : (why : Refusal) → clears why ≡ false → ranks ≡ after_refusal why ranks
+  kept-after why keeps = rw keeps
+
+  -- the rank list by the answer
+  ranks_by : (answer : OrderAnswer) → order_answer i (length ranks) ≡ answer
+      → order_ranks i falling ranks ≡ ranks_after answer (rank_table falling i.T (left_sets i) (right_sets i)) ranks
+  unfolding order_ranks
+  ranks_by answer e =
+      ap (λ (a : OrderAnswer). ranks_after a (rank_table falling i.T (left_sets i) (right_sets i)) ranks) e
+
+  pub call-refused : (why : Refusal) → order_test i (length ranks) ≡ Failed why → OrderCall i falling ranks ranks (Refused why)
+  unfolding order_answer
+  call-refused why failed =
+      let answer : order_answer i (length ranks) ≡ Refused why = rw failed in
+      record {
+        answered = sym answer;
+        ranks = kept-after why (test-keep i (length ranks) why failed) ∙ sym (ranks_by (Refused why) answer);
+      }
+
+  pub call-ordered : (ranks' : List ℕ) → order_test i (length ranks) ≡ Passed
+      → ranks' ≡ rank_table falling i.T (left_sets i) (right_sets i) → OrderCall i falling ranks ranks' Ordered
+  unfolding order_answer
+  call-ordered ranks' passed e =
+      let answer : order_answer i (length ranks) ≡ Ordered = rw passed in
+      record { answered = sym answer; ranks = e ∙ sym (ranks_by Ordered answer) }
