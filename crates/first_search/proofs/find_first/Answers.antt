@@ -15,15 +15,15 @@ abbrev lefts : Start → Collection
 lefts s = record { ends = s.args.left-ends.now; items = s.args.left-items.now }
 
 found : (p : After-test_first-tested)
-    → first_test p.args.t (lefts p) p.args.right.now ≡ p.test_first-tested.result
+    → first_test p.args.t (lefts (goal.at.After-test_first-tested p).Start) p.args.right.now ≡ p.test_first-tested.result
 found p = sym p.test_first-tested.ensures
 
 passed : (p : In-Passed)
-    → first_test p.args.t (lefts p) p.args.right.now ≡ Passed
-passed p = found p ∙ p.in-Passed.is
+    → first_test p.args.t (lefts (goal.at.In-Passed p).Start) p.args.right.now ≡ Passed
+passed p = found (goal.at.In-Passed p).After-test_first-tested ∙ p.in-Passed.is
 
-searchable : (p : In-Passed) → Searchable p.args.t (lefts p) p.args.right.now
-searchable p = first_passed p.args.t (lefts p) p.args.right.now (passed p)
+searchable : (p : In-Passed) → Searchable p.args.t (lefts (goal.at.In-Passed p).Start) p.args.right.now
+searchable p = first_passed p.args.t (lefts (goal.at.In-Passed p).Start) p.args.right.now (passed p)
 
 pub insert_part-requires : goal.insert_part-requires
 insert_part-requires c =

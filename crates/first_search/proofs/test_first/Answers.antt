@@ -16,9 +16,9 @@ items-found : (p : After-test_items-items) → items_test p.args.t ≡ p.test_it
 items-found p = sym p.test_items-items.ensures
 
 items-passed : (p : After-test_side-left) → items_test p.args.t ≡ Passed
-items-passed p = items-found p ∙ p.in_default.is
+items-passed p = items-found (goal.at.After-test_side-left p).After-test_items-items ∙ p.in_default.is
 
-left-found : (p : After-test_side-left) → side_test p.args.t Left (lefts p) ≡ p.test_side-left.result
+left-found : (p : After-test_side-left) → side_test p.args.t Left (lefts (goal.at.After-test_side-left p).Start) ≡ p.test_side-left.result
 left-found p = sym p.test_side-left.ensures
 
 pub returns-in-Failed : goal.returns-in-Failed

@@ -14,7 +14,7 @@ input s =
     let a = s.args in
     input_of a.t a.left-ends.now a.left-items.now a.right-ends.now a.right-items.now
 
-found : (p : After-test_order-tested) → order_test (input p) (length p.args.ranks.now) ≡ p.test_order-tested.result
+found : (p : After-test_order-tested) → order_test (input (goal.at.After-test_order-tested p).Start) (length p.args.ranks.now) ≡ p.test_order-tested.result
 found p = sym p.test_order-tested.ensures
 
 pub fill_ranks-requires : goal.fill_ranks-requires

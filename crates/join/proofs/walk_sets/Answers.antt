@@ -16,12 +16,12 @@ input c =
 -- the index that was built, and what the walk over it found
 index : (c : After-build-lay)
     → let a = c.args in
-    Index c.build-lay.result (query_by (input c) a.limit a.ranks.now a.rule) c.build-lay.new.work
+    Index c.build-lay.result (query_by (input (goal.at.After-build-lay c).Start) a.limit a.ranks.now a.rule) c.build-lay.new.work
 index c = walk_index c.requires c.args.rule c.build-lay.ensures.ground c.build-lay.ensures.room
 
 done : (c : After-walk-walked)
     → let a = c.args in
-    WalkDone c.build-lay.result (query_by (input c) a.limit a.ranks.now a.rule) a.budget
+    WalkDone c.build-lay.result (query_by (input (goal.at.After-walk-walked c).Start) a.limit a.ranks.now a.rule) a.budget
     c.build-lay.new.work c.walk-walked.new.work c.walk-walked.result
 done c =
     walk_made c.requires c.args.rule c.build-lay.ensures.ground c.build-lay.ensures.room c.walk-walked.ensures.walked

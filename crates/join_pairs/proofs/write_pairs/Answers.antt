@@ -3,9 +3,8 @@ use mathlib.Core.Path.{◌≡◌}
 use mathlib.Core.List.{List, ◌++◌}
 use native.Mathlib.Omega.{arith}
 use lib.ListN.{length, drop}
-use Rattle.lists.specs.Parts.{Changed}
 use Rattle.lists.proofs.Slices.{changed_none}
-use Rattle.lists.proofs.Writing.{Writing, writing_start, writing_step, writing_end, writing_room, written_whole}
+use Rattle.lists.proofs.Writing.{writing_start, writing_step, writing_end, writing_room, written_whole}
 use Rattle.join_spec.specs.Query.{Query}
 use Rattle.sets.specs.Collections.{contained}
 use Rattle.join_spec.specs.PairList.{pairs_from, pair_list}
@@ -17,13 +16,8 @@ use Rattle.join_pairs.proofs.shortlists.Meeting.{changed_then}
 use Rattle.join_pairs.specs.left_search.LeftRows.{row_at, LeftRoom, LeftWritten}
 use Rattle.join_pairs.specs.Writing.{PairsRoom}
 use Rattle.join_pairs.proofs.PairRows.{pairs_next, pairs_none}
+use Rattle.join_pairs.proofs.write_pairs.Invariants.{PairsWriting}
 use Rattle.join_pairs.proofs.write_pairs.Goals as goal
-
-record PairsWriting (lay : Layout) (w : List ℕ) (lefts : ℕ) (was v pairs : List ℕ) (n k : ℕ) : Type 0 where
-  changed : Changed lay.slots lay.row_starts w v
-  written :
-      (q : Query) → PairsRoom lay q w lefts was
-      → Writing was 0 (pair_list q.lefts q.rights) pairs n (pairs_from contained k (drop k q.lefts) q.rights)
 
 list-room : {lay : Layout} {q : Query} {w : List ℕ} {lefts : ℕ} {was : List ℕ} → PairsRoom lay q w lefts was
     → length (pair_list q.lefts q.rights) ≤ length was

@@ -77,21 +77,21 @@ tags-known : (own : Else-not-is_side)
     → let a = own.args in
     TagsKnown a.first.now a.heads.now a.tails.now a.n a.ids.now a.ranks.now own.in-Record.tags_at own.in-Record.count
 tags-known own =
-    own_known own.requires own.loop-side.invariant (read own) (right_side own) (bytes own)
+    own_known own.requires own.loop-side.invariant (read (goal.at.Else-not-is_side own).In-Record-2) (right_side own) (bytes (goal.at.Else-not-is_side own).At-loop-side)
 
 -- the same of the second file: the record, and its tags
 right_there : (own : Else-not-is_side-2)
     → let second = own.args.second.now in
-    RightHere second (second_walk own).seen own.loop-side-2.on own.in-Record-answer.count own.in-Record-answer.tags_at own.in-Record-answer.next
+    RightHere second (second_walk (goal.at.Else-not-is_side-2 own).At-loop-side-2).seen own.loop-side-2.on own.in-Record-answer.count own.in-Record-answer.tags_at own.in-Record-answer.next
     (record { side = own.in-Record-answer.side; number = own.in-Record-answer.number; tags = tags_at own.in-Record-answer.count second own.in-Record-answer.tags_at })
 right_there own =
-    right_here own.requires (second_walk own) (read-second own) (second-right-side own) (second-bytes own)
+    right_here own.requires (second_walk (goal.at.Else-not-is_side-2 own).At-loop-side-2) (read-second (goal.at.Else-not-is_side-2 own).In-Record-answer-2) (second-right-side own) (second-bytes (goal.at.Else-not-is_side-2 own).At-loop-side-2)
 
 second-known : (own : Else-not-is_side-2)
     → let a = own.args in
     TagsKnown a.second.now a.heads.now a.tails.now a.n a.ids.now a.ranks.now own.in-Record-answer.tags_at own.in-Record-answer.count
 second-known own =
-    let w = second_walk own in
+    let w = second_walk (goal.at.Else-not-is_side-2 own).At-loop-side-2 in
     by_test (member own.args.used.now own.in-Record-answer.number)
     (met_known own.requires w (right_there own)) (new_known own.requires w (right_there own))
 
@@ -107,8 +107,8 @@ absent missed = sym missed.contains.ensures ∙ missed.if-contains.false
 -- where it has, its slot is one
 slot-below : (found : After-number_slot-slot-then-contains) → found.number_slot-slot-then-contains.result < max_sets
 slot-below found =
-    let w = second_walk found in
-    let slot = met_slot found.requires w (right_there found) (there found) in
+    let w = second_walk (goal.at.After-number_slot-slot-then-contains found).At-loop-side-2 in
+    let slot = met_slot found.requires w (right_there (goal.at.After-number_slot-slot-then-contains found).Else-not-is_side-2) (there (goal.at.After-number_slot-slot-then-contains found).Then-contains) in
     omega (arith, found.number_slot-slot-then-contains.ensures, slot.within, w.long)
 
 pub loop-side-init : goal.loop-side-init

@@ -35,7 +35,7 @@ right : (a : Then-is_side) → same_side Right a.in-Record.side ≡ true
 right a = sym a.is_side.ensures ∙ a.if-is_side.true
 
 right-here : (e : Else-claim) → same_side Right e.in-Record.side ≡ true
-right-here e = right e
+right-here e = right (goal.at.Else-claim e).Then-is_side
 
 -- its number was not noted
 free : (e : Else-claim) → member e.loop-side.noted e.in-Record.number ≡ false

@@ -15,12 +15,12 @@ lists s =
     a.right-numbers.now a.right-ends.now a.right-items.now
 
 -- what was found of the table, and of the left sets
-table : (p : After-test_table-table) → table_test p.args.t (lists p).tags ≡ p.test_table-table.result
+table : (p : After-test_table-table) → table_test p.args.t (lists (goal.at.After-test_table-table p).Start).tags ≡ p.test_table-table.result
 table p = sym p.test_table-table.ensures
 
 left : (p : After-test_numbered-left)
-    → numbered_test p.args.t Left (lists p).left_numbers
-    (lists p).left_ends (lists p).left_items ≡ p.test_numbered-left.result
+    → numbered_test p.args.t Left (lists (goal.at.After-test_numbered-left p).Start).left_numbers
+    (lists (goal.at.After-test_numbered-left p).Start).left_ends (lists (goal.at.After-test_numbered-left p).Start).left_items ≡ p.test_numbered-left.result
 left p = sym p.test_numbered-left.ensures
 
 pub returns-in-Failed : goal.returns-in-Failed

@@ -14,7 +14,7 @@ lists s =
     lists_of a.tags.now a.left-numbers.now a.left-ends.now a.left-items.now
     a.right-numbers.now a.right-ends.now a.right-items.now
 
-tested : (p : After-test_lists-tested) → lists_test p.args.t (lists p) ≡ p.test_lists-tested.result
+tested : (p : After-test_lists-tested) → lists_test p.args.t (lists (goal.at.After-test_lists-tested p).Start) ≡ p.test_lists-tested.result
 tested p = sym p.test_lists-tested.ensures
 
 pub write_good-requires : goal.write_good-requires

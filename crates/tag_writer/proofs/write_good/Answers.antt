@@ -16,15 +16,15 @@ lists s =
     lists_of a.tags.now a.left-numbers.now a.left-ends.now a.left-items.now
     a.right-numbers.now a.right-ends.now a.right-items.now
 
-left-long : (p : After-side_length-right) → length (left_bytes (lists p)) ≡ p.side_length-left.result
-left-long p = left-size (lists p) p.requires ∙ sym p.side_length-left.ensures
+left-long : (p : After-side_length-right) → length (left_bytes (lists (goal.at.After-side_length-right p).Start)) ≡ p.side_length-left.result
+left-long p = left-size (lists (goal.at.After-side_length-right p).Start) p.requires ∙ sym p.side_length-left.ensures
 
-right-long : (p : After-side_length-right) → length (right_bytes (lists p)) ≡ p.side_length-right.result
-right-long p = right-size (lists p) p.requires ∙ sym p.side_length-right.ensures
+right-long : (p : After-side_length-right) → length (right_bytes (lists (goal.at.After-side_length-right p).Start)) ≡ p.side_length-right.result
+right-long p = right-size (lists (goal.at.After-side_length-right p).Start) p.requires ∙ sym p.side_length-right.ensures
 
 file-long : (p : After-side_length-right)
-    → length (file_bytes (lists p)) ≡ p.side_length-left.result + p.side_length-right.result
-file-long p = omega (arith, file-size (lists p) p.requires, left-long p, right-long p)
+    → length (file_bytes (lists (goal.at.After-side_length-right p).Start)) ≡ p.side_length-left.result + p.side_length-right.result
+file-long p = omega (arith, file-size (lists (goal.at.After-side_length-right p).Start) p.requires, left-long p, right-long p)
 
 pub side_length-left-requires : goal.side_length-left-requires
 side_length-left-requires c =

@@ -1,27 +1,11 @@
 use mathlib.Core.Path.{◌≡◌, ap, ◌∙◌}
-use mathlib.Core.List.{List}
-use mathlib.Core.Bool.{Bool}
-use Prim.Native.Nat.{ℕ, ◌+◌, ◌-◌, ◌≤◌}
+use Prim.Native.Nat.{ℕ, ◌-◌}
 use native.Mathlib.Omega.{arith}
 use lib.ListN.{get_or}
-use Rattle.lists.specs.Lists.{one, count, slice}
-use Rattle.join_spec.specs.Query.{Query}
-use Rattle.join_spec.specs.Node.{seen}
-use Rattle.join_index.specs.Grouping.{right_at}
-use Rattle.join_index.specs.declared.Layout.{Layout}
-use Rattle.join_index.specs.Asking.{PlacesThere}
+use Rattle.lists.specs.Lists.{one}
 use Rattle.join_index.proofs.Places.{place_right, count_past, count_next}
+use Rattle.join_check.proofs.keys.count_seen.Invariants.{isSeen}
 use Rattle.join_check.proofs.keys.count_seen.Goals as goal
-
-abbrev isSeen : Query → ℕ → ℕ → Bool
-isSeen q r s = seen r (right_at q s)
-
-record SeenCounting (lay : Layout) (w : List ℕ) (from to r n i : ℕ) : Type 0 where
-  low : from ≤ i
-  few : n ≤ i - from
-  same :
-      (q : Query) → PlacesThere lay q w from to
-      → n + count (isSeen q r) (slice i to w) ≡ count (isSeen q r) (slice from to w)
 
 pub loop-i-init : goal.loop-i-init
 loop-i-init c =

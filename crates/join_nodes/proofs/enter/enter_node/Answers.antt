@@ -42,7 +42,7 @@ Begun s q path =
     let a = s.args in
     GoesOn a.lay a.st q path a.work.now a.d a.lo a.hi a.from a.to a.p
 
-onward : (c : After-narrow-part) (q : Query) (path : List ℕ) → Begun c q path
+onward : (c : After-narrow-part) (q : Query) (path : List ℕ) → Begun (goal.at.After-narrow-part c).Start q path
     → let a = c.args in
     Onward a.lay a.st q path a.work.now c.narrow-part.new.work a.d a.lo a.hi a.from a.to a.p
     c.narrow-part.result a.p.top

@@ -6,7 +6,7 @@ use native.Mathlib.Omega.{arith}
 use Rattle.lists.specs.Lists.{slice}
 use Rattle.lists.specs.Writing.{Put}
 use Rattle.lists.proofs.Slices.{slice_past, slice_next}
-use Rattle.lists.proofs.Writing.{Writing, writing_start, writing_step, writing_end, writing_room}
+use Rattle.lists.proofs.Writing.{writing_start, writing_step, writing_end, writing_room}
 use Rattle.join_spec.specs.Query.{Query}
 use Rattle.join_spec.specs.PairList.{onto_pair}
 use Rattle.join_index.specs.declared.Layout.{Layout}
@@ -18,14 +18,8 @@ use Rattle.join_pairs.specs.row_pairs.Containing.{row_among, CheckThere}
 use Rattle.join_pairs.specs.row_pairs.Writing.{PushRoom, RowRoom}
 use Rattle.join_pairs.proofs.row_pairs.RowPairs.{row_next, row_none}
 use Rattle.join_pairs.proofs.shortlists.Inverted.{slice-memb}
+use Rattle.join_pairs.proofs.row_pairs.write_row.Invariants.{RowWriting}
 use Rattle.join_pairs.proofs.row_pairs.write_row.Goals as goal
-
-record RowWriting (lay : Layout) (w : List ℕ) (p : Probe) (k from to at : ℕ) (was : List ℕ) (n : ℕ) (pairs : List ℕ) (i : ℕ)
-    : Type 0 where
-  low : from ≤ i
-  written :
-      (q : Query) → RowRoom lay q w p k from to at was
-      → Writing was at (row_among q k (slice from to w)) pairs n (row_among q k (slice i to w))
 
 row-past : (q : Query) (k : ℕ) (w : List ℕ) (i to : ℕ) → to ≤ i → row_among q k (slice i to w) ≡ []
 row-past q k w i to past =

@@ -1,7 +1,6 @@
-use Prim.Native.Nat.{ℕ, ◌+◌, ◌-◌, ◌≤◌, ◌<◌}
+use Prim.Native.Nat.{ℕ, ◌+◌, ◌-◌, ◌<◌}
 use mathlib.Core.List.{List}
 use native.Mathlib.Omega.{arith}
-use Rattle.lists.specs.Parts.{Changed}
 use Rattle.lists.proofs.Slices.{changed_none}
 use Rattle.join_spec.specs.Query.{Query}
 use Rattle.join_index.specs.declared.Layout.{Layout}
@@ -9,13 +8,9 @@ use Rattle.words.specs.Words.{Word}
 use Rattle.join_pairs.specs.declared.shortlists.Span.{Span}
 use Rattle.join_pairs.specs.shortlists.Shortlists.{SpanThere, RankMet, FindThere, Shortlisted}
 use Rattle.join_pairs.proofs.shortlists.Meeting.{changed_then}
-use Rattle.join_pairs.proofs.shortlists.Sifting.{Sifting, pivot_there, sifting_start, sifting_span, sifting_step, sifting_end}
+use Rattle.join_pairs.proofs.shortlists.Sifting.{pivot_there, sifting_start, sifting_span, sifting_step, sifting_end}
+use Rattle.join_pairs.proofs.shortlists.find_candidates.Invariants.{Searching}
 use Rattle.join_pairs.proofs.shortlists.find_candidates.Goals as goal
-
-record Searching (lay : Layout) (w : List ℕ) (from to pivot : ℕ) (v : List ℕ) (a b i : ℕ) : Type 0 where
-  low : from ≤ i
-  changed : Changed lay.slots lay.row_starts w v
-  sifting : (q : Query) → FindThere lay q w from to pivot → Sifting lay q w from to pivot v a b i
 
 module _ {lay : Layout} {w : List ℕ} {from to pivot : ℕ} {v : List ℕ} {a b i : ℕ}
     (searching : Searching lay w from to pivot v a b i) where

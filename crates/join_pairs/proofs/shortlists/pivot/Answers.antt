@@ -1,16 +1,11 @@
-use Prim.Native.Nat.{ℕ, ◌-◌, ◌≤◌}
+use Prim.Native.Nat.{ℕ, ◌-◌}
 use mathlib.Core.Path.{◌≡◌, sym, subst}
 use mathlib.Core.Logic.{⊎_elim}
-use mathlib.Core.List.{List}
 use mathlib.Core.Bool.{true}
 use native.Mathlib.Omega.{arith}
 use Rattle.lists.specs.Lists.{memb, slice}
 use Rattle.join_pairs.proofs.shortlists.Inverted.{slice-memb, slice_rank}
 use Rattle.join_pairs.proofs.shortlists.pivot.Goals as goal
-
-record Choosing (w : List ℕ) (from to rank i : ℕ) : Type 0 where
-  low : from ≤ i
-  there : memb rank (slice from to w) ≡ true
 
 pub count_holders-least-requires : goal.count_holders-least-requires
 count_holders-least-requires c =

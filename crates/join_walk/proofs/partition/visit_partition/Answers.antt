@@ -29,20 +29,20 @@ abbrev Asked : Start → Query → ℕ → Type 0
 Asked s q r = let a = s.args in Partition a.lay a.st q a.work.now a.lo a.hi a.p r
 
 -- the key that was read, one more than the partition's rank
-key-is : (c : After-key_at-key) (q : Query) (r : ℕ) → Asked c q r → c.key_at-key.result ≡ suc r
+key-is : (c : After-key_at-key) (q : Query) (r : ℕ) → Asked (goal.at.After-key_at-key c).Start q r → c.key_at-key.result ≡ suc r
 key-is c q r part = partition_key part c.word_at-k.ensures c.key_at-key.ensures
 
 -- whether the query's rule asks for the seen right sets
-asks-is : (c : After-asks_seen) (q : Query) (r : ℕ) → Asked c q r → asks_seen q.rule ≡ c.asks_seen.result
+asks-is : (c : After-asks_seen) (q : Query) (r : ℕ) → Asked (goal.at.After-asks_seen c).Start q r → asks_seen q.rule ≡ c.asks_seen.result
 asks-is c q r part =
     subst (λ (rule : Rule). asks_seen rule ≡ c.asks_seen.result) part.underway.rule (sym c.asks_seen.ensures)
 
-asked : (c : Then-asks_seen) (q : Query) (r : ℕ) → Asked c q r → asks_seen q.rule ≡ true
-asked c q r part = asks-is c q r part ∙ c.if-asks_seen.true
+asked : (c : Then-asks_seen) (q : Query) (r : ℕ) → Asked (goal.at.Then-asks_seen c).Start q r → asks_seen q.rule ≡ true
+asked c q r part = asks-is (goal.at.Then-asks_seen c).After-asks_seen q r part ∙ c.if-asks_seen.true
 
-seen-is : (c : After-word_at-seen) (q : Query) (r : ℕ) → Asked c q r
+seen-is : (c : After-word_at-seen) (q : Query) (r : ℕ) → Asked (goal.at.After-word_at-seen c).Start q r
     → let a = c.args in c.word_at-seen.result ≡ seen_count a.lay a.work.now r
-seen-is c q r part = seen_word part (key-is c q r part) c.word_at-seen.ensures
+seen-is c q r part = seen_word part (key-is (goal.at.After-word_at-seen c).After-key_at-key q r part) c.word_at-seen.ensures
 
 pub overflow_add-offsets : goal.overflow_add-offsets
 overflow_add-offsets c =
@@ -88,14 +88,14 @@ returns-then-asks_seen c =
     }
 
 -- it does not
-unasked : (c : Else-asks_seen) (q : Query) (r : ℕ) → Asked c q r → asks_seen q.rule ≡ false
-unasked c q r part = asks-is c q r part ∙ c.if-asks_seen.false
+unasked : (c : Else-asks_seen) (q : Query) (r : ℕ) → Asked (goal.at.Else-asks_seen c).Start q r → asks_seen q.rule ≡ false
+unasked c q r part = asks-is (goal.at.Else-asks_seen c).After-asks_seen q r part ∙ c.if-asks_seen.false
 
-rank-there : (c : Else-asks_seen) (q : Query) (r : ℕ) → Asked c q r
+rank-there : (c : Else-asks_seen) (q : Query) (r : ℕ) → Asked (goal.at.Else-asks_seen c).Start q r
     → let a = c.args in
     RankThere a.lay q a.work.now (c.key_at-key.result - 1)
 rank-there c q r part =
-    record { index = part.index; below = omega (arith, key-is c q r part, part.last) }
+    record { index = part.index; below = omega (arith, key-is (goal.at.Else-asks_seen c).After-key_at-key q r part, part.last) }
 
 pub overflow_sub-key : goal.overflow_sub-key
 overflow_sub-key c =
@@ -125,12 +125,12 @@ returns-then-is_held c =
       clear = c.visit_node-then-is_held.ensures.clear;
     }
 
-unheld : (c : Else-is_held) (q : Query) (r : ℕ) → Asked c q r → inverted_list q r ≡ []
+unheld : (c : Else-is_held) (q : Query) (r : ℕ) → Asked (goal.at.Else-is_held c).Start q r → inverted_list q r ≡ []
 unheld c q r part =
-    let key = key-is c q r part in
+    let key = key-is (goal.at.Else-is_held c).After-key_at-key q r part in
     let rank : c.key_at-key.result - 1 ≡ r = omega (arith, key) in
     subst (λ (n : ℕ). inverted_list q n ≡ []) rank
-    (c.is_held_lem.ensures q (rank-there c q r part) c.if-is_held.false)
+    (c.is_held_lem.ensures q (rank-there (goal.at.Else-is_held c).Else-asks_seen q r part) c.if-is_held.false)
 
 pub keep_list-top-requires : goal.keep_list-top-requires
 keep_list-top-requires c =

@@ -3,7 +3,7 @@ use mathlib.Core.Path.{◌≡◌, refl, sym, ap, subst, ◌∙◌}
 use mathlib.Core.List.{List, [], ◌∷◌, ◌++◌}
 use native.Mathlib.Numerals.{add-one}
 use native.Mathlib.Omega.{arith}
-use lib.ListN.{get_or, take, drop, set, length-set, drop_of_length-le}
+use lib.ListN.{get_or, drop, set, length-set, drop_of_length-le}
 use lib.Seq.{drop-cons, take-set-le}
 use Rattle.lists.specs.Writing.{Put}
 use Rattle.lists.proofs.Ranges.{length_table, get_d_table}
@@ -11,12 +11,8 @@ use Rattle.lists.proofs.Slices.{frame_at}
 use Rattle.lists.proofs.Writing.{Writing, writing_start, writing_step, writing_end}
 use Rattle.merge_rows.specs.ShortLists.{pairs_with, right_places, CopyRoom}
 use Rattle.merge_rows.proofs.ShortWriting.{put_pair, length_pairs}
+use Rattle.merge_rows.proofs.listed.put_copy.Invariants.{CopyLeft}
 use Rattle.merge_rows.proofs.listed.put_copy.Goals as goal
-
-record CopyLeft (was : List ℕ) (from n k at : ℕ) (is : List ℕ) (i : ℕ) : Type 0 where
-  writing : Writing was at (pairs_with k (right_places was from n)) is (at + 2 * i) (pairs_with k (drop i (right_places was from n)))
-  low : take at is ≡ take at was
-  within : i ≤ n
 
 copy_start : {from n k at : ℕ} {was : List ℕ} → CopyRoom from n k at was → CopyLeft was from n k at was 0
 copy_start {from} {n} {k} {at} {was} room =

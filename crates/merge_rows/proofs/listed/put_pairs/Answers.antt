@@ -1,4 +1,4 @@
-use Prim.Native.Nat.{ℕ, ◌+◌, ◌-◌, ◌^◌, ◌<◌, ◌≤◌}
+use Prim.Native.Nat.{ℕ, ◌+◌, ◌-◌, ◌<◌, ◌≤◌}
 use mathlib.Core.Path.{◌≡◌, ap, ◌∙◌}
 use mathlib.Core.List.{List, [], ◌∷◌, ◌++◌}
 use native.Mathlib.Omega.{arith}
@@ -6,18 +6,15 @@ use lib.Bits.{bit_and, and_le_l}
 use lib.Count.{count_trailing_zeros, trailing_le}
 use lib.ListN.{length, set, length-set}
 use Rattle.lists.specs.Writing.{Put}
-use Rattle.lists.proofs.Writing.{Writing, writing_start, writing_room, writing_step, writing_end}
+use Rattle.lists.proofs.Writing.{writing_start, writing_room, writing_step, writing_end}
 use Rattle.bit_sets.specs.BitSets.{digits_from}
 use Rattle.bit_sets.proofs.Digits.{digits_none}
 use Rattle.bit_sets.proofs.Lowest.{digits_lowest}
 use Rattle.merge_rows.specs.ShortLists.{pairs_with}
 use Rattle.merge_rows.proofs.ShortWriting.{put_pair}
+use Rattle.merge_rows.proofs.listed.put_pairs.Invariants.{PairsLeft}
 use Rattle.merge_rows.proofs.listed.put_pairs.Goals as goal
 use Rattle.merge_rows.proofs.listed.put_pairs.Goals.{In-loop-rest}
-
-record PairsLeft (was : List ℕ) (at word k base : ℕ) (is : List ℕ) (rest end : ℕ) : Type 0 where
-  writing : Writing was at (pairs_with k (digits_from 64 base word)) is end (pairs_with k (digits_from 64 base rest))
-  small : rest < 2 ^ 64
 
 module _ {was : List ℕ} {at word k base : ℕ} {is : List ℕ} {rest end : ℕ} (left : PairsLeft was at word k base is rest end) where
   module _ (some : rest ≡ 0 → ⊥) where

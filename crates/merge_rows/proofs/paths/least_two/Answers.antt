@@ -11,13 +11,9 @@ use Rattle.lists.proofs.Bools.{by_test, same_test}
 use Rattle.lists.proofs.Counting.{count-take}
 use Rattle.merge_rows.specs.FirstRanks.{key_of, keys_below, FewerBelow, LeastTwo}
 use Rattle.merge_rows.proofs.RankCounts.{RankAt, rank_at}
+use Rattle.merge_rows.proofs.paths.least_two.Invariants.{LeastSoFar}
 use Rattle.merge_rows.proofs.paths.least_two.Goals as goal
 use Rattle.merge_rows.proofs.paths.least_two.Goals.{In-loop-e}
-
-record LeastSoFar (ranks set : List ℕ) (first second e : ℕ) : Type 0 where
-  one_below : FewerBelow ranks (take e set) 1 first
-  two-below : FewerBelow ranks (take e set) 2 second
-  within : e ≤ length set
 
 -- two tests that agree, read as facts and made of them
 there : (a b c d : ℕ) → leb a b ≡ ltb c d → a ≤ b → c < d

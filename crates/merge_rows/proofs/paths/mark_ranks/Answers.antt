@@ -12,12 +12,9 @@ use Rattle.lists.proofs.Membership.{memb_append}
 use Rattle.bit_sets.specs.BitSets.{member, Inserted}
 use Rattle.merge_rows.specs.FirstRanks.{RanksMarked}
 use Rattle.merge_rows.proofs.RankCounts.{RankAt, rank_at}
+use Rattle.merge_rows.proofs.paths.mark_ranks.Invariants.{MarkedSoFar}
 use Rattle.merge_rows.proofs.paths.mark_ranks.Goals as goal
 use Rattle.merge_rows.proofs.paths.mark_ranks.Goals.{In-loop-e}
-
-record MarkedSoFar (ranks set was is : List ℕ) (e : ℕ) : Type 0 where
-  marked : RanksMarked ranks (take e set) was is
-  within : e ≤ length set
 
 marked_start : (ranks set was : List ℕ) → MarkedSoFar ranks set was was 0
 unfolding memb

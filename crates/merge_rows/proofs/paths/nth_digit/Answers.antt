@@ -22,14 +22,8 @@ use Rattle.bit_sets.proofs.Lowest.{digits_lowest}
 use Rattle.merge_rows.specs.FirstRanks.{NthDigit}
 use Rattle.merge_rows.proofs.ShortWriting.{length_digits}
 use Rattle.merge_rows.proofs.RankCounts.{rising_index}
+use Rattle.merge_rows.proofs.paths.nth_digit.Invariants.{DigitsLeft}
 use Rattle.merge_rows.proofs.paths.nth_digit.Goals as goal
-
-record DigitsLeft (word n rest left : ℕ) : Type 0 where
-  some : 0 < left
-  within : left ≤ n
-  enough : n ≤ length (digits_from 64 0 word)
-  small : rest < 2 ^ 64
-  digits : digits_from 64 0 rest ≡ drop (n - left) (digits_from 64 0 word)
 
 digits-start : (word n : ℕ) → 0 < n → n ≤ count (bit_at word) (upto 64) → word < 2 ^ 64 → DigitsLeft word n word n
 digits-start word n some enough small =

@@ -9,12 +9,8 @@ use Rattle.lists.proofs.Ranges.{range_append}
 use Rattle.bit_sets.specs.BitSets.{bit_at, member}
 use Rattle.bit_sets.proofs.Counted.{count_word}
 use Rattle.merge_rows.specs.FirstRanks.{NthDigit, NthMember}
+use Rattle.merge_rows.proofs.paths.nth_member.Invariants.{MembersLeft}
 use Rattle.merge_rows.proofs.paths.nth_member.Goals as goal
-
-record MembersLeft (words : List ℕ) (n left w : ℕ) : Type 0 where
-  some : 0 < left
-  total : count (member words) (upto (64 * w)) + left ≡ n
-  within : w ≤ length words
 
 members-start : (words : List ℕ) (n : ℕ) → 0 < n → MembersLeft words n n 0
 unfolding count range

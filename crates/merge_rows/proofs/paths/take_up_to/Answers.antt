@@ -5,26 +5,15 @@ use mathlib.Core.Bool.{Bool, true, false}
 use native.Mathlib.Nat.{add-zero}
 use native.Mathlib.Numerals.{add-one}
 use native.Mathlib.Omega.{arith}
-use lib.Dec.{leb}
 use lib.ListN.{length, get_or, take, drop, set, length-set, drop_of_length-le}
 use lib.Seq.{drop-cons, take-set-le, take-suc-set}
-use Rattle.lists.specs.Lists.{one, onto, count, keep}
+use Rattle.lists.specs.Lists.{one, onto, keep}
 use Rattle.lists.proofs.Counting.{one_bound, count-drop, count-drop_end}
 use Rattle.merge_rows.specs.FirstRanks.{UpToTaken}
 use Rattle.merge_rows.proofs.RankCounts.{RankAt, rank_at}
+use Rattle.merge_rows.proofs.paths.take_up_to.Invariants.{TakingUpTo, passes}
 use Rattle.merge_rows.proofs.paths.take_up_to.Goals as goal
 use Rattle.merge_rows.proofs.paths.take_up_to.Goals.{In-loop-e}
-
--- whether an item has a rank up to last
-abbrev passes : List ℕ → ℕ → ℕ → Bool
-passes ranks last x = leb (get_or ranks x 0) last
-
-record TakingUpTo (ranks items : List ℕ) (last : ℕ) (was is : List ℕ) (n e : ℕ) : Type 0 where
-  taken : take n is ++ keep (passes ranks last) (drop e items) ≡ keep (passes ranks last) items
-  total : n + count (passes ranks last) (drop e items) ≡ count (passes ranks last) items
-  low : n ≤ e
-  within : e ≤ length items
-  same : length is ≡ length was
 
 -- one number more in front of the rest, where it passes
 take-onto : (l : List ℕ) (n x : ℕ) (rest : List ℕ) → n < length l → (b : Bool)

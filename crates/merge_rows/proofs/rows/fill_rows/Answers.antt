@@ -21,11 +21,11 @@ set_here : (c : In-loop-s)
     let l = c.loop-s in
     SetAt a.t l.s l.start (get_or a.ends.now l.s 0) (get_or (sets_of a.ends.now a.items.now) l.s []) a.items.now
 set_here c =
-    set_next c.loop-s.invariant.1 c.requires.few c.requires.good (room-there c) (omega arith)
+    set_next c.loop-s.invariant.1 c.requires.few c.requires.good (room-there (goal.at.In-loop-s c).At-loop-s) (omega arith)
 
 block_here : (c : In-loop-s) → BlockRoom c.args.t c.loop-s.s c.loop-s.work
 block_here c =
-    block_room c.loop-s.invariant.1 c.requires.few c.requires.good (room-there c) (omega arith)
+    block_room c.loop-s.invariant.1 c.requires.few c.requires.good (room-there (goal.at.In-loop-s c).At-loop-s) (omega arith)
 
 pub loop-s-init : goal.loop-s-init
 loop-s-init c = (

@@ -13,12 +13,9 @@ use Rattle.bit_sets.proofs.Digits.{bit_of_zero}
 use Rattle.bit_sets.proofs.Lowest.{bit_and_lem}
 use Rattle.signatures.specs.Signing.{double}
 use Rattle.merge_rows.specs.Words.{digit}
+use Rattle.merge_rows.proofs.shared.shared.Invariants.{sharedFrom}
 use Rattle.merge_rows.proofs.shared.shared.Goals as goal
 use Rattle.merge_rows.proofs.shared.shared.Goals.{After-shared_slice_known-in-loop-e-1}
-
--- the digits of a word that the items from e on have
-abbrev sharedFrom : List ℕ → ℕ → List ℕ → ℕ → ℕ → ℕ → Bool
-sharedFrom w from list e word j = bit_at word j && all (λ x. digit w (from + x) j) (drop e list)
 
 module _ (w : List ℕ) (from : ℕ) (list : List ℕ) (e rest j : ℕ) where
   step : e < length list

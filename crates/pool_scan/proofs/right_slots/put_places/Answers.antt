@@ -31,7 +31,7 @@ room c =
     omega (
       arith,
       c.number_slot-slot.ensures,
-      placing_room c.loop-side.invariant (read c) c.requires.numbers_noted (byte c) (is_right c),
+      placing_room c.loop-side.invariant (read (goal.at.After-number_slot-slot c).In-Record-2) c.requires.numbers_noted (byte (goal.at.After-number_slot-slot c).In-Record-2) (is_right c),
     )
 
 pub loop-side-init : goal.loop-side-init

@@ -15,7 +15,7 @@ had l = l.requires.some_adding.adding
 going : (l : At-loop-k)
     → let a = l.args in
     Going l.requires.some_adding.done a.file.now a.start a.count a.sum.tag_count a.heads.now a.tails.now a.ids.now
-    l.loop-k.k l.loop-k.tag-count l.loop-k.distinct l.loop-k.heads l.loop-k.tails l.loop-k.ids l.loop-k.seen
+    l.loop-k.k l.loop-k.tag_count l.loop-k.distinct l.loop-k.heads l.loop-k.tails l.loop-k.ids l.loop-k.seen
 going l = l.loop-k.invariant.0 l.requires.some_adding.done (had l)
 
 pub loop-k-init : goal.loop-k-init

@@ -3,9 +3,8 @@ use mathlib.Core.List.{List, []}
 use Prim.Native.Nat.{ℕ, ◌+◌, ◌-◌, ◌/◌, ◌≤◌, ◌<◌}
 use native.Mathlib.Omega.{arith}
 use lib.ListN.{length, drop, get_or, length-append, drop_of_length-le}
-use Rattle.sets.specs.Collections.{between, sets_from, first_bad_from}
+use Rattle.sets.specs.Collections.{between, sets_from}
 use Rattle.sets.specs.declared.Side.{Side}
-use Rattle.sets.specs.declared.Verdict.TheVariants.{Good}
 use Rattle.sets.proofs.Between.{length-between}
 use Rattle.sets.proofs.Good.{GoodSet, good_step, good_next}
 use Rattle.tag_file.specs.Format.{tag_length, record_length, record_bytes}
@@ -14,20 +13,9 @@ use Rattle.tag_writer_spec.specs.Inner.{ItemsFit, GoodSide}
 use Rattle.tag_writer_spec.specs.Writer.{item_tags, records_of}
 use Rattle.lists.proofs.Filling.{sets_then}
 use Rattle.tag_writer_spec.proofs.Sides.{fit_items, length_record, records_next}
+use Rattle.tag_writer.proofs.record_writer.put_side.Invariants.{PuttingRecords, rest}
 use Rattle.tag_writer.proofs.record_writer.put_side.Goals as goal
 use Rattle.tag_writer.proofs.record_writer.put_side.Goals.{In-loop-k}
-
--- the records from place k on, the first set beginning at start
-abbrev rest : Side → List ℕ → List ℕ → List ℕ → List ℕ → ℕ → ℕ → List ℕ
-rest side tags numbers ends items k start = records_of side tags (drop k numbers) (sets_from start (drop k ends) items)
-
-record PuttingRecords (side : Side) (tags numbers ends items file₀ : List ℕ) (at : ℕ) (file : List ℕ)
-    (k start to : ℕ) : Type 0 where
-  within : k ≤ length ends
-  long : length file ≡ length file₀
-  good : first_bad_from (length tags / tag_length) k start (drop k ends) items ≡ Good
-  place : to + length (rest side tags numbers ends items k start) ≡ at + length (rest side tags numbers ends items 0 0)
-  together : sets file to (rest side tags numbers ends items k start) ≡ sets file₀ at (rest side tags numbers ends items 0 0)
 
 putting-start : (side : Side) (tags numbers ends items file : List ℕ) (at : ℕ) → GoodSide tags numbers ends items
     → PuttingRecords side tags numbers ends items file at file 0 0 at

@@ -3,25 +3,14 @@ use mathlib.Core.List.{List}
 use Prim.Native.Nat.{ℕ, ◌+◌, ◌*◌, ◌-◌, ◌≤◌, ◌<◌}
 use native.Mathlib.Omega.{arith}
 use lib.ListN.{length, take, drop, get_or, length-take, length-drop}
-use Rattle.sets.specs.Collections.{between}
 use Rattle.tag_file.specs.Format.{tag_length, tag_bytes}
 use lib.Seq.{sets, length-sets}
 use Rattle.tag_writer_spec.specs.Inner.{ItemsFit}
 use Rattle.tag_writer_spec.specs.Writer.{item_tags}
 use Rattle.lists.proofs.Filling.{sets_then}
 use Rattle.tag_writer_spec.proofs.Records.{tags_run}
+use Rattle.tag_writer.proofs.record_writer.put_tags.Invariants.{PuttingTags, run}
 use Rattle.tag_writer.proofs.record_writer.put_tags.Goals as goal
-
--- the tags of the items from start up to end, as bytes
-abbrev run : List ℕ → List ℕ → ℕ → ℕ → List ℕ
-run tags items start end = tag_bytes (item_tags tags (between start end items))
-
-record PuttingTags (tags items : List ℕ) (start end : ℕ) (file₀ : List ℕ) (at : ℕ) (file : List ℕ) (i to : ℕ) : Type 0 where
-  above : start ≤ i
-  within : i ≤ end
-  long : length file ≡ length file₀
-  place : to + tag_length * (end - i) ≡ at + tag_length * (end - start)
-  together : sets file to (run tags items i end) ≡ sets file₀ at (run tags items start end)
 
 putting-start : (tags items : List ℕ) (start end : ℕ) (file : List ℕ) (at : ℕ) → start ≤ end
     → PuttingTags tags items start end file at file start at

@@ -1,20 +1,13 @@
-use mathlib.Core.Path.{◌≡◌, refl, sym, ◌∙◌}
-use mathlib.Core.List.{List}
-use mathlib.Core.Bool.{◌&&◌}
-use Prim.Native.Nat.{ℕ, ◌-◌, ◌<◌, ◌≤◌}
+use mathlib.Core.Path.{refl, sym, ◌∙◌}
+use Prim.Native.Nat.{◌-◌, ◌<◌}
 use native.Mathlib.Omega.{arith}
 use borrow.Author.Tests.{ltb-true}
-use lib.Dec.{eqb, ltb}
-use lib.ListN.{length, drop, get_or, length-set}
+use lib.Dec.{ltb}
+use lib.ListN.{length, get_or, length-set}
 use Rattle.lists.proofs.Throughout.{all_at}
-use Rattle.validation.proofs.permutations.Fresh.{fresh_in, fresh_start, fresh_next, fresh_end}
+use Rattle.validation.proofs.permutations.Fresh.{fresh_start, fresh_next, fresh_end}
 use Rattle.validation.proofs.permutations.all_distinct.Goals as goal
 use Rattle.validation.proofs.permutations.all_distinct.Goals.{After-slice_known-1}
-
-record FreshLeft (ranks was seen : List ℕ) (again i : ℕ) : Type 0 where
-  low : i ≤ length ranks
-  left : (eqb again 0 && fresh_in seen (drop i ranks)) ≡ fresh_in was ranks
-  same : length seen ≡ length was
 
 -- the rank at hand has a mark
 marked : (c : After-slice_known-1)
@@ -36,8 +29,8 @@ loop-i-init c = record { low = omega arith; left = refl; same = refl }
 pub overflow_cast-x : goal.overflow_cast-x
 overflow_cast-x c = omega (arith, c.type_inv.ranks c.loop-i.i)
 
-pub slice-read-preserved : goal.slice-read-preserved
-slice-read-preserved c = marked (goal.at.slice-read-preserved c).After-slice_known-1
+pub bounds-seen-x : goal.bounds-seen-x
+bounds-seen-x c = marked (goal.at.bounds-seen-x c).After-slice_known-1
 
 pub bounds-seen-x-in-loop-i : goal.bounds-seen-x-in-loop-i
 bounds-seen-x-in-loop-i c = marked (goal.at.bounds-seen-x-in-loop-i c).After-slice_known-1
