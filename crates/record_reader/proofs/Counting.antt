@@ -12,6 +12,7 @@ use lib.ListN.{replicate}
 use Rattle.lists.specs.Lists.{one, memb}
 use Rattle.lists.proofs.Counting.{one_bound}
 use Rattle.sets.specs.Limits.{max_set_length}
+use Rattle.sets.specs.declared.Side.{Side}
 use Rattle.tag_file.specs.Reading.{read_at, tags_at}
 use Rattle.tag_file.specs.Records.{insert_all}
 use Rattle.tag_file.specs.Repeats.{repeats_in, repeats_read, record_read}
