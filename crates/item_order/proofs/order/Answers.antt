@@ -12,7 +12,7 @@ use Rattle.item_order.proofs.order.Goals.{After-test_order-tested, Start}
 abbrev input : Start → Input
 input s =
     let a = s.args in
-    input_of a.t a.left-ends.now a.left-items.now a.right-ends.now a.right-items.now
+    input_of a.t a.left_ends.now a.left_items.now a.right_ends.now a.right_items.now
 
 found : (p : After-test_order-tested) → order_test (input (goal.at.After-test_order-tested p).Start) (length p.args.ranks.now) ≡ p.test_order-tested.result
 found p = sym p.test_order-tested.ensures

@@ -10,7 +10,7 @@ use Rattle.item_order.proofs.test_order.Goals.{After-test_items-items, Start}
 abbrev input : Start → Input
 input s =
     let a = s.args in
-    input_of a.t a.left-ends.now a.left-items.now a.right-ends.now a.right-items.now
+    input_of a.t a.left_ends.now a.left_items.now a.right_ends.now a.right_items.now
 
 found : (p : After-test_items-items) → items_test p.args.t ≡ p.test_items-items.result
 found p = sym p.test_items-items.ensures

@@ -16,7 +16,7 @@ merge_sets-requires c =
 pub returns-then-rows : goal.returns-then-rows
 returns-then-rows c =
     let a = c.args in
-    let i = input_of a.t a.left-ends.now a.left-items.now a.right-ends.now a.right-items.now in
+    let i = input_of a.t a.left_ends.now a.left_items.now a.right_ends.now a.right_items.now in
     record {
       answer = rows_answer i a.limit a.ranks.now (length a.work.now) a.rule a.budget (length a.pairs.now)
           (sym c.takes_rows-rows.ensures ∙ c.if-rows.true) c.merge_sets.ensures.answer;

@@ -10,8 +10,8 @@ use Rattle.join.proofs.walk_sets.Goals.{After-build-lay, After-walk-walked, Star
 
 abbrev input : Start → Input
 input c =
-    input_of c.args.t c.args.left-ends.now c.args.left-items.now c.args.right-ends.now
-    c.args.right-items.now
+    input_of c.args.t c.args.left_ends.now c.args.left_items.now c.args.right_ends.now
+    c.args.right_items.now
 
 -- the index that was built, and what the walk over it found
 index : (c : After-build-lay)

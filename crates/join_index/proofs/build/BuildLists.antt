@@ -35,7 +35,7 @@ use Rattle.join_index.proofs.build.BuildStages.{Built, least_ranges, order_range
 order_from_lem : (q : Query) (n d : ℕ) → ordered_by (key_at q) q.T (upto (length q.lefts)) n d ≡ order_from q n d
 unfolding ordered_by order_from
 order_from_lem q zero d = refl
-order_from_lem q (suc n) d = ap (λ (l : List ℕ). grouped (key_at q d) (suc q.T) l) (order_from q n (suc d))
+order_from_lem q (suc n) d = ap (λ (l : List ℕ). grouped (key_at q d) (suc q.T) l) (order_from_lem q n (suc d))
 
 module _ {left_ends left_items right_ends right_items ranks w a b c d f : List ℕ} {nl nr limit : ℕ} {rule : Rule} {lay : Layout}
     (built : Built left_ends left_items right_ends right_items ranks nl nr limit rule lay w a b c d f) where

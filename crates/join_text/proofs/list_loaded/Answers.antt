@@ -14,21 +14,20 @@ use Rattle.join_text.proofs.list_loaded.Goals.{After-order-answer}
 abbrev input : After-order-answer → Input
 input p =
     let a = p.args in
-    input_of a.t a.left-ends.now a.left-items.now a.right-ends.now a.right-items.now
+    input_of a.t a.left_ends.now a.left_items.now a.right_ends.now a.right_items.now
 
 pub returns-in-Ordered : goal.returns-in-Ordered
 returns-in-Ordered c =
     let a = c.args in
     fills_same
-    (ap (λ (ranks : List ℕ). join_text a.repeats a.left-numbers.now a.right-numbers.now (input (goal.at.returns-in-Ordered c).After-order-answer) (settings_under ranks))
+    (ap (λ (ranks : List ℕ). join_text a.repeats a.left_numbers.now a.right_numbers.now (input (goal.at.returns-in-Ordered c).After-order-answer) (settings_under ranks))
     (ordered_ranks (input (goal.at.returns-in-Ordered c).After-order-answer) c.order-answer.ensures c.in-Ordered.is))
     c.list_ordered.ensures
 
 pub returns-in-Refused : goal.returns-in-Refused
 returns-in-Refused c =
     let a = c.args in
-    let line = c.put_refusal in
     fills_same
     (refused_order (input (goal.at.returns-in-Refused c).After-order-answer) c.order-answer.ensures c.in-Refused.is c.requires.ranks_len
-    a.repeats a.left-numbers.now a.right-numbers.now)
-    (put_fills line.ensures.0 (omega (arith, line.ensures.1, c.requires.numbered.room)))
+    a.repeats a.left_numbers.now a.right_numbers.now)
+    (put_fills c.put_refusal.ensures.put (omega (arith, c.put_refusal.ensures.upper_bound, c.requires.numbered.room)))

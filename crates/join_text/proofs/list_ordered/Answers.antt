@@ -11,7 +11,7 @@ use Rattle.join_text.proofs.list_ordered.Goals.{After-run-answer}
 abbrev input : After-run-answer → Input
 input p =
     let a = p.args in
-    input_of a.t a.left-ends.now a.left-items.now a.right-ends.now a.right-items.now
+    input_of a.t a.left_ends.now a.left_items.now a.right_ends.now a.right_items.now
 
 abbrev asked : After-run-answer → Settings
 asked p = settings_under p.args.ranks.now
@@ -24,14 +24,13 @@ ran p = p.run-answer.ensures
 pub put_answer-requires : goal.put_answer-requires
 put_answer-requires c =
     let a = c.args in
-    answer_fits (input (goal.at.put_answer-requires c).After-run-answer) (asked (goal.at.put_answer-requires c).After-run-answer) a.repeats a.left-numbers.now a.right-numbers.now (ran (goal.at.put_answer-requires c).After-run-answer)
+    answer_fits (input (goal.at.put_answer-requires c).After-run-answer) (asked (goal.at.put_answer-requires c).After-run-answer) a.repeats a.left_numbers.now a.right_numbers.now (ran (goal.at.put_answer-requires c).After-run-answer)
     c.new_pairs-pairs.ensures _ c.run-answer.auto.pairs c.requires.room
     c.requires.lefts c.requires.rights
 
 pub returns : goal.returns
 returns c =
-    let text = c.put_answer in
     let a = c.args in
-    fills_same (call_text (input (goal.at.returns c).After-run-answer) (asked (goal.at.returns c).After-run-answer) a.repeats a.left-numbers.now a.right-numbers.now (ran (goal.at.returns c).After-run-answer)
+    fills_same (call_text (input (goal.at.returns c).After-run-answer) (asked (goal.at.returns c).After-run-answer) a.repeats a.left_numbers.now a.right_numbers.now (ran (goal.at.returns c).After-run-answer)
     c.new_pairs-pairs.ensures c.new_work-work.ensures)
-    (put_fills text.ensures.0 text.ensures.1)
+    (put_fills c.put_answer.ensures.put c.put_answer.ensures.upper_bound)

@@ -8,7 +8,7 @@ pub returns : goal.returns
 returns c =
     let loaded =
     c in
-    let given = loaded.load-pooled.ensures in
+    let given = loaded.load_pooled.ensures in
     record {
       answer = c.load_words.ensures ∙ ap load_words given.answered;
       lists = call_defined given;

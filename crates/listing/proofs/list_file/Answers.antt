@@ -7,9 +7,8 @@ use Rattle.listing.proofs.list_file.Goals as goal
 
 pub returns-then-file-gt-MAX_FILE : goal.returns-then-file-gt-MAX_FILE
 returns-then-file-gt-MAX_FILE c =
-    let line = c.put_refusal in
     fills_same (sym (listing_long c.args.file.now c.if-file-gt-MAX_FILE.true))
-    (put_fills line.ensures.0 (omega (arith, line.ensures.1, line.auto.0)))
+    (put_fills c.put_refusal.ensures.put (omega (arith, c.put_refusal.ensures.upper_bound, c.put_refusal.auto.text)))
 
 pub returns : goal.returns
 returns c =

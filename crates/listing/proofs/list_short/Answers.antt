@@ -47,7 +47,6 @@ returns-in-Loaded c =
 
 pub returns-in-Refused : goal.returns-in-Refused
 returns-in-Refused c =
-    let line = c.put_refusal in
     fills_same
     (refused_load c.args.file.now {lent = lent (goal.at.returns-in-Refused c).After-load-answer} {got = got (goal.at.returns-in-Refused c).After-load-answer} c.load-answer.ensures c.in-Refused.is (program-lists (goal.at.returns-in-Refused c).After-load-answer) c.requires.0)
-    (put_fills line.ensures.0 (omega (arith, line.ensures.1, c.requires.1)))
+    (put_fills c.put_refusal.ensures.put (omega (arith, c.put_refusal.ensures.upper_bound, c.requires.1)))

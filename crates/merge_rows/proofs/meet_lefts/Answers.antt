@@ -14,8 +14,8 @@ use Rattle.merge_rows.proofs.meet_lefts.Goals.{In-loop-k}
 set_here : (c : In-loop-k)
     → let a = c.args in
     let l = c.loop-k in
-    SetAt a.r.t l.k l.start (get_or a.left-ends.now l.k 0) (get_or (sets_of a.left-ends.now a.left-items.now) l.k [])
-    a.left-items.now
+    SetAt a.r.t l.k l.start (get_or a.left_ends.now l.k 0) (get_or (sets_of a.left_ends.now a.left_items.now) l.k [])
+    a.left_items.now
 set_here c = this_set c.loop-k.invariant c.loop-k-test.true
 
 pub loop-k-init : goal.loop-k-init

@@ -12,7 +12,7 @@ use Rattle.merge_rows.proofs.merge_sets.Goals.{After-meet_lefts-merged}
 done : (c : After-meet_lefts-merged)
     → let a = c.args in
     AllMet
-    (merge_query a.t a.left-ends.now a.left-items.now a.right-ends.now a.right-items.now a.limit a.ranks.now)
+    (merge_query a.t a.left_ends.now a.left_items.now a.right_ends.now a.right_items.now a.limit a.ranks.now)
     a.budget c.meet_lefts-merged.result a.pairs.now c.meet_lefts-merged.new.pairs
 done c = merge_met c.requires c.lay_rows-r.ensures c.meet_lefts-merged.ensures
 

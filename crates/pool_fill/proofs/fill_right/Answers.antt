@@ -36,8 +36,7 @@ read a = sym a.read_record-answer.ensures ∙ a.in-Record.is
 right_side : (o : Else-not-is_side)
     → same_side Right o.in-Record.side ≡ true
 right_side o =
-    let side = o.is_side in
-    sym side.ensures ∙ not-false side.result o.if-not-is_side.false-raw
+    sym o.is_side.ensures ∙ not-false o.is_side.result o.if-not-is_side.false-raw
 
 bytes : (a : At-loop-side) (i : ℕ) → get_or a.args.first.now i 0 < 256
 bytes a i = (a.type_inv.first i).fits
@@ -65,8 +64,7 @@ read-second a = sym a.read_record-answer-in-loop-side-2.ensures ∙ a.in-Record-
 second-right-side : (o : Else-not-is_side-2)
     → same_side Right o.in-Record-answer.side ≡ true
 second-right-side o =
-    let side = o.is_side-in-loop-side-2 in
-    sym side.ensures ∙ not-false side.result o.if-not-is_side-2.false-raw
+    sym o.is_side-in-loop-side-2.ensures ∙ not-false o.is_side-in-loop-side-2.result o.if-not-is_side-2.false-raw
 
 second-bytes : (a : At-loop-side-2) (i : ℕ) → get_or a.args.second.now i 0 < 256
 second-bytes a i =
@@ -125,9 +123,8 @@ loop-side-smaller-then-not-is_side c = read_less _ _ (read (goal.at.loop-side-sm
 
 pub loop-side-preserved-then-not-is_side : goal.loop-side-preserved-then-not-is_side
 loop-side-preserved-then-not-is_side c =
-    let side = c.is_side in
     first_walk_skip c.requires c.loop-side.invariant (read (goal.at.loop-side-preserved-then-not-is_side c).In-Record)
-    (sym side.ensures ∙ not-true side.result c.if-not-is_side.true-raw)
+    (sym c.is_side.ensures ∙ not-true c.is_side.result c.if-not-is_side.true-raw)
 
 pub slice_bounds-mark_tags-end : goal.slice_bounds-mark_tags-end
 slice_bounds-mark_tags-end c = sym c.loop-side.invariant.unmarked.wide
@@ -189,8 +186,7 @@ shape_of-items-in_default-answer c = (second_walk (goal.at.shape_of-items-in_def
 pub returns-in_default-answer : goal.returns-in_default-answer
 returns-in_default-answer c =
     let w = second_walk (goal.at.returns-in_default-answer c).At-loop-side-2 in
-    let got = c.read_record-answer-in-loop-side-2 in
-    let stop = no_records c.args.second.now c.loop-side-2.on got.result (sym got.ensures) c.in_default-answer.not-Record in
+    let stop = no_records c.args.second.now c.loop-side-2.on c.read_record-answer-in-loop-side-2.result (sym c.read_record-answer-in-loop-side-2.ensures) c.in_default-answer.not-Record in
     record {
       numbers = walked_numbers c.requires w stop;
       ends = walked_ends c.requires w stop;
@@ -205,10 +201,9 @@ loop-side-2-smaller-then-not-is_side-2 c = read_less _ _ (read-second (goal.at.l
 
 pub loop-side-2-preserved-then-not-is_side-2 : goal.loop-side-2-preserved-then-not-is_side-2
 loop-side-2-preserved-then-not-is_side-2 c =
-    let side = c.is_side-in-loop-side-2 in
     λ n₀ e₀ i₀ w.
     second_walk_skip c.requires (c.loop-side-2.invariant n₀ e₀ i₀ w) (read-second (goal.at.loop-side-2-preserved-then-not-is_side-2 c).In-Record-answer)
-    (sym side.ensures ∙ not-true side.result c.if-not-is_side-2.true-raw)
+    (sym c.is_side-in-loop-side-2.ensures ∙ not-true c.is_side-in-loop-side-2.result c.if-not-is_side-2.true-raw)
 
 pub slice_bounds-mark_tags-end-in-loop-side-2 : goal.slice_bounds-mark_tags-end-in-loop-side-2
 slice_bounds-mark_tags-end-in-loop-side-2 c = sym (second_walk (goal.at.slice_bounds-mark_tags-end-in-loop-side-2 c).At-loop-side-2).unmarked.wide

@@ -11,8 +11,8 @@ use Rattle.tag_writer.proofs.test_lists.Goals.{After-test_numbered-left, After-t
 abbrev lists : Start → Lists
 lists s =
     let a = s.args in
-    lists_of a.tags.now a.left_numbers.now a.left-ends.now a.left-items.now
-    a.right-numbers.now a.right-ends.now a.right-items.now
+    lists_of a.tags.now a.left_numbers.now a.left_ends.now a.left_items.now
+    a.right_numbers.now a.right_ends.now a.right_items.now
 
 -- what was found of the table, and of the left sets
 table : (p : After-test_table-table) → table_test p.args.t (lists (goal.at.After-test_table-table p).Start).tags ≡ p.test_table-table.result

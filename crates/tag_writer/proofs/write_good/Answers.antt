@@ -13,8 +13,8 @@ use Rattle.tag_writer.proofs.write_good.Goals.{After-side_length-right, Start}
 abbrev lists : Start → Lists
 lists s =
     let a = s.args in
-    lists_of a.tags.now a.left_numbers.now a.left-ends.now a.left-items.now
-    a.right-numbers.now a.right-ends.now a.right-items.now
+    lists_of a.tags.now a.left_numbers.now a.left_ends.now a.left_items.now
+    a.right_numbers.now a.right_ends.now a.right_items.now
 
 left-long : (p : After-side_length-right) → length (left_bytes (lists (goal.at.After-side_length-right p).Start)) ≡ p.side_length-left.result
 left-long p = left_size (lists (goal.at.After-side_length-right p).Start) p.requires ∙ sym p.side_length-left.ensures

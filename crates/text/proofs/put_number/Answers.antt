@@ -19,6 +19,5 @@ put_word-requires c =
 
 pub returns : goal.returns
 returns c =
-    let call = c.put_word in
-    subst (λ (l : List ℕ). Put c.args.text.now c.args.at l call.result call.new.text)
-    (spelled (goal.at.returns c).After-decimal-n) call.ensures
+    subst (λ (l : List ℕ). Put c.args.text.now c.args.at l c.put_word.result c.put_word.new.text)
+    (spelled (goal.at.returns c).After-decimal-n) c.put_word.ensures

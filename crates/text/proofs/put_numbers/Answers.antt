@@ -11,43 +11,37 @@ put_labelled-n-requires c =
 
 pub put_labelled-m-requires : goal.put_labelled-m-requires
 put_labelled-m-requires c =
-    let first = c.put_labelled-n in
     omega (
       arith,
       c.requires,
-      first.ensures.past,
-      first.auto.text,
+      c.put_labelled-n.ensures.past,
+      c.put_labelled-n.auto.text,
       long_labelled c.args.word.now c.args.first c.ranges.first.fits,
       long_labelled (ascii " ") c.args.second c.ranges.second.fits,
     )
 
 pub put_word-requires : goal.put_word-requires
 put_word-requires c =
-    let second = c.put_labelled-m in
-    let first = c.put_labelled-n in
     omega (
       arith,
       c.requires,
-      first.ensures.past,
-      first.auto.text,
-      second.ensures.past,
-      second.auto.0,
+      c.put_labelled-n.ensures.past,
+      c.put_labelled-n.auto.text,
+      c.put_labelled-m.ensures.past,
+      c.put_labelled-m.auto.text,
       long_labelled c.args.word.now c.args.first c.ranges.first.fits,
       long_labelled (ascii " ") c.args.second c.ranges.second.fits,
     )
 
 pub returns : goal.returns
 returns c =
-    let end = c.put_word in
-    let second = c.put_labelled-m in
-    let first = c.put_labelled-n in
     record {
-      put = put_append first.ensures (put_append second.ensures end.ensures);
+      put = put_append c.put_labelled-n.ensures (put_append c.put_labelled-m.ensures c.put_word.ensures);
       upper_bound = omega (
         arith,
-        first.ensures.past,
-        second.ensures.past,
-        end.ensures.past,
+        c.put_labelled-n.ensures.past,
+        c.put_labelled-m.ensures.past,
+        c.put_word.ensures.past,
         long_labelled c.args.word.now c.args.first c.ranges.first.fits,
         long_labelled (ascii " ") c.args.second c.ranges.second.fits,
       );

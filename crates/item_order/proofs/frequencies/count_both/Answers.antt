@@ -8,12 +8,9 @@ count_side-requires c = can_count_left c.requires
 
 pub count_side-requires-2 : goal.count_side-requires-2
 count_side-requires-2 c =
-    let left = c.count_side in
-    can_count_right c.requires left.new.1.1.0 left.auto.1.1.0 left.ensures
+    can_count_right c.requires c.count_side.new.frequencies c.count_side.auto.frequencies c.count_side.ensures
 
 pub returns : goal.returns
 returns c =
-    let left = c.count_side in
-    let right = c.count_side-2 in
-    both_counted c.requires left.new.1.1.0 left.auto.1.1.0 left.ensures right.new.1.1.0
-    right.auto.1.1.0 right.ensures
+    both_counted c.requires c.count_side.new.frequencies c.count_side.auto.frequencies c.count_side.ensures c.count_side-2.new.frequencies
+    c.count_side-2.auto.frequencies c.count_side-2.ensures

@@ -30,7 +30,6 @@ pub returns : goal.returns
 returns c =
     λ q there.
     let a = c.args in
-    let w1 = c.word_at-from in
     let rank = c.word_at.ensures.is ∙ ap (λ (n : ℕ). get_or a.work.now (a.lay.left_ranks + n + a.d) 0)
-    w1.ensures.is in
+    c.word_at-from.ensures.is in
     ap (λ (n : ℕ). n + 1) rank ∙ key_rank a.d there (omega arith)

@@ -23,19 +23,17 @@ returns-then-not-covers c =
 pub gather-r-requires : goal.gather-r-requires
 unfolding sum
 gather-r-requires c =
-    let covered = c.covers in
     record {
       some_query = c.requires.some_query;
-      from_bound = omega (arith, covered.ensures.within (not-false covered.result c.if-not-covers.false-raw));
+      from_bound = omega (arith, c.covers.ensures.within (not-false c.covers.result c.if-not-covers.false-raw));
     }
 
 pub returns : goal.returns
 returns c =
-    let covered = c.covers in
     record {
       tallied = λ calm q there. c.gather-r.ensures.tallied q there;
       within = λ calm.
-          omega (arith, c.gather-r.ensures.grown, covered.ensures.within (not-false covered.result c.if-not-covers.false-raw));
+          omega (arith, c.gather-r.ensures.grown, c.covers.ensures.within (not-false c.covers.result c.if-not-covers.false-raw));
       beyond = λ spent. true-false spent refl;
       top = refl;
     }

@@ -17,20 +17,18 @@ returns-then-not-covers c =
 
 pub record_row-r-requires : goal.record_row-r-requires
 record_row-r-requires c =
-    let covered = c.covers in
     record {
       some_query = c.requires.some_query;
-      from_bound = omega (arith, c.well_formed.1.1.0, covered.ensures.within (not-false covered.result c.if-not-covers.false-raw));
+      from_bound = omega (arith, c.well_formed.1.1.0, c.covers.ensures.within (not-false c.covers.result c.if-not-covers.false-raw));
     }
 
 pub returns : goal.returns
 returns c =
-    let covered = c.covers in
     record {
       framed = record { size = c.record_row-r.ensures.size; frame = c.record_row-r.ensures.frame };
       rows = λ calm q there. c.record_row-r.ensures.rows q there;
       tallied = λ calm q there. c.record_row-r.ensures.checked.tallied q there.row;
       within = λ calm.
-          omega (arith, c.record_row-r.ensures.checked.grown, covered.ensures.within (not-false covered.result c.if-not-covers.false-raw));
+          omega (arith, c.record_row-r.ensures.checked.grown, c.covers.ensures.within (not-false c.covers.result c.if-not-covers.false-raw));
       beyond = λ spent. true-false spent refl;
     }

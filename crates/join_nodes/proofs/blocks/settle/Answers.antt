@@ -12,11 +12,10 @@ merged_end-mid-requires c =
 
 pub pair_ended-at-requires : goal.pair_ended-at-requires
 pair_ended-at-requires c =
-    let end = c.merged_end-mid in
     record {
-      some_query = some-query c.requires.some_path (λ q path going. merged_list going c.requires.lo_lt_hi end.ensures);
-      lo_le_hi = end.ensures.low;
-      is_by_path_bound = going_room c.requires.some_path.holds (end.result - c.args.lo) (omega (arith, end.ensures.high));
+      some_query = some-query c.requires.some_path (λ q path going. merged_list going c.requires.lo_lt_hi c.merged_end-mid.ensures);
+      lo_le_hi = c.merged_end-mid.ensures.low;
+      is_by_path_bound = going_room c.requires.some_path.holds (c.merged_end-mid.result - c.args.lo) (omega (arith, c.merged_end-mid.ensures.high));
     }
 
 pub returns : goal.returns

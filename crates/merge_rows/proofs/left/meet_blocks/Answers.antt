@@ -1,5 +1,4 @@
 use Prim.Native.Nat.{◌-◌}
-use mathlib.Core.Logic.{⊎_elim}
 use native.Mathlib.Omega.{arith}
 use lib.Bits.{and_le_r}
 use lib.Count.{trailing_le}
@@ -8,6 +7,7 @@ use Rattle.merge_rows.proofs.BlockSteps.{blocks_start, blocks_end, first_block, 
 use Rattle.merge_rows.proofs.BlockSteps.{blocks_none, blocks_step, blocks_same}
 use Rattle.merge_rows.proofs.BlockSteps.{row_small, row_room}
 use Rattle.merge_rows.proofs.left.meet_blocks.Goals as goal
+use Rattle.merge_rows.proofs.left.meet_blocks.Goals.{else-word-ne0, then-word-ne0}
 
 pub loop-rest-init : goal.loop-rest-init
 loop-rest-init c =
@@ -46,14 +46,12 @@ pub loop-rest-preserved : goal.loop-rest-preserved
 loop-rest-preserved c =
     let inv = c.loop-rest.invariant in
     let some = c.loop-rest-test.true in
-    ⊎_elim
-    (λ w.
-    blocks_same w.8 w.9 w.10
-    (blocks_step c.requires.there inv some c.shared-word.result c.shared-word.ensures w.3.ensures.0 w.3.ensures.1))
-    (λ w.
-    blocks_same w.1 w.2 w.3
-    (blocks_none c.requires.there inv some c.shared-word.result c.shared-word.ensures w.0.left))
-    c.if-word-ne0.branch
+    elim c.if-word-ne0.branch [
+      | then-word-ne0 w ↦ blocks_same w.8 w.9 w.10
+          (blocks_step c.requires.there inv some c.shared-word.result c.shared-word.ensures w.3.ensures.0 w.3.ensures.1)
+      | else-word-ne0 w ↦ blocks_same w.is w.2 w.3
+          (blocks_none c.requires.there inv some c.shared-word.result c.shared-word.ensures w.if-word-ne0.false)
+    ]
 
 pub shape_of-work : goal.shape_of-work
 shape_of-work c = c.loop-rest.invariant.signs.size

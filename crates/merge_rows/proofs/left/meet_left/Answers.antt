@@ -49,8 +49,7 @@ take_path-size-requires c =
 
 pub slice_bounds-meet_path-end-3 : goal.slice_bounds-meet_path-end-3
 slice_bounds-meet_path-end-3 c =
-    let taken = c.take_path-size in
-    omega (arith, taken.ensures.within, length-take taken.result taken.new.1.1.1.0)
+    omega (arith, c.take_path-size.ensures.within, length-take c.take_path-size.result c.take_path-size.new.path)
 
 pub meet_path-met-requires : goal.meet_path-met-requires
 meet_path-met-requires c =

@@ -31,13 +31,12 @@ returns-then-pairs-end c =
 pub put_pairs-requires : goal.put_pairs-requires
 put_pairs-requires c =
     let a = c.args in
-    let ones = c.ones_of in
     record {
       places = c.requires.places;
       room =
           omega (
             arith,
-            ones.ensures,
+            c.ones_of.ensures,
             length_digits a.base a.word,
             length_pairs a.k (digits_from 64 a.base a.word),
             c.if-pairs-end.false,

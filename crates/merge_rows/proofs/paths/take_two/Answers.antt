@@ -57,5 +57,4 @@ bounds-path-1 c =
 
 pub returns : goal.returns
 returns c =
-    let two = c.least_two-two in
-    two-taken two.result two.ensures c.args.limit c.requires.room c.requires.few
+    two-taken c.least_two-two.result c.least_two-two.ensures c.args.limit c.requires.room c.requires.few

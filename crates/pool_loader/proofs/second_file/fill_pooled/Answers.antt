@@ -53,10 +53,10 @@ pub returns : goal.returns
 returns c =
     record {
       tags_filled = tags_filled c.requires c.args.tags.now c.fill_tags.ensures;
-      left_numbers_filled = left_numbers_filled c.requires c.args.left-numbers.now c.fill_side.ensures.numbers;
-      left_ends_filled = left_ends_filled c.requires c.args.left-ends.now c.fill_side.ensures.ends;
-      left_items_filled = left_items_filled c.requires c.args.left-items.now c.fill_side.ensures.items;
+      left_numbers_filled = left_numbers_filled c.requires c.args.left_numbers.now c.fill_side.ensures.numbers;
+      left_ends_filled = left_ends_filled c.requires c.args.left_ends.now c.fill_side.ensures.ends;
+      left_items_filled = left_items_filled c.requires c.args.left_items.now c.fill_side.ensures.items;
       right_numbers_filled = c.fill_right.ensures.numbers;
-      right_ends_filled = right_ends_filled c.requires c.args.right-ends.now c.fill_right.ensures.ends;
-      right_items_filled = right_items_filled c.requires c.args.right-items.now c.fill_right.ensures.items;
+      right_ends_filled = right_ends_filled c.requires c.args.right_ends.now c.fill_right.ensures.ends;
+      right_items_filled = right_items_filled c.requires c.args.right_items.now c.fill_right.ensures.items;
     }

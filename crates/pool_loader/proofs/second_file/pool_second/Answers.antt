@@ -13,8 +13,8 @@ use Rattle.pool_loader.proofs.second_file.pool_second.Goals.{Start}
 abbrev lent : Start → Lists
 lent s =
     let a = s.args in
-    lists_of a.tags.now a.left-numbers.now a.left-ends.now a.left-items.now
-    a.right-numbers.now a.right-ends.now a.right-items.now
+    lists_of a.tags.now a.left_numbers.now a.left_ends.now a.left_items.now
+    a.right_numbers.now a.right_ends.now a.right_items.now
 
 pub judge-judged-requires : goal.judge-judged-requires
 judge-judged-requires c =

@@ -55,9 +55,8 @@ loop-kind-smaller-then-not-is_side c = read_less _ _ (read (goal.at.loop-kind-sm
 
 pub loop-kind-preserved-then-not-is_side : goal.loop-kind-preserved-then-not-is_side
 loop-kind-preserved-then-not-is_side c =
-    let side = c.is_side in
     filling_other c.loop-kind.invariant (read (goal.at.loop-kind-preserved-then-not-is_side c).In-Record)
-    (sym side.ensures ∙ not-true side.result c.if-not-is_side.true-raw)
+    (sym c.is_side.ensures ∙ not-true c.is_side.result c.if-not-is_side.true-raw)
 
 pub slice_bounds-mark_tags-end : goal.slice_bounds-mark_tags-end
 slice_bounds-mark_tags-end c = sym c.loop-kind.invariant.unmarked.wide
@@ -66,10 +65,9 @@ pub mark_tags-requires : goal.mark_tags-requires
 unfolding tags_at
 mark_tags-requires c =
     let a = c.args in
-    let side = c.is_side in
     record {
       tags_known = filling_known c.loop-kind.invariant (read (goal.at.mark_tags-requires c).In-Record) c.requires.sorted c.requires.ranked refl c.requires.small
-          (sym side.ensures ∙ not-false side.result c.if-not-is_side.false-raw);
+          (sym c.is_side.ensures ∙ not-false c.is_side.result c.if-not-is_side.false-raw);
       some_marked = record {
         done = [];
         marked = unmarked_marked (table_of a.heads.now a.tails.now a.n a.ids.now) c.loop-kind.invariant.unmarked;
@@ -83,11 +81,10 @@ slice_bounds-put_record-end c =
 pub put_record-done-requires : goal.put_record-done-requires
 put_record-done-requires c =
     let l = c.loop-kind in
-    let side = c.is_side in
     record {
       marks_len = filling_wide l.invariant (read (goal.at.put_record-done-requires c).In-Record) c.mark_tags.ensures;
       room_for_one = rw (filling_items l.invariant (read (goal.at.put_record-done-requires c).In-Record) c.mark_tags.ensures (omega (arith, sorted_size c.requires.sorted, c.requires.small)))
-          (filling_room l.invariant (read (goal.at.put_record-done-requires c).In-Record) c.requires.few (sym side.ensures ∙ not-false side.result c.if-not-is_side.false-raw));
+          (filling_room l.invariant (read (goal.at.put_record-done-requires c).In-Record) c.requires.few (sym c.is_side.ensures ∙ not-false c.is_side.result c.if-not-is_side.false-raw));
     }
 
 pub loop-kind-smaller : goal.loop-kind-smaller
@@ -97,7 +94,6 @@ loop-kind-smaller c =
 pub loop-kind-preserved : goal.loop-kind-preserved
 loop-kind-preserved c =
     let l = c.loop-kind in
-    let side = c.is_side in
     let same = filling_items l.invariant (read (goal.at.loop-kind-preserved c).In-Record) c.mark_tags.ensures
     (omega (arith, sorted_size c.requires.sorted, c.requires.small)) in
-    filling_own l.invariant (read (goal.at.loop-kind-preserved c).In-Record) (sym side.ensures ∙ not-false side.result c.if-not-is_side.false-raw) (rw same at c.put_record-done.ensures.lists) c.put_record-done.ensures.marks
+    filling_own l.invariant (read (goal.at.loop-kind-preserved c).In-Record) (sym c.is_side.ensures ∙ not-false c.is_side.result c.if-not-is_side.false-raw) (rw same at c.put_record-done.ensures.lists) c.put_record-done.ensures.marks

@@ -15,34 +15,28 @@ slice_bounds-put_pairs-end c =
 
 pub put_pairs-requires : goal.put_pairs-requires
 put_pairs-requires c =
-    let repeats = c.put_repeats-m in
-    let counts = c.put_counts-n in
-    lines_room c.requires c.in-Joined.is _ _ (omega (arith, counts.ensures.1, repeats.ensures.1))
-    (omega (arith, repeats.auto.0, counts.auto.0))
+    lines_room c.requires c.in-Joined.is _ _ (omega (arith, c.put_counts-n.ensures.upper_bound, c.put_repeats-m.ensures.upper_bound))
+    (omega (arith, c.put_repeats-m.auto.text, c.put_counts-n.auto.text))
 
 pub returns-in-Joined : goal.returns-in-Joined
 returns-in-Joined c =
-    let pairs = c.put_pairs in
     let a = c.args in
-    let repeats = c.put_repeats-m in
-    let counts = c.put_counts-n in
     let room =
-    lines_room c.requires c.in-Joined.is a.text.now repeats.result
-    (omega (arith, counts.ensures.1, repeats.ensures.1)) refl in
+    lines_room c.requires c.in-Joined.is a.text.now c.put_repeats-m.result
+    (omega (arith, c.put_counts-n.ensures.upper_bound, c.put_repeats-m.ensures.upper_bound)) refl in
     record {
-      put = subst (λ (t : List ℕ). Put a.text.now 0 t pairs.result pairs.new.0)
-          (text_joined a.repeats a.left-numbers.now a.right-numbers.now a.pairs.now c.in-Joined.is)
-          (put_append counts.ensures.0 (put_append repeats.ensures.0 pairs.ensures.0));
-      upper_bound = omega (arith, pairs.ensures.1, room.room);
+      put = subst (λ (t : List ℕ). Put a.text.now 0 t c.put_pairs.result c.put_pairs.new.text)
+          (text_joined a.repeats a.left_numbers.now a.right_numbers.now a.pairs.now c.in-Joined.is)
+          (put_append c.put_counts-n.ensures.put (put_append c.put_repeats-m.ensures.put c.put_pairs.ensures.put));
+      upper_bound = omega (arith, c.put_pairs.ensures.upper_bound, room.room);
     }
 
 pub returns-in-Refused : goal.returns-in-Refused
 returns-in-Refused c =
-    let line = c.put_refusal in
     let a = c.args in
     record {
-      put = subst (λ (t : List ℕ). Put a.text.now 0 t line.result line.new.0)
-          (text_refused a.repeats a.left-numbers.now a.right-numbers.now a.pairs.now c.in-Refused.is)
-          line.ensures.0;
-      upper_bound = omega (arith, line.ensures.1, c.requires.room);
+      put = subst (λ (t : List ℕ). Put a.text.now 0 t c.put_refusal.result c.put_refusal.new.text)
+          (text_refused a.repeats a.left_numbers.now a.right_numbers.now a.pairs.now c.in-Refused.is)
+          c.put_refusal.ensures.put;
+      upper_bound = omega (arith, c.put_refusal.ensures.upper_bound, c.requires.room);
     }

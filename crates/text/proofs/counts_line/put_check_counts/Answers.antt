@@ -5,9 +5,8 @@ use Rattle.text.proofs.counts_line.put_check_counts.Goals as goal
 
 pub returns : goal.returns
 returns c =
-    let end = c.put_word in
     record {
       put = put_append c.put_count-n.ensures.put
-          (put_append c.put_count-m.ensures.put (put_append c.put_count-k.ensures.put end.ensures));
-      upper_bound = omega (arith, c.put_count-n.ensures.upper_bound, c.put_count-m.ensures.upper_bound, c.put_count-k.ensures.upper_bound, end.ensures.past);
+          (put_append c.put_count-m.ensures.put (put_append c.put_count-k.ensures.put c.put_word.ensures));
+      upper_bound = omega (arith, c.put_count-n.ensures.upper_bound, c.put_count-m.ensures.upper_bound, c.put_count-k.ensures.upper_bound, c.put_word.ensures.past);
     }

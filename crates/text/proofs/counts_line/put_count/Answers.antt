@@ -9,12 +9,11 @@ put_labelled-requires c =
 
 pub returns : goal.returns
 returns c =
-    let call = c.put_labelled in
     record {
-      put = call.ensures;
+      put = c.put_labelled.ensures;
       upper_bound = omega (
         arith,
-        call.ensures.past,
+        c.put_labelled.ensures.past,
         count-labelled c.args.word.now c.args.count c.ranges.count.fits,
       );
     }

@@ -10,10 +10,8 @@ use Rattle.text.proofs.counts_line.put_counts.Goals as goal
 
 pub returns : goal.returns
 returns c =
-    let checks = c.put_check_counts in
-    let pairs = c.put_pair_counts-n in
     record {
-      put = subst (λ (line : List ℕ). Put c.args.text.now 0 line checks.result checks.new.0)
-          (counts_halves c.args.counts) (put_append pairs.ensures.0 checks.ensures.0);
-      upper_bound = omega (arith, pairs.ensures.1, checks.ensures.1);
+      put = subst (λ (line : List ℕ). Put c.args.text.now 0 line c.put_check_counts.result c.put_check_counts.new.text)
+          (counts_halves c.args.counts) (put_append c.put_pair_counts-n.ensures.put c.put_check_counts.ensures.put);
+      upper_bound = omega (arith, c.put_pair_counts-n.ensures.upper_bound, c.put_check_counts.ensures.upper_bound);
     }

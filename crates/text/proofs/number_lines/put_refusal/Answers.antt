@@ -8,11 +8,9 @@ use Rattle.text.proofs.number_lines.put_refusal.Goals as goal
 
 pub returns : goal.returns
 returns c =
-    let call = c.put_refused in
-    let head = c.head_of-head in
     let text = c.args.text.now in
     record {
-      put = subst (λ (line : List ℕ). Put text 0 line call.result call.new.0)
-          (ap₂ refused_line head.ensures.0 head.ensures.1) call.ensures.0;
-      upper_bound = call.ensures.1;
+      put = subst (λ (line : List ℕ). Put text 0 line c.put_refused.result c.put_refused.new.text)
+          (ap₂ refused_line c.head_of-head.ensures.0 c.head_of-head.ensures.1) c.put_refused.ensures.put;
+      upper_bound = c.put_refused.ensures.upper_bound;
     }

@@ -11,27 +11,24 @@ put_number-n-requires c =
 
 pub put_labelled-m-requires : goal.put_labelled-m-requires
 put_labelled-m-requires c =
-    let left = c.put_number-n in
     omega (
       arith,
       c.requires,
-      left.ensures.past,
-      left.auto.0,
+      c.put_number-n.ensures.past,
+      c.put_number-n.auto.text,
       short_number c.args.left c.ranges.left.fits,
       short_labelled (ascii " ") c.args.right c.ranges.right.fits,
     )
 
 pub put_word-requires : goal.put_word-requires
 put_word-requires c =
-    let right = c.put_labelled-m in
-    let left = c.put_number-n in
     omega (
       arith,
       c.requires,
-      left.ensures.past,
-      left.auto.0,
-      right.ensures.past,
-      right.auto.0,
+      c.put_number-n.ensures.past,
+      c.put_number-n.auto.text,
+      c.put_labelled-m.ensures.past,
+      c.put_labelled-m.auto.text,
       short_number c.args.left c.ranges.left.fits,
       short_labelled (ascii " ") c.args.right c.ranges.right.fits,
     )
@@ -39,16 +36,13 @@ put_word-requires c =
 pub returns : goal.returns
 unfolding pair_line
 returns c =
-    let end = c.put_word in
-    let right = c.put_labelled-m in
-    let left = c.put_number-n in
     record {
-      put = put_append left.ensures (put_append right.ensures end.ensures);
+      put = put_append c.put_number-n.ensures (put_append c.put_labelled-m.ensures c.put_word.ensures);
       upper_bound = omega (
         arith,
-        left.ensures.past,
-        right.ensures.past,
-        end.ensures.past,
+        c.put_number-n.ensures.past,
+        c.put_labelled-m.ensures.past,
+        c.put_word.ensures.past,
         short_number c.args.left c.ranges.left.fits,
         short_labelled (ascii " ") c.args.right c.ranges.right.fits,
       );
