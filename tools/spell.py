@@ -28,7 +28,7 @@ def files():
 
 
 def is_proof(path):
-    return os.path.basename(path) in ("Proof.antt", "Invariants.antt", "Answers.antt")
+    return os.path.basename(path) == "Proof.antt"
 
 
 def declared(text):

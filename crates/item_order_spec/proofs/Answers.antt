@@ -23,23 +23,23 @@ use Rattle.item_order_spec.specs.Order.{order_test, order_answer, order_ranks, r
 
 module _ (i : Input) (places : ℕ) where
   -- the case of each return
-  pub test-items : {why : Refusal} → items_test i.T ≡ Failed why → Failed why ≡ order_test i places
+  pub test_items : {why : Refusal} → items_test i.T ≡ Failed why → Failed why ≡ order_test i places
   unfolding order_test
-  test-items failed = rw failed
+  test_items failed = rw failed
 
   module _ (few : items_test i.T ≡ Passed) where
-    pub test-length : (places ≡ i.T → ⊥) → Failed BadSettings ≡ order_test i places
+    pub test_length : (places ≡ i.T → ⊥) → Failed BadSettings ≡ order_test i places
     unfolding order_test
-    test-length other = rw (few, ne_eqb places i.T other)
+    test_length other = rw (few, ne_eqb places i.T other)
 
-    pub test-sets : {r : Tested} → places ≡ i.T → r ≡ sets_test i → r ≡ order_test i places
+    pub test_sets : {r : Tested} → places ≡ i.T → r ≡ sets_test i → r ≡ order_test i places
     unfolding order_test
-    test-sets long e = rw (few, eq-eqb places i.T long) e
+    test_sets long e = rw (few, eq-eqb places i.T long) e
 
   -- its refusals change nothing
-  test-keep : (why : Refusal) → order_test i places ≡ Failed why → clears why ≡ false
+  test_keep : (why : Refusal) → order_test i places ≡ Failed why → clears why ≡ false
   unfolding order_test
-  test-keep why e = go (ltb max_items i.T) (not (eqb places i.T)) e
+  test_keep why e = go (ltb max_items i.T) (not (eqb places i.T)) e
     where
       go : (large other : Bool)
           → unless Failed (refuse_if large BadSettings) (unless Failed (refuse_if other BadSettings) (sets_test i)) ≡ Failed why
@@ -50,8 +50,8 @@ module _ (i : Input) (places : ℕ) where
 
 -- the call: an input that is refused, and one that passed its test
 module _ (i : Input) (falling : Bool) (ranks : List ℕ) where
-  kept-after : (why : Refusal) → clears why ≡ false → ranks ≡ after_refusal why ranks
-  kept-after why keeps = rw keeps
+  kept_after : (why : Refusal) → clears why ≡ false → ranks ≡ after_refusal why ranks
+  kept_after why keeps = rw keeps
 
   -- the rank list by the answer
   ranks_by : (answer : OrderAnswer) → order_answer i (length ranks) ≡ answer
@@ -60,18 +60,18 @@ module _ (i : Input) (falling : Bool) (ranks : List ℕ) where
   ranks_by answer e =
       ap (λ (a : OrderAnswer). ranks_after a (rank_table falling i.T (left_sets i) (right_sets i)) ranks) e
 
-  pub call-refused : (why : Refusal) → order_test i (length ranks) ≡ Failed why → OrderCall i falling ranks ranks (Refused why)
+  pub call_refused : (why : Refusal) → order_test i (length ranks) ≡ Failed why → OrderCall i falling ranks ranks (Refused why)
   unfolding order_answer
-  call-refused why failed =
+  call_refused why failed =
       let answer : order_answer i (length ranks) ≡ Refused why = rw failed in
       record {
         answered = sym answer;
-        ranks = kept-after why (test-keep i (length ranks) why failed) ∙ sym (ranks_by (Refused why) answer);
+        ranks = kept_after why (test_keep i (length ranks) why failed) ∙ sym (ranks_by (Refused why) answer);
       }
 
-  pub call-ordered : (ranks' : List ℕ) → order_test i (length ranks) ≡ Passed
+  pub call_ordered : (ranks' : List ℕ) → order_test i (length ranks) ≡ Passed
       → ranks' ≡ rank_table falling i.T (left_sets i) (right_sets i) → OrderCall i falling ranks ranks' Ordered
   unfolding order_answer
-  call-ordered ranks' passed e =
+  call_ordered ranks' passed e =
       let answer : order_answer i (length ranks) ≡ Ordered = rw passed in
       record { answered = sym answer; ranks = e ∙ sym (ranks_by Ordered answer) }

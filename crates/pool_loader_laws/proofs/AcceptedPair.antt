@@ -24,7 +24,7 @@ use Rattle.tag_file.proofs.FaultFree.{FaultFree, file_free}
 use Rattle.tag_round_trip.proofs.FileRecords.{file_numbers, file_fit, file_few, Loadable}
 use Rattle.tag_round_trip.proofs.Refilled.{sets_few_lem}
 use Rattle.pool_loader_spec.specs.Pooling.{pooled_records, pooled_answer, pooled_lists, PooledCall}
-use Rattle.pool_loader_spec.proofs.Answers.{Accepted, answer-accepted}
+use Rattle.pool_loader_spec.proofs.Answers.{Accepted, answer_accepted}
 use Rattle.pool_loader_spec.proofs.SecondFaults.{second_covers}
 use Rattle.pool_loader_laws.proofs.PooledFaults.{SecondFree, second_free, pooled_free}
 use Rattle.pool_loader_laws.proofs.PooledSets.{none_overlong, pooled-sets_few, pooled_fit, pooled_numbers}
@@ -52,7 +52,7 @@ module _ (first second : List ℕ) {before after : Lists} {totals : Loaded} {rep
   answer_is = sym call.answered
 
   pub pair_accepted : Accepted first second before totals repeats
-  pair_accepted = answer-accepted first second before totals repeats answer_is
+  pair_accepted = answer_accepted first second before totals repeats answer_is
 
   pub pair_filled : FilledLists (filled (pooled_records first second)) before after
   pair_filled =

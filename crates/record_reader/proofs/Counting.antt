@@ -12,6 +12,7 @@ use lib.ListN.{replicate}
 use Rattle.lists.specs.Lists.{one, memb}
 use Rattle.lists.proofs.Counting.{one_bound}
 use Rattle.sets.specs.Limits.{max_set_length}
+use Rattle.sets.specs.declared.Side.{Side}
 use Rattle.tag_file.specs.Reading.{read_at, tags_at}
 use Rattle.tag_file.specs.Records.{insert_all}
 use Rattle.tag_file.specs.Repeats.{repeats_in, repeats_read, record_read}
@@ -64,7 +65,7 @@ pub read_as : (file : List ℕ) (at : ℕ) (a : ReadAnswer) (n : ℕ) → a ≡ 
 read_as file at a n e counted = rw (counted, e)
 
 -- no whole record has no repeats
-pub read_none : (file : List ℕ) (a : ReadAnswer) → OneOf (1 ∷ 2 ∷ []) (variant_of (declared enum) a) → 0 ≡ repeats_read file a
-read_none file (Record s n c p next) h = absurd (⊎_elim (λ z. omega arith) (λ z. omega arith) h)
+pub read_none : (file : List ℕ) (a : ReadAnswer) → ((s : Side) (n c p next : ℕ) → a ≡ Record s n c p next → ⊥) → 0 ≡ repeats_read file a
+read_none file (Record s n c p next) h = absurd (h s n c p next refl)
 read_none file NoMore h = refl
 read_none file (Refused why) h = refl

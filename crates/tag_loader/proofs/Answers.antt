@@ -17,7 +17,7 @@ use Rattle.tag_file.specs.Records.{records}
 use Rattle.tag_file.specs.Repeats.{repeat_totals}
 use Rattle.tag_file.specs.Loading.{Lists, file_fault, totals_of, filled, room_for, load_answer, LoadCall}
 use Rattle.tag_file.proofs.FaultLaws.{fault_clears}
-use Rattle.tag_file.proofs.AnswerLaws.{tested-refused, tested-loaded, accepts, refuses_short, refuses_fault}
+use Rattle.tag_file.proofs.AnswerLaws.{tested_refused, tested_loaded, accepts, refuses_short, refuses_fault}
 use Rattle.tag_scan.specs.totals.Totals.{Limited}
 use Rattle.tag_scan.specs.Scan.{Scanned}
 use Rattle.tag_loader.specs.lent_lists.LentLists.{room_in, has_room, AllCleared}
@@ -25,10 +25,10 @@ use Rattle.tag_loader.specs.Passes.{AllFilled, Fillable}
 use Rattle.tag_loader.proofs.Rooms.{room_counted}
 
 -- a refusal that makes zeros
-call-refused : {file : List ℕ} {before after : Lists} {answer : LoadAnswer} (why : Refusal)
+call_refused : {file : List ℕ} {before after : Lists} {answer : LoadAnswer} (why : Refusal)
     → load_answer file before ≡ load.Refused why → clears why ≡ true → answer ≡ load.Refused why → AllCleared before after
     → LoadCall file before after answer
-call-refused why is zeros e z =
+call_refused why is zeros e z =
     record {
       answered = e ∙ sym is;
       tags = rw (is, zeros) z.tags_zero;
@@ -41,12 +41,12 @@ call-refused why is zeros e z =
     }
 
 -- a file at fault: the refusal of the first pass is the answer
-pub call-fault : {file heads tails ids : List ℕ} {before after : Lists} {r : LoadAnswer} (why : Refusal)
+pub call_fault : {file heads tails ids : List ℕ} {before after : Lists} {r : LoadAnswer} (why : Refusal)
     → Scanned file heads tails ids r → r ≡ load.Refused why → AllCleared before after → LoadCall file before after r
-call-fault {file} {heads} {tails} {ids} {before} {after} {r} why s e z =
+call_fault {file} {heads} {tails} {ids} {before} {after} {r} why s e z =
     let fault =
-    tested-refused (file_fault file) (totals_of (records file)) (repeat_totals (records file)) why (sym s.answer ∙ e) in
-    call-refused why (refuses_fault file before why fault) (fault_clears file why fault) e z
+    tested_refused (file_fault file) (totals_of (records file)) (repeat_totals (records file)) why (sym s.answer ∙ e) in
+    call_refused why (refuses_fault file before why fault) (fault_clears file why fault) e z
 
 -- no fault: the totals and the repeats are the file's
 pub record Sound (file : List ℕ) (total : Loaded) (repeats : Repeats) : Type 0 where
@@ -59,38 +59,38 @@ module _ {file heads tails ids : List ℕ} {r : LoadAnswer} {total : Loaded} {re
   sound : Sound file total repeats
   sound =
       let all =
-      tested-loaded (file_fault file) (totals_of (records file)) (repeat_totals (records file)) total repeats (sym s.answer ∙ e) in
+      tested_loaded (file_fault file) (totals_of (records file)) (repeat_totals (records file)) total repeats (sym s.answer ∙ e) in
       record { clean = all.0; counts = all.1; repeated = all.2 }
 
-  pub sound-limited : Limited total
-  sound-limited = subst (λ (t : Loaded). Limited t) (sym sound.counts) (s.taken sound.clean).limited
+  pub sound_limited : Limited total
+  sound_limited = subst (λ (t : Loaded). Limited t) (sym sound.counts) (s.taken sound.clean).limited
 
   module _ (lent : Lists) where
-    same-room : has_room total (room_in lent) ≡ room_for (filled (records file)) lent
-    same-room = ap (λ (t : Loaded). has_room t (room_in lent)) sound.counts ∙ room_counted (records file) lent
+    same_room : has_room total (room_in lent) ≡ room_for (filled (records file)) lent
+    same_room = ap (λ (t : Loaded). has_room t (room_in lent)) sound.counts ∙ room_counted (records file) lent
 
     -- a list is too short
-    pub call-short : {b : Bool} {after : Lists} → b ≡ has_room total (room_in lent) → not b ≡ true → AllCleared lent after
+    pub call_short : {b : Bool} {after : Lists} → b ≡ has_room total (room_in lent) → not b ≡ true → AllCleared lent after
         → LoadCall file lent after (load.Refused ShortOutput)
-    call-short {b} is short z =
-        call-refused ShortOutput (refuses_short file lent sound.clean (sym same-room ∙ sym is ∙ not-true b short)) refl refl z
+    call_short {b} is short z =
+        call_refused ShortOutput (refuses_short file lent sound.clean (sym same_room ∙ sym is ∙ not-true b short)) refl refl z
 
     -- there is room
     module _ {b : Bool} (is : b ≡ has_room total (room_in lent)) (enough : not b ≡ false) where
-      room-here : room_for (filled (records file)) lent ≡ true
-      room-here = sym same-room ∙ sym is ∙ not-false b enough
+      room_here : room_for (filled (records file)) lent ≡ true
+      room_here = sym same_room ∙ sym is ∙ not-false b enough
 
-      pub room-fillable : Fillable file heads tails ids total.tag_count lent
-      room-fillable =
+      pub room_fillable : Fillable file heads tails ids total.tag_count lent
+      room_fillable =
           record {
             taken = s.taken sound.clean;
             count = ap (λ (q : Loaded). q.tag_count) sound.counts;
-            room = room-here;
+            room = room_here;
           }
 
-      pub call-loaded : {after : Lists} → AllFilled (records file) lent after → LoadCall file lent after (load.Loaded total repeats)
-      call-loaded z =
-          let accepted = accepts file lent sound.clean room-here in
+      pub call_loaded : {after : Lists} → AllFilled (records file) lent after → LoadCall file lent after (load.Loaded total repeats)
+      call_loaded z =
+          let accepted = accepts file lent sound.clean room_here in
           record {
             answered = ap₂ load.Loaded sound.counts sound.repeated ∙ sym accepted;
             tags = rw accepted z.tags_filled;

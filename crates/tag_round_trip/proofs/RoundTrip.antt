@@ -26,7 +26,7 @@ use Rattle.tag_file.specs.Loading.{LoadCall}
 use Rattle.tag_file.specs.declared.ReadAnswer.{ReadAnswer}
 use Rattle.tag_writer_spec.specs.Writer.{file_bytes, room_test, written_within, write_answer, file_after, WriteCall}
 use Rattle.tag_writer_spec.proofs.Tests.{lists_good, room_passed}
-use Rattle.tag_writer_spec.proofs.Answers.{answer-passed, within}
+use Rattle.tag_writer_spec.proofs.Answers.{answer_passed, within}
 use Rattle.tag_file.proofs.ItemCount.{length-tag_bytes}
 use Rattle.tag_file.proofs.AnswerLaws.{accepted, accepts, call_lists}
 use Rattle.tag_round_trip.specs.Rewritten.{rewritten}
@@ -49,7 +49,7 @@ module _ (rs : List TagRecord) (so : Loadable rs) where
       ≡ write_answer (length (tag_table rs)) (filled rs) room
   decides room =
       let T = length (tag_table rs) in
-      answer-passed T (filled rs) room
+      answer_passed T (filled rs) room
       (lists_good T (filled rs) so.free.tags (length-tag_bytes (tag_table rs))
       (side_good rs Left so.few (so.free.places Left) (so.free.entries Left))
       (side_good rs Right so.few (so.free.places Right) (so.free.entries Right)))

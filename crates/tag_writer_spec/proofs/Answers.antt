@@ -31,28 +31,28 @@ use Rattle.tag_writer_spec.proofs.Tests.{lists_keeping}
 
 -- the size of a side without a fault
 module _ (tags numbers ends items : List ℕ) (so : GoodSide tags numbers ends items) where
-  pub side-limits : (length ends ≤ max_sets) × (entries ends ≤ max_entries)
-  side-limits =
+  pub side_limits : (length ends ≤ max_sets) × (entries ends ≤ max_entries)
+  side_limits =
       let count = length tags / tag_length in
       (good_places count ends items so.good, (good_entries count ends items so.good).few)
 
-  side-size : (side : Side)
+  side_size : (side : Side)
       → length (records_of side tags numbers (sets_of ends items)) ≡ head_length * length ends + tag_length * entries ends
-  side-size side =
+  side_size side =
       let whole = records-length (length tags / tag_length) side tags numbers 0 0 ends items so.good so.numbered in
       omega arith
 
 -- the two sides' records, put one after the other, are the whole file
 module _ (l : Lists) (so : GoodLists l) where
-  pub left-size : length (left_bytes l) ≡ head_length * length l.left_ends + tag_length * entries l.left_ends
-  left-size = side-size l.tags l.left_numbers l.left_ends l.left_items so.left Left
+  pub left_size : length (left_bytes l) ≡ head_length * length l.left_ends + tag_length * entries l.left_ends
+  left_size = side_size l.tags l.left_numbers l.left_ends l.left_items so.left Left
 
-  pub right-size : length (right_bytes l) ≡ head_length * length l.right_ends + tag_length * entries l.right_ends
-  right-size = side-size l.tags l.right_numbers l.right_ends l.right_items so.right Right
+  pub right_size : length (right_bytes l) ≡ head_length * length l.right_ends + tag_length * entries l.right_ends
+  right_size = side_size l.tags l.right_numbers l.right_ends l.right_items so.right Right
 
-  pub file-size : length (file_bytes l) ≡ length (left_bytes l) + length (right_bytes l)
+  pub file_size : length (file_bytes l) ≡ length (left_bytes l) + length (right_bytes l)
   unfolding file_bytes
-  file-size = length-append (left_bytes l) _
+  file_size = length-append (left_bytes l) _
 
   pub put_sides : (file file' file'' : List ℕ) (left : ℕ) → length (left_bytes l) ≡ left → length (file_bytes l) ≤ length file
       → file' ≡ sets file 0 (left_bytes l) → file'' ≡ sets file' left (right_bytes l)
@@ -70,15 +70,15 @@ within room bytes n e h = rw (e, le-ltb room n h)
 pub short : (room : ℕ) (bytes : List ℕ) (n : ℕ) → length bytes ≡ n → room < n → Refused ShortOutput ≡ written_within room bytes
 short room bytes n e h = rw (e, lt-ltb room n h)
 
-pub answer-passed : (T : ℕ) (l : Lists) (room : ℕ) → lists_test T l ≡ Passed
+pub answer_passed : (T : ℕ) (l : Lists) (room : ℕ) → lists_test T l ≡ Passed
     → written_within room (file_bytes l) ≡ write_answer T l room
 unfolding write_answer
-answer-passed T l room passed = rw passed
+answer_passed T l room passed = rw passed
 
 -- the call: lists that are refused, and lists that passed their tests
 module _ (T : ℕ) (l : Lists) (file : List ℕ) where
-  kept-after : (why : Refusal) → clears why ≡ false → file ≡ after_refusal why file
-  kept-after why keeps = rw keeps
+  kept_after : (why : Refusal) → clears why ≡ false → file ≡ after_refusal why file
+  kept_after why keeps = rw keeps
 
   -- an answer that is right leaves the file that is right
   called : (answer : WriteAnswer) (file' : List ℕ) → answer ≡ write_answer T l (length file)
@@ -86,11 +86,11 @@ module _ (T : ℕ) (l : Lists) (file : List ℕ) where
   called answer file' e f =
       record { answered = e; file = f ∙ ap (λ (a : WriteAnswer). file_after a (file_bytes l) file) e }
 
-  pub call-refused : (why : Refusal) → lists_test T l ≡ Failed why → WriteCall T l file file (Refused why)
+  pub call_refused : (why : Refusal) → lists_test T l ≡ Failed why → WriteCall T l file file (Refused why)
   unfolding write_answer
-  call-refused why failed = called (Refused why) file (rw failed) (kept-after why (lists_keeping T l why failed))
+  call_refused why failed = called (Refused why) file (rw failed) (kept_after why (lists_keeping T l why failed))
 
-  pub call-passed : (answer : WriteAnswer) (file' : List ℕ) → lists_test T l ≡ Passed
+  pub call_passed : (answer : WriteAnswer) (file' : List ℕ) → lists_test T l ≡ Passed
       → answer ≡ written_within (length file) (file_bytes l) → file' ≡ file_after answer (file_bytes l) file
       → WriteCall T l file file' answer
-  call-passed answer file' passed e f = called answer file' (e ∙ answer-passed T l (length file) passed) f
+  call_passed answer file' passed e f = called answer file' (e ∙ answer_passed T l (length file) passed) f

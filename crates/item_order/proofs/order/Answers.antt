@@ -3,7 +3,7 @@ use mathlib.Core.Path.{◌≡◌, sym, ◌∙◌}
 use lib.ListN.{length}
 use Rattle.inputs.specs.Input.{Input, input_of}
 use Rattle.item_order_spec.specs.Order.{order_test}
-use Rattle.item_order_spec.proofs.Answers.{call_refused, call-ordered}
+use Rattle.item_order_spec.proofs.Answers.{call_refused, call_ordered}
 use Rattle.item_order.proofs.Filling.{can_fill}
 use Rattle.item_order.proofs.order.Goals as goal
 use Rattle.item_order.proofs.order.Goals.{After-test_order-tested, Start}
@@ -27,5 +27,5 @@ returns-in-Failed c =
 
 pub returns-in-Passed : goal.returns-in-Passed
 returns-in-Passed c =
-    call-ordered (input (goal.at.returns-in-Passed c).Start) c.args.falling c.args.ranks.now _ (found (goal.at.returns-in-Passed c).After-test_order-tested ∙ c.in-Passed.is)
+    call_ordered (input (goal.at.returns-in-Passed c).Start) c.args.falling c.args.ranks.now _ (found (goal.at.returns-in-Passed c).After-test_order-tested ∙ c.in-Passed.is)
     c.fill_ranks.ensures

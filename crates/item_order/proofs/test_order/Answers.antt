@@ -2,7 +2,7 @@
 use mathlib.Core.Path.{◌≡◌, sym, ◌∙◌}
 use Rattle.inputs.specs.Input.{Input, input_of}
 use Rattle.inputs.specs.Tests.{items_test}
-use Rattle.item_order_spec.proofs.Answers.{test-items, test-length, test-sets}
+use Rattle.item_order_spec.proofs.Answers.{test_items, test_length, test_sets}
 use Rattle.item_order.proofs.test_order.Goals as goal
 use Rattle.item_order.proofs.test_order.Goals.{After-test_items-items, Start}
 
@@ -17,13 +17,13 @@ found p = sym p.test_items-items.ensures
 
 pub returns-in-Failed : goal.returns-in-Failed
 returns-in-Failed c =
-    test-items (input (goal.at.returns-in-Failed c).Start) c.args.places (found (goal.at.returns-in-Failed c).After-test_items-items ∙ c.in-Failed.is)
+    test_items (input (goal.at.returns-in-Failed c).Start) c.args.places (found (goal.at.returns-in-Failed c).After-test_items-items ∙ c.in-Failed.is)
 
 pub returns-then-places-t : goal.returns-then-places-t
 returns-then-places-t c =
-    test-length (input (goal.at.returns-then-places-t c).Start) c.args.places (found (goal.at.returns-then-places-t c).After-test_items-items ∙ c.in_default.is) c.if-places-t.true
+    test_length (input (goal.at.returns-then-places-t c).Start) c.args.places (found (goal.at.returns-then-places-t c).After-test_items-items ∙ c.in_default.is) c.if-places-t.true
 
 pub returns : goal.returns
 returns c =
-    test-sets (input (goal.at.returns c).Start) c.args.places (found (goal.at.returns c).After-test_items-items ∙ c.in_default.is) c.if-places-t.false
+    test_sets (input (goal.at.returns c).Start) c.args.places (found (goal.at.returns c).After-test_items-items ∙ c.in_default.is) c.if-places-t.false
     c.test_sets.ensures

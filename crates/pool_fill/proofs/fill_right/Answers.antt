@@ -25,10 +25,10 @@ use Rattle.pool_fill.proofs.SecondWalk.{walked_numbers, walked_ends, walked_item
 use Rattle.pool_fill.proofs.NewSets.{new_known, new_room, second_walk_new}
 use Rattle.pool_fill.proofs.MetSets.{met_known, met_slot, met_standing, second_walk_met}
 use Rattle.pool_fill.proofs.fill_right.Goals as goal
-use Rattle.pool_fill.proofs.fill_right.Goals.{After-number_slot-slot-then-contains, At-loop-side, At-loop-side-2, Else-contains, Else-not-is_side, Else-not-is_side-2, In-Record-2, In-Record-answer-2, Then-contains}
+use Rattle.pool_fill.proofs.fill_right.Goals.{After-number_slot-slot-then-contains, At-loop-side, At-loop-side-2, Else-contains, Else-not-is_side, Else-not-is_side-2, In-Record, In-Record-answer, Then-contains}
 
 -- the record of the first file that was read, its side, and the file's bytes
-read : (a : In-Record-2)
+read : (a : In-Record)
     → read_at a.args.first.now a.loop-side.at
     ≡ Record a.in-Record.side a.in-Record.number a.in-Record.count a.in-Record.tags_at a.in-Record.next
 read a = sym a.read_record-answer.ensures ∙ a.in-Record.is
@@ -54,10 +54,10 @@ second_walk a =
     let got = a.read_record-answer in
     a.loop-side-2.invariant s.numbers.now s.ends.now s.items.now
     (second_walk_start a.loop-side.invariant
-    (no_records s.first.now a.loop-side.at got.result (sym got.ensures) a.in-Record.keys2))
+    (no_records s.first.now a.loop-side.at got.result (sym got.ensures) a.in_default.not-Record))
 
 -- the same of the second file
-read-second : (a : In-Record-answer-2)
+read-second : (a : In-Record-answer)
     → read_at a.args.second.now a.loop-side-2.on
     ≡ Record a.in-Record-answer.side a.in-Record-answer.number a.in-Record-answer.count a.in-Record-answer.tags_at a.in-Record-answer.next
 read-second a = sym a.read_record-answer-in-loop-side-2.ensures ∙ a.in-Record-answer.is
@@ -77,7 +77,7 @@ tags-known : (own : Else-not-is_side)
     → let a = own.args in
     TagsKnown a.first.now a.heads.now a.tails.now a.n a.ids.now a.ranks.now own.in-Record.tags_at own.in-Record.count
 tags-known own =
-    own_known own.requires own.loop-side.invariant (read (goal.at.Else-not-is_side own).In-Record-2) (right_side own) (bytes (goal.at.Else-not-is_side own).At-loop-side)
+    own_known own.requires own.loop-side.invariant (read (goal.at.Else-not-is_side own).In-Record) (right_side own) (bytes (goal.at.Else-not-is_side own).At-loop-side)
 
 -- the same of the second file: the record, and its tags
 right_there : (own : Else-not-is_side-2)
@@ -85,7 +85,7 @@ right_there : (own : Else-not-is_side-2)
     RightHere second (second_walk (goal.at.Else-not-is_side-2 own).At-loop-side-2).seen own.loop-side-2.on own.in-Record-answer.count own.in-Record-answer.tags_at own.in-Record-answer.next
     (record { side = own.in-Record-answer.side; number = own.in-Record-answer.number; tags = tags_at own.in-Record-answer.count second own.in-Record-answer.tags_at })
 right_there own =
-    right_here own.requires (second_walk (goal.at.Else-not-is_side-2 own).At-loop-side-2) (read-second (goal.at.Else-not-is_side-2 own).In-Record-answer-2) (second-right-side own) (second-bytes (goal.at.Else-not-is_side-2 own).At-loop-side-2)
+    right_here own.requires (second_walk (goal.at.Else-not-is_side-2 own).At-loop-side-2) (read-second (goal.at.Else-not-is_side-2 own).In-Record-answer) (second-right-side own) (second-bytes (goal.at.Else-not-is_side-2 own).At-loop-side-2)
 
 second-known : (own : Else-not-is_side-2)
     → let a = own.args in
@@ -117,19 +117,16 @@ loop-side-init c = first_walk_start c.requires
 pub read_record-answer-requires : goal.read_record-answer-requires
 read_record-answer-requires c = tt
 
-pub enum_known-answer : goal.enum_known-answer
-enum_known-answer c = c.in-Record.keys1
-
 pub is_side-requires : goal.is_side-requires
 is_side-requires c = tt
 
 pub loop-side-smaller-then-not-is_side : goal.loop-side-smaller-then-not-is_side
-loop-side-smaller-then-not-is_side c = read_less _ _ (read (goal.at.loop-side-smaller-then-not-is_side c).In-Record-2)
+loop-side-smaller-then-not-is_side c = read_less _ _ (read (goal.at.loop-side-smaller-then-not-is_side c).In-Record)
 
 pub loop-side-preserved-then-not-is_side : goal.loop-side-preserved-then-not-is_side
 loop-side-preserved-then-not-is_side c =
     let side = c.is_side in
-    first_walk_skip c.requires c.loop-side.invariant (read (goal.at.loop-side-preserved-then-not-is_side c).In-Record-2)
+    first_walk_skip c.requires c.loop-side.invariant (read (goal.at.loop-side-preserved-then-not-is_side c).In-Record)
     (sym side.ensures ∙ not-true side.result c.if-not-is_side.true-raw)
 
 pub slice_bounds-mark_tags-end : goal.slice_bounds-mark_tags-end
@@ -156,18 +153,18 @@ put_own-done-requires c =
     let items = fresh_items (tags-known (goal.at.put_own-done-requires c).Else-not-is_side) w.unmarked c.mark_tags.ensures in
     record {
       marks_len = fresh_wide (tags-known (goal.at.put_own-done-requires c).Else-not-is_side) w.unmarked c.mark_tags.ensures;
-      slot_in_bounds = rw c.number_slot-slot.ensures (own_slot c.requires w (read (goal.at.put_own-done-requires c).In-Record-2) (right_side (goal.at.put_own-done-requires c).Else-not-is_side) (bytes (goal.at.put_own-done-requires c).At-loop-side)).within;
-      room_for_own = rw (c.number_slot-slot.ensures, items) (own_room c.requires w (read (goal.at.put_own-done-requires c).In-Record-2) (right_side (goal.at.put_own-done-requires c).Else-not-is_side) (bytes (goal.at.put_own-done-requires c).At-loop-side));
+      slot_in_bounds = rw c.number_slot-slot.ensures (own_slot c.requires w (read (goal.at.put_own-done-requires c).In-Record) (right_side (goal.at.put_own-done-requires c).Else-not-is_side) (bytes (goal.at.put_own-done-requires c).At-loop-side)).within;
+      room_for_own = rw (c.number_slot-slot.ensures, items) (own_room c.requires w (read (goal.at.put_own-done-requires c).In-Record) (right_side (goal.at.put_own-done-requires c).Else-not-is_side) (bytes (goal.at.put_own-done-requires c).At-loop-side));
     }
 
 pub loop-side-smaller : goal.loop-side-smaller
-loop-side-smaller c = read_less _ _ (read (goal.at.loop-side-smaller c).In-Record-2)
+loop-side-smaller c = read_less _ _ (read (goal.at.loop-side-smaller c).In-Record)
 
 pub loop-side-preserved : goal.loop-side-preserved
 loop-side-preserved c =
     let w = c.loop-side.invariant in
     let items = fresh_items (tags-known (goal.at.loop-side-preserved c).Else-not-is_side) w.unmarked c.mark_tags.ensures in
-    first_walk_own c.requires w (read (goal.at.loop-side-preserved c).In-Record-2) (right_side (goal.at.loop-side-preserved c).Else-not-is_side) (bytes (goal.at.loop-side-preserved c).At-loop-side)
+    first_walk_own c.requires w (read (goal.at.loop-side-preserved c).In-Record) (right_side (goal.at.loop-side-preserved c).Else-not-is_side) (bytes (goal.at.loop-side-preserved c).At-loop-side)
     (rw (c.number_slot-slot.ensures, items) at c.put_own-done.ensures.lists) c.put_own-done.ensures.marks
 
 pub loop-side-2-init : goal.loop-side-2-init
@@ -175,9 +172,6 @@ loop-side-2-init c = λ n₀ e₀ i₀ w. w
 
 pub read_record-answer-requires-in-loop-side-2 : goal.read_record-answer-requires-in-loop-side-2
 read_record-answer-requires-in-loop-side-2 c = tt
-
-pub enum_known-answer-in-Record-answer-2 : goal.enum_known-answer-in-Record-answer-2
-enum_known-answer-in-Record-answer-2 c = c.in-Record-answer.keys1
 
 pub shape_of-slots-in_default-answer : goal.shape_of-slots-in_default-answer
 shape_of-slots-in_default-answer c =
@@ -196,7 +190,7 @@ pub returns-in_default-answer : goal.returns-in_default-answer
 returns-in_default-answer c =
     let w = second_walk (goal.at.returns-in_default-answer c).At-loop-side-2 in
     let got = c.read_record-answer-in-loop-side-2 in
-    let stop = no_records c.args.second.now c.loop-side-2.on got.result (sym got.ensures) c.in-Record-answer.keys2 in
+    let stop = no_records c.args.second.now c.loop-side-2.on got.result (sym got.ensures) c.in_default-answer.not-Record in
     record {
       numbers = walked_numbers c.requires w stop;
       ends = walked_ends c.requires w stop;
@@ -207,13 +201,13 @@ pub is_side-requires-in-loop-side-2 : goal.is_side-requires-in-loop-side-2
 is_side-requires-in-loop-side-2 c = tt
 
 pub loop-side-2-smaller-then-not-is_side-2 : goal.loop-side-2-smaller-then-not-is_side-2
-loop-side-2-smaller-then-not-is_side-2 c = read_less _ _ (read-second (goal.at.loop-side-2-smaller-then-not-is_side-2 c).In-Record-answer-2)
+loop-side-2-smaller-then-not-is_side-2 c = read_less _ _ (read-second (goal.at.loop-side-2-smaller-then-not-is_side-2 c).In-Record-answer)
 
 pub loop-side-2-preserved-then-not-is_side-2 : goal.loop-side-2-preserved-then-not-is_side-2
 loop-side-2-preserved-then-not-is_side-2 c =
     let side = c.is_side-in-loop-side-2 in
     λ n₀ e₀ i₀ w.
-    second_walk_skip c.requires (c.loop-side-2.invariant n₀ e₀ i₀ w) (read-second (goal.at.loop-side-2-preserved-then-not-is_side-2 c).In-Record-answer-2)
+    second_walk_skip c.requires (c.loop-side-2.invariant n₀ e₀ i₀ w) (read-second (goal.at.loop-side-2-preserved-then-not-is_side-2 c).In-Record-answer)
     (sym side.ensures ∙ not-true side.result c.if-not-is_side-2.true-raw)
 
 pub slice_bounds-mark_tags-end-in-loop-side-2 : goal.slice_bounds-mark_tags-end-in-loop-side-2
@@ -253,13 +247,13 @@ pool_marked-requires c =
     (met_standing c.requires w (right_there (goal.at.pool_marked-requires c).Else-not-is_side-2) (there (goal.at.pool_marked-requires c).Then-contains) (more_fresh w.unmarked c.mark_tags-in-loop-side-2.ensures))
 
 pub loop-side-2-smaller-then-contains : goal.loop-side-2-smaller-then-contains
-loop-side-2-smaller-then-contains c = read_less _ _ (read-second (goal.at.loop-side-2-smaller-then-contains c).In-Record-answer-2)
+loop-side-2-smaller-then-contains c = read_less _ _ (read-second (goal.at.loop-side-2-smaller-then-contains c).In-Record-answer)
 
 pub loop-side-2-preserved-then-contains : goal.loop-side-2-preserved-then-contains
 loop-side-2-preserved-then-contains c =
     λ n₀ e₀ i₀ start.
     let w = c.loop-side-2.invariant n₀ e₀ i₀ start in
-    second_walk_met c.requires w (right_here c.requires w (read-second (goal.at.loop-side-2-preserved-then-contains c).In-Record-answer-2) (second-right-side (goal.at.loop-side-2-preserved-then-contains c).Else-not-is_side-2) (second-bytes (goal.at.loop-side-2-preserved-then-contains c).At-loop-side-2)) (there (goal.at.loop-side-2-preserved-then-contains c).Then-contains)
+    second_walk_met c.requires w (right_here c.requires w (read-second (goal.at.loop-side-2-preserved-then-contains c).In-Record-answer) (second-right-side (goal.at.loop-side-2-preserved-then-contains c).Else-not-is_side-2) (second-bytes (goal.at.loop-side-2-preserved-then-contains c).At-loop-side-2)) (there (goal.at.loop-side-2-preserved-then-contains c).Then-contains)
     (more_fresh w.unmarked c.mark_tags-in-loop-side-2.ensures) (rw c.number_slot-slot-then-contains.ensures at c.pool_marked.ensures.items) c.pool_marked.ensures.marks
 
 pub slice_bounds-put_record-end : goal.slice_bounds-put_record-end
@@ -276,11 +270,11 @@ put_record-done-requires c =
     }
 
 pub loop-side-2-smaller : goal.loop-side-2-smaller
-loop-side-2-smaller c = read_less _ _ (read-second (goal.at.loop-side-2-smaller c).In-Record-answer-2)
+loop-side-2-smaller c = read_less _ _ (read-second (goal.at.loop-side-2-smaller c).In-Record-answer)
 
 pub loop-side-2-preserved : goal.loop-side-2-preserved
 loop-side-2-preserved c =
     λ n₀ e₀ i₀ start.
     let w = c.loop-side-2.invariant n₀ e₀ i₀ start in
-    second_walk_new c.requires w (right_here c.requires w (read-second (goal.at.loop-side-2-preserved c).In-Record-answer-2) (second-right-side (goal.at.loop-side-2-preserved c).Else-not-is_side-2) (second-bytes (goal.at.loop-side-2-preserved c).At-loop-side-2)) (absent (goal.at.loop-side-2-preserved c).Else-contains)
+    second_walk_new c.requires w (right_here c.requires w (read-second (goal.at.loop-side-2-preserved c).In-Record-answer) (second-right-side (goal.at.loop-side-2-preserved c).Else-not-is_side-2) (second-bytes (goal.at.loop-side-2-preserved c).At-loop-side-2)) (absent (goal.at.loop-side-2-preserved c).Else-contains)
     (rw (fresh_items (second-known (goal.at.loop-side-2-preserved c).Else-not-is_side-2) w.unmarked c.mark_tags-in-loop-side-2.ensures) at c.put_record-done.ensures.lists) c.put_record-done.ensures.marks

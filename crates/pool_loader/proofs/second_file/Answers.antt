@@ -17,9 +17,9 @@ use Rattle.tag_file.specs.declared.LoadAnswer.TheVariants as load
 use Rattle.tag_file.specs.Records.{records}
 use Rattle.tag_file.specs.Repeats.{repeat_totals}
 use Rattle.tag_file.specs.Loading.{Lists, file_fault, totals_of}
-use Rattle.tag_file.proofs.AnswerLaws.{tested_refused, tested-loaded}
+use Rattle.tag_file.proofs.AnswerLaws.{tested_refused, tested_loaded}
 use Rattle.pool_loader_spec.specs.Pooling.{pooled_records, pooled_repeats, second_fault, first_overlong, pooled_answer}
-use Rattle.pool_loader_spec.proofs.Answers.{answer-accepted}
+use Rattle.pool_loader_spec.proofs.Answers.{answer_accepted}
 use Rattle.tag_scan.specs.totals.Totals.{Limited}
 use Rattle.tag_scan.specs.Scan.{Taken, Scanned}
 use Rattle.tag_loader.specs.declared.lent_lists.LoadRoom.{LoadRoom}
@@ -43,7 +43,7 @@ pub first_taken : (first : List ℕ) {heads tails ids : List ℕ} {r : LoadAnswe
     → Scanned first heads tails ids r → r ≡ load.Loaded total repeats → FirstTaken first total repeats heads tails ids
 first_taken first {heads} {tails} {ids} total repeats s e =
     let parts =
-    tested-loaded (file_fault first) (totals_of (records first)) (repeat_totals (records first)) total repeats (sym s.answer ∙ e) in
+    tested_loaded (file_fault first) (totals_of (records first)) (repeat_totals (records first)) total repeats (sym s.answer ∙ e) in
     record {
       clean = parts.0;
       taken = subst (λ (t : Loaded). Taken (records first) t heads tails ids) (sym parts.1) (s.taken parts.0);
@@ -51,17 +51,17 @@ first_taken first {heads} {tails} {ids} total repeats s e =
     }
 
 module _ (first second : List ℕ) (lent : Lists) where
-  answer-fault : (why : Refusal) → file_fault first ≡ Failed why → pooled_answer first second lent ≡ load.Refused why
+  answer_fault : (why : Refusal) → file_fault first ≡ Failed why → pooled_answer first second lent ≡ load.Refused why
   unfolding pooled_answer
-  answer-fault why e = rw e
+  answer_fault why e = rw e
 
   -- its fault is the answer
-  pub first-refused : {heads tails ids used counts slots : List ℕ} {r : LoadAnswer} (why : Refusal)
+  pub first_refused : {heads tails ids used counts slots : List ℕ} {r : LoadAnswer} (why : Refusal)
       → Scanned first heads tails ids r → r ≡ load.Refused why
       → PoolDecided first second heads tails ids used counts slots lent r
-  first-refused why s e =
+  first_refused why s e =
       record {
-        answered = e ∙ sym (answer-fault why (tested_refused (file_fault first) (totals_of (records first))
+        answered = e ∙ sym (answer_fault why (tested_refused (file_fault first) (totals_of (records first))
             (repeat_totals (records first)) why (sym s.answer ∙ e)));
         fillable = λ total repeats told. let z : ◌≡◌ {A = ℕ} 0 1 = cc in absurd (omega arith);
       }
@@ -70,23 +70,23 @@ module _ (first second : List ℕ) (lent : Lists) where
 
 module _ (first second : List ℕ) {heads tails ids used slots : List ℕ} {r : Second} (clean : file_fault first ≡ Passed)
     (s : SecondScanned first second heads tails ids used slots r) where
-  pub second-limited : LimitedIf r.answer
-  second-limited t repeats e =
-      let parts = tested-loaded (second_fault (records first) (length first) second) (totals_of (pooled_records first second))
+  pub second_limited : LimitedIf r.answer
+  second_limited t repeats e =
+      let parts = tested_loaded (second_fault (records first) (length first) second) (totals_of (pooled_records first second))
       (pooled_repeats (records first) (records second)) t repeats (sym s.answer ∙ e) in
       subst (λ (q : Loaded). Limited q) (sym parts.1) (s.taken parts.0).limited
 
   module _ (lent : Lists) where
-    pub decided-is : decided r.answer r.long (room_in lent) ≡ pooled_answer first second lent
+    pub decided_is : decided r.answer r.long (room_in lent) ≡ pooled_answer first second lent
     unfolding pooled_answer
-    decided-is = by-fault (second_fault (records first) (length first) second) refl
+    decided_is = by_fault (second_fault (records first) (length first) second) refl
       where
-        by-fault : (t : Tested) → second_fault (records first) (length first) second ≡ t
+        by_fault : (t : Tested) → second_fault (records first) (length first) second ≡ t
             → decided r.answer r.long (room_in lent) ≡ pooled_answer first second lent
-        by-fault (Failed why) e =
+        by_fault (Failed why) e =
             let is : r.answer ≡ load.Refused why = s.answer ∙ rw e in
             ap (λ (a : LoadAnswer). decided a r.long (room_in lent)) is ∙ rw (clean, e)
-        by-fault Passed e =
+        by_fault Passed e =
             let totals = totals_of (pooled_records first second) in
             let repeats = pooled_repeats (records first) (records second) in
             let is : r.answer ≡ load.Loaded totals repeats = s.answer ∙ rw e in
@@ -96,11 +96,11 @@ module _ (first second : List ℕ) {heads tails ids used slots : List ℕ} {r : 
             (room_counted (pooled_records first second) lent)
             ∙ rw (clean, e)
 
-    pub pool-fillable : {counts : List ℕ} (total : Loaded) (repeats : Repeats) → NumbersNoted (records first) used
+    pub pool_fillable : {counts : List ℕ} (total : Loaded) (repeats : Repeats) → NumbersNoted (records first) used
         → BlocksCounted used counts → pooled_answer first second lent ≡ load.Loaded total repeats
         → PoolFillable first second heads tails ids total.tag_count used counts slots lent
-    pool-fillable total repeats noted counted e =
-        let a = answer-accepted first second lent total repeats e in
+    pool_fillable total repeats noted counted e =
+        let a = answer_accepted first second lent total repeats e in
         record {
           clean = clean;
           clean_second = a.clean_second;
@@ -114,10 +114,10 @@ module _ (first second : List ℕ) {heads tails ids used slots : List ℕ} {r : 
         }
 
     -- what is decided by the lengths of the lists is decided for them
-    pub second-decided : {counts : List ℕ} {answer : LoadAnswer} {room : LoadRoom} → NumbersNoted (records first) used
+    pub second_decided : {counts : List ℕ} {answer : LoadAnswer} {room : LoadRoom} → NumbersNoted (records first) used
         → BlocksCounted used counts → room ≡ room_in lent → answer ≡ decided r.answer r.long room
         → PoolDecided first second heads tails ids used counts slots lent answer
-    second-decided {answer = answer} noted counted same told =
+    second_decided {answer = answer} noted counted same told =
         let is : answer ≡ pooled_answer first second lent =
-        told ∙ ap (decided r.answer r.long) same ∙ decided-is in
-        record { answered = is; fillable = λ total repeats e. pool-fillable total repeats noted counted (sym is ∙ e) }
+        told ∙ ap (decided r.answer r.long) same ∙ decided_is in
+        record { answered = is; fillable = λ total repeats e. pool_fillable total repeats noted counted (sym is ∙ e) }

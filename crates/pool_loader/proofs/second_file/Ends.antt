@@ -9,7 +9,7 @@ use Rattle.tag_file.specs.declared.LoadAnswer.{LoadAnswer}
 use Rattle.tag_file.specs.declared.LoadAnswer.TheVariants as load
 use Rattle.tag_file.specs.Loading.{Lists}
 use Rattle.pool_loader_spec.specs.Pooling.{pooled_records, pooled_answer, PooledCall}
-use Rattle.pool_loader_spec.proofs.Answers.{answer-clears}
+use Rattle.pool_loader_spec.proofs.Answers.{answer_clears}
 use Rattle.tag_loader.specs.lent_lists.LentLists.{AllCleared}
 use Rattle.tag_loader.specs.Passes.{AllFilled}
 
@@ -18,7 +18,7 @@ module _ (first second : List ℕ) (lent : Lists) where
       → answer ≡ load.Refused why → AllCleared lent after → PooledCall first second lent after answer
   call_refused why is e z =
       let told = sym is ∙ e in
-      let zeros = answer-clears first second lent why told in
+      let zeros = answer_clears first second lent why told in
       record {
         answered = is;
         tags = rw (told, zeros) z.tags_zero;

@@ -16,18 +16,18 @@ use Rattle.pool_scan.proofs.Passing.{passing_repeats, passing_past, passing_next
 use Rattle.pool_scan.proofs.Step.{step_ready, step_bounds, stepped}
 use Rattle.pool_scan.proofs.Words.{noted_start}
 use Rattle.pool_scan.proofs.scan_second.Goals as goal
-use Rattle.pool_scan.proofs.scan_second.Goals.{Else-claim, In-Record-2, Then-is_side}
+use Rattle.pool_scan.proofs.scan_second.Goals.{Else-claim, In-Record, Then-is_side}
 
 -- the record that was read
-read : (a : In-Record-2)
+read : (a : In-Record)
     → read_at a.args.second.now a.loop-side.at
     ≡ Record a.in-Record.side a.in-Record.number a.in-Record.count a.in-Record.tags_at a.in-Record.next
 read a = sym a.read_record-answer.ensures ∙ a.in-Record.is
 
-small : (a : In-Record-2) → a.in-Record.number < half_words
+small : (a : In-Record) → a.in-Record.number < half_words
 small a = read_number _ _ (read a) (λ i. (a.type_inv.second i).fits)
 
-few : (a : In-Record-2) → a.in-Record.count ≤ max_set_length
+few : (a : In-Record) → a.in-Record.count ≤ max_set_length
 few a = read_count _ _ (read a) (λ i. (a.type_inv.second i).fits)
 
 -- it is of the right side
@@ -58,9 +58,6 @@ read_record-answer-requires c = tt
 pub wrapping_add_usize-place-requires : goal.wrapping_add_usize-place-requires
 wrapping_add_usize-place-requires c = tt
 
-pub enum_known-answer : goal.enum_known-answer
-enum_known-answer c = c.in-Record.keys1
-
 pub accepted-requires : goal.accepted-requires
 accepted-requires c = tt
 
@@ -70,7 +67,7 @@ shape_of-slots-then-at-second c = c.loop-side.invariant.size ∙ sym c.requires.
 pub returns-then-at-second : goal.returns-then-at-second
 returns-then-at-second c =
     let read = c.read_record-answer in
-    let stop = no_records c.args.second.now c.loop-side.at read.result (sym read.ensures) c.in-Record.keys2 in
+    let stop = no_records c.args.second.now c.loop-side.at read.result (sym read.ensures) c.in_default.not-Record in
     passing_whole c.loop-side.invariant stop c.if-at-second.true c.accepted.ensures
 
 pub refused-requires : goal.refused-requires
@@ -82,7 +79,7 @@ shape_of-slots-in_default c = c.loop-side.invariant.size ∙ sym c.requires.slot
 pub returns-in_default : goal.returns-in_default
 returns-in_default c =
     let read = c.read_record-answer in
-    let stop = no_records c.args.second.now c.loop-side.at read.result (sym read.ensures) c.in-Record.keys2 in
+    let stop = no_records c.args.second.now c.loop-side.at read.result (sym read.ensures) c.in_default.not-Record in
     passing_cut c.loop-side.invariant stop c.if-at-second.false
     (c.refused.ensures ∙ ap (λ (k : ℕ). load.Refused (Malformed k)) c.wrapping_add_usize-place.ensures)
 
@@ -104,19 +101,19 @@ shape_of-slots-then-claim c = c.loop-side.invariant.size ∙ sym c.requires.slot
 pub returns-then-claim : goal.returns-then-claim
 returns-then-claim c =
     let l = c.loop-side in
-    passing_used l.invariant (read (goal.at.returns-then-claim c).In-Record-2) (right (goal.at.returns-then-claim c).Then-is_side) (small (goal.at.returns-then-claim c).In-Record-2) (sym c.claim.ensures.before ∙ c.if-claim.true) l.invariant.size
+    passing_used l.invariant (read (goal.at.returns-then-claim c).In-Record) (right (goal.at.returns-then-claim c).Then-is_side) (small (goal.at.returns-then-claim c).In-Record) (sym c.claim.ensures.before ∙ c.if-claim.true) l.invariant.size
     (c.refused-then-claim.ensures ∙ ap (λ (k : ℕ). load.Refused (NumberUsed k)) c.wrapping_add_usize-place.ensures)
 
 pub unite-united-requires : goal.unite-united-requires
 unite-united-requires c =
-    step_ready c.requires (bytes (goal.at.unite-united-requires c).Else-claim) c.loop-side.invariant (read (goal.at.unite-united-requires c).In-Record-2) (right-here (goal.at.unite-united-requires c).Else-claim) (small (goal.at.unite-united-requires c).In-Record-2) (free (goal.at.unite-united-requires c).Else-claim) (few (goal.at.unite-united-requires c).In-Record-2)
+    step_ready c.requires (bytes (goal.at.unite-united-requires c).Else-claim) c.loop-side.invariant (read (goal.at.unite-united-requires c).In-Record) (right-here (goal.at.unite-united-requires c).Else-claim) (small (goal.at.unite-united-requires c).In-Record) (free (goal.at.unite-united-requires c).Else-claim) (few (goal.at.unite-united-requires c).In-Record)
 
 pub count_set-counted-requires : goal.count_set-counted-requires
 count_set-counted-requires c =
     let inv = c.loop-side.invariant in
-    let bounds = step_bounds c.requires (bytes (goal.at.count_set-counted-requires c).Else-claim) inv (read (goal.at.count_set-counted-requires c).In-Record-2) (right-here (goal.at.count_set-counted-requires c).Else-claim) (small (goal.at.count_set-counted-requires c).In-Record-2) (free (goal.at.count_set-counted-requires c).Else-claim) c.unite-united.ensures in
-    let one = stepped c.requires (bytes (goal.at.count_set-counted-requires c).Else-claim) inv (read (goal.at.count_set-counted-requires c).In-Record-2) (right-here (goal.at.count_set-counted-requires c).Else-claim) (small (goal.at.count_set-counted-requires c).In-Record-2) (free (goal.at.count_set-counted-requires c).Else-claim) c.unite-united.ensures in
-    let more = passing_repeats inv (read (goal.at.count_set-counted-requires c).In-Record-2) one.distinct (omega (arith, c.well_formed.0)) (omega (arith, c.well_formed.1.0)) in
+    let bounds = step_bounds c.requires (bytes (goal.at.count_set-counted-requires c).Else-claim) inv (read (goal.at.count_set-counted-requires c).In-Record) (right-here (goal.at.count_set-counted-requires c).Else-claim) (small (goal.at.count_set-counted-requires c).In-Record) (free (goal.at.count_set-counted-requires c).Else-claim) c.unite-united.ensures in
+    let one = stepped c.requires (bytes (goal.at.count_set-counted-requires c).Else-claim) inv (read (goal.at.count_set-counted-requires c).In-Record) (right-here (goal.at.count_set-counted-requires c).Else-claim) (small (goal.at.count_set-counted-requires c).In-Record) (free (goal.at.count_set-counted-requires c).Else-claim) c.unite-united.ensures in
+    let more = passing_repeats inv (read (goal.at.count_set-counted-requires c).In-Record) one.distinct (omega (arith, c.well_formed.0)) (omega (arith, c.well_formed.1.0)) in
     record {
       limited = inv.taken.limited;
       less = bounds.0;
@@ -133,32 +130,32 @@ refused-requires-then-is_past c = tt
 
 pub shape_of-slots-then-is_past : goal.shape_of-slots-then-is_past
 shape_of-slots-then-is_past c =
-    let one = stepped c.requires (bytes (goal.at.shape_of-slots-then-is_past c).Else-claim) c.loop-side.invariant (read (goal.at.shape_of-slots-then-is_past c).In-Record-2) (right-here (goal.at.shape_of-slots-then-is_past c).Else-claim) (small (goal.at.shape_of-slots-then-is_past c).In-Record-2) (free (goal.at.shape_of-slots-then-is_past c).Else-claim) c.unite-united.ensures in
+    let one = stepped c.requires (bytes (goal.at.shape_of-slots-then-is_past c).Else-claim) c.loop-side.invariant (read (goal.at.shape_of-slots-then-is_past c).In-Record) (right-here (goal.at.shape_of-slots-then-is_past c).Else-claim) (small (goal.at.shape_of-slots-then-is_past c).In-Record) (free (goal.at.shape_of-slots-then-is_past c).Else-claim) c.unite-united.ensures in
     one.size ∙ sym c.requires.slotted.size
 
 pub returns-then-is_past : goal.returns-then-is_past
 returns-then-is_past c =
     let inv = c.loop-side.invariant in
-    let one = stepped c.requires (bytes (goal.at.returns-then-is_past c).Else-claim) inv (read (goal.at.returns-then-is_past c).In-Record-2) (right-here (goal.at.returns-then-is_past c).Else-claim) (small (goal.at.returns-then-is_past c).In-Record-2) (free (goal.at.returns-then-is_past c).Else-claim) c.unite-united.ensures in
-    passing_past inv (read (goal.at.returns-then-is_past c).In-Record-2) (right-here (goal.at.returns-then-is_past c).Else-claim) (small (goal.at.returns-then-is_past c).In-Record-2) (free (goal.at.returns-then-is_past c).Else-claim) c.unite-united.result one.one one.size
+    let one = stepped c.requires (bytes (goal.at.returns-then-is_past c).Else-claim) inv (read (goal.at.returns-then-is_past c).In-Record) (right-here (goal.at.returns-then-is_past c).Else-claim) (small (goal.at.returns-then-is_past c).In-Record) (free (goal.at.returns-then-is_past c).Else-claim) c.unite-united.ensures in
+    passing_past inv (read (goal.at.returns-then-is_past c).In-Record) (right-here (goal.at.returns-then-is_past c).Else-claim) (small (goal.at.returns-then-is_past c).In-Record) (free (goal.at.returns-then-is_past c).Else-claim) c.unite-united.result one.one one.size
     (sym (ap (λ (k : Counted). over_of k.total) c.count_set-counted.ensures) ∙ sym c.is_past.ensures ∙ c.if-is_past.true)
     (c.refused-then-is_past.ensures ∙ ap (λ (k : ℕ). load.Refused (TooMany k)) c.wrapping_add_usize-place.ensures)
 
 pub loop-side-smaller-else-is_past : goal.loop-side-smaller-else-is_past
-loop-side-smaller-else-is_past c = read_less _ _ (read (goal.at.loop-side-smaller-else-is_past c).In-Record-2)
+loop-side-smaller-else-is_past c = read_less _ _ (read (goal.at.loop-side-smaller-else-is_past c).In-Record)
 
 pub loop-side-preserved-else-is_past : goal.loop-side-preserved-else-is_past
 loop-side-preserved-else-is_past c =
     let inv = c.loop-side.invariant in
-    let one = stepped c.requires (bytes (goal.at.loop-side-preserved-else-is_past c).Else-claim) inv (read (goal.at.loop-side-preserved-else-is_past c).In-Record-2) (right-here (goal.at.loop-side-preserved-else-is_past c).Else-claim) (small (goal.at.loop-side-preserved-else-is_past c).In-Record-2) (free (goal.at.loop-side-preserved-else-is_past c).Else-claim) c.unite-united.ensures in
+    let one = stepped c.requires (bytes (goal.at.loop-side-preserved-else-is_past c).Else-claim) inv (read (goal.at.loop-side-preserved-else-is_past c).In-Record) (right-here (goal.at.loop-side-preserved-else-is_past c).Else-claim) (small (goal.at.loop-side-preserved-else-is_past c).In-Record) (free (goal.at.loop-side-preserved-else-is_past c).Else-claim) c.unite-united.ensures in
     passing_by
     (c.count_set-counted.ensures ∙ ap (counted_by c.loop-side.counted c.unite-united.result c.in-Record.count) c.wrapping_add_usize-place.ensures)
-    (passing_next inv (read (goal.at.loop-side-preserved-else-is_past c).In-Record-2) (right-here (goal.at.loop-side-preserved-else-is_past c).Else-claim) (small (goal.at.loop-side-preserved-else-is_past c).In-Record-2) (free (goal.at.loop-side-preserved-else-is_past c).Else-claim) c.unite-united.result one.one one.size
+    (passing_next inv (read (goal.at.loop-side-preserved-else-is_past c).In-Record) (right-here (goal.at.loop-side-preserved-else-is_past c).Else-claim) (small (goal.at.loop-side-preserved-else-is_past c).In-Record) (free (goal.at.loop-side-preserved-else-is_past c).Else-claim) c.unite-united.result one.one one.size
     (sym (ap (λ (k : Counted). over_of k.total) c.count_set-counted.ensures) ∙ sym c.is_past.ensures ∙ c.if-is_past.false)
     c.claim.ensures.noted one.distinct one.words one.is one.counted)
 
 pub loop-side-smaller : goal.loop-side-smaller
-loop-side-smaller c = read_less _ _ (read (goal.at.loop-side-smaller c).In-Record-2)
+loop-side-smaller c = read_less _ _ (read (goal.at.loop-side-smaller c).In-Record)
 
 pub loop-side-preserved : goal.loop-side-preserved
-loop-side-preserved c = passing_left c.loop-side.invariant (read (goal.at.loop-side-preserved c).In-Record-2) (sym c.is_side.ensures ∙ c.if-is_side.false)
+loop-side-preserved c = passing_left c.loop-side.invariant (read (goal.at.loop-side-preserved c).In-Record) (sym c.is_side.ensures ∙ c.if-is_side.false)

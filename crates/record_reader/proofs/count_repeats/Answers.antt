@@ -1,12 +1,10 @@
 use mathlib.Core.Path.{ap}
-use mathlib.Core.Logic.{⊎_elim}
-use Prim.Native.Nat.{◌-◌}
 use native.Mathlib.Omega.{arith}
 use Rattle.lists.specs.Lists.{one}
 use Rattle.record_reader.specs.Chains.{TagThere}
 use Rattle.record_reader.proofs.Counting.{counted_start, counted_step, counted_end}
 use Rattle.record_reader.proofs.count_repeats.Goals as goal
-use Rattle.record_reader.proofs.count_repeats.Goals.{In-loop-k}
+use Rattle.record_reader.proofs.count_repeats.Goals.{In-loop-k, else-is_repeat, then-is_repeat}
 
 -- the tag k is there
 there : (c : In-loop-k)
@@ -34,7 +32,7 @@ pub loop-k-preserved : goal.loop-k-preserved
 loop-k-preserved c =
     let told = c.is_repeat in
     counted_step c.loop-k.invariant c.loop-k-test.true c.link.ensures told.ensures
-    (⊎_elim (λ w. omega (arith, w.1, ap one w.0.taken)) (λ w. omega (arith, w.1, ap one w.0.left)) c.if-is_repeat.branch)
+    (elim c.if-is_repeat.branch [ then-is_repeat w ↦ omega (arith, ap one w.if-is_repeat.true) | else-is_repeat w ↦ omega (arith, ap one w.if-is_repeat.false) ])
 
 pub returns : goal.returns
 returns c = counted_end c.loop-k.invariant c.loop-k-test.false

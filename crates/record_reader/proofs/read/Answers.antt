@@ -9,7 +9,7 @@ pub returns-in_default : goal.returns-in_default
 returns-in_default c =
     let got = c.read_record-answer in
     read_as c.args.file.now c.args.at got.result 0 got.ensures
-    (read_none c.args.file.now got.result c.in-Record.keys2)
+    (read_none c.args.file.now got.result c.in_default.not-Record)
 
 pub count_repeats-repeats-requires : goal.count_repeats-repeats-requires
 count_repeats-repeats-requires c =

@@ -1,6 +1,6 @@
 -- `tag_loader::load` meets its contract: by the three ends of `Answers`.
 use Rattle.tag_file.specs.Loading.{Lists, lists_of}
-use Rattle.tag_loader.proofs.Answers.{call-fault, sound-limited, call-short, room-fillable, call-loaded}
+use Rattle.tag_loader.proofs.Answers.{call_fault, sound_limited, call_short, room_fillable, call_loaded}
 use Rattle.tag_loader.proofs.load.Goals as goal
 use Rattle.tag_loader.proofs.load.Goals.{After-scan-answer}
 
@@ -35,11 +35,11 @@ shape_of-right_items-in_default c = c.clear_lists.auto.right_items
 
 pub returns-in_default : goal.returns-in_default
 returns-in_default c =
-    call-fault {before = lent (goal.at.returns-in_default c).After-scan-answer} c.in_default.field-0 c.scan-answer.ensures c.in_default.is c.clear_lists.ensures
+    call_fault {before = lent (goal.at.returns-in_default c).After-scan-answer} c.in_default.field-0 c.scan-answer.ensures c.in_default.is c.clear_lists.ensures
 
 pub has_room-requires : goal.has_room-requires
 has_room-requires c =
-    sound-limited c.scan-answer.ensures c.in-Loaded.is
+    sound_limited c.scan-answer.ensures c.in-Loaded.is
 
 pub shape_of-tags-then-not-has_room : goal.shape_of-tags-then-not-has_room
 shape_of-tags-then-not-has_room c = c.clear_lists-then-not-has_room.auto.tags
@@ -64,13 +64,13 @@ shape_of-right_items-then-not-has_room c = c.clear_lists-then-not-has_room.auto.
 
 pub returns-then-not-has_room : goal.returns-then-not-has_room
 returns-then-not-has_room c =
-    call-short c.scan-answer.ensures c.in-Loaded.is (lent (goal.at.returns-then-not-has_room c).After-scan-answer)
+    call_short c.scan-answer.ensures c.in-Loaded.is (lent (goal.at.returns-then-not-has_room c).After-scan-answer)
     c.has_room.ensures c.if-not-has_room.true-raw
     c.clear_lists-then-not-has_room.ensures
 
 pub fill_lists-requires : goal.fill_lists-requires
 fill_lists-requires c =
-    room-fillable c.scan-answer.ensures c.in-Loaded.is (lent (goal.at.fill_lists-requires c).After-scan-answer)
+    room_fillable c.scan-answer.ensures c.in-Loaded.is (lent (goal.at.fill_lists-requires c).After-scan-answer)
     c.has_room.ensures c.if-not-has_room.false-raw
 
 pub shape_of-tags : goal.shape_of-tags
@@ -96,6 +96,6 @@ shape_of-right_items c = c.fill_lists.auto.right_items
 
 pub returns : goal.returns
 returns c =
-    call-loaded c.scan-answer.ensures c.in-Loaded.is (lent (goal.at.returns c).After-scan-answer)
+    call_loaded c.scan-answer.ensures c.in-Loaded.is (lent (goal.at.returns c).After-scan-answer)
     c.has_room.ensures c.if-not-has_room.left
     c.fill_lists.ensures

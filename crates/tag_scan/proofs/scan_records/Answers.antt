@@ -1,7 +1,7 @@
 use mathlib.Core.Path.{◌≡◌, refl, sym, ap, subst, ◌∙◌}
 use mathlib.Core.List.{List, []}
 use mathlib.Core.Bool.{false}
-use Prim.Native.Nat.{ℕ, ◌-◌, ◌<◌, ◌≤◌}
+use Prim.Native.Nat.{ℕ, ◌<◌, ◌≤◌}
 use native.Mathlib.Omega.{arith}
 use lib.ListN.{length, replicate, length-replicate}
 use Rattle.lists.specs.Lists.{keep, sum}
@@ -22,24 +22,24 @@ use Rattle.tag_scan.proofs.Taking.{taken_start}
 use Rattle.tag_scan.proofs.Scanning.{scanning_start, scanning_stop, scanning_used, scanning_room}
 use Rattle.tag_scan.proofs.Scanning.{distinct_few, repeats_room, scanning_past, scanning_next}
 use Rattle.tag_scan.proofs.scan_records.Goals as goal
-use Rattle.tag_scan.proofs.scan_records.Goals.{After-add_tags-added, At-loop-side, In-Record-2, Start}
+use Rattle.tag_scan.proofs.scan_records.Goals.{After-add_tags-added, At-loop-side, In-Record, Start}
 
 -- the record that was read
-read : (a : In-Record-2)
+read : (a : In-Record)
     → read_at a.args.file.now a.loop-side.at
     ≡ Record a.in-Record.side a.in-Record.number a.in-Record.count a.in-Record.tags_at a.in-Record.next
 read a = sym a.read_record-answer.ensures ∙ a.in-Record.is
 
-small : (a : In-Record-2) → a.in-Record.number < half_words
+small : (a : In-Record) → a.in-Record.number < half_words
 small a = read_number _ _ (read a) (λ i. (a.type_inv.file i).fits)
 
-few : (a : In-Record-2) → a.in-Record.count ≤ max_set_length
+few : (a : In-Record) → a.in-Record.count ≤ max_set_length
 few a = read_count _ _ (read a) (λ i. (a.type_inv.file i).fits)
 
 -- no tags of it are added yet
 none-added : (l : At-loop-side)
     → Adding [] l.loop-side.heads l.loop-side.tails l.loop-side.total.tag_count 0 l.loop-side.ids (replicate seen_words 0)
-none-added l = adding_start l.loop-side.invariant.true.sorted
+none-added l = adding_start l.loop-side.invariant.taken.sorted
 
 free : (g : After-add_tags-added)
     → member g.loop-side.used (key_of g.in-Record.side g.in-Record.number) ≡ false
@@ -60,10 +60,6 @@ pub read_record-answer-requires : goal.read_record-answer-requires
 read_record-answer-requires c =
     tt
 
-pub enum_known-answer : goal.enum_known-answer
-enum_known-answer c =
-    c.in-Record.keys1
-
 pub stopped-requires : goal.stopped-requires
 stopped-requires c =
     tt
@@ -77,7 +73,7 @@ returns-in_default c =
     let l = c.loop-side in
     let file = c.args.file.now in
     let read = c.read_record-answer in
-    let stop = no_records file l.at read.result (sym read.ensures) c.in-Record.keys2 in
+    let stop = no_records file l.at read.result (sym read.ensures) c.in_default.not-Record in
     subst (λ (r : LoadAnswer). Scanned file l.heads l.tails l.ids r) (sym c.stopped.ensures)
     (scanning_stop l.invariant read.result (sym read.ensures) stop)
 
@@ -91,7 +87,7 @@ shape_of-used-then-claim c =
 
 pub returns-then-claim : goal.returns-then-claim
 returns-then-claim c =
-    scanning_used c.loop-side.invariant (read (goal.at.returns-then-claim c).In-Record-2) (small (goal.at.returns-then-claim c).In-Record-2) (sym c.claim.ensures.before ∙ c.if-claim.true)
+    scanning_used c.loop-side.invariant (read (goal.at.returns-then-claim c).In-Record) (small (goal.at.returns-then-claim c).In-Record) (sym c.claim.ensures.before ∙ c.if-claim.true)
 
 pub slice_bounds-add_tags-end : goal.slice_bounds-add_tags-end
 slice_bounds-add_tags-end c =
@@ -101,15 +97,15 @@ pub add_tags-added-requires : goal.add_tags-added-requires
 add_tags-added-requires c =
     record {
       some_adding = record { done = []; adding = none-added (goal.at.add_tags-added-requires c).At-loop-side };
-      room_to_add = scanning_room c.loop-side.invariant (read (goal.at.add_tags-added-requires c).In-Record-2) (few (goal.at.add_tags-added-requires c).In-Record-2);
+      room_to_add = scanning_room c.loop-side.invariant (read (goal.at.add_tags-added-requires c).In-Record) (few (goal.at.add_tags-added-requires c).In-Record);
     }
 
 pub grown-total-requires : goal.grown-total-requires
 grown-total-requires c =
     let none = none-added (goal.at.grown-total-requires c).At-loop-side in
     record {
-      limited = c.loop-side.invariant.true.limited;
-      distinct_le_max_set_length = distinct_few c.loop-side.invariant (read (goal.at.grown-total-requires c).In-Record-2) (c.add_tags-added.ensures [] none) none (few (goal.at.grown-total-requires c).In-Record-2);
+      limited = c.loop-side.invariant.taken.limited;
+      distinct_le_max_set_length = distinct_few c.loop-side.invariant (read (goal.at.grown-total-requires c).In-Record) (c.add_tags-added.ensures [] none) none (few (goal.at.grown-total-requires c).In-Record);
     }
 
 pub is_over-requires : goal.is_over-requires
@@ -122,7 +118,7 @@ shape_of-used-then-is_over c =
 
 pub returns-then-is_over : goal.returns-then-is_over
 returns-then-is_over c =
-    scanning_past c.loop-side.invariant (read (goal.at.returns-then-is_over c).In-Record-2) (c.add_tags-added.ensures [] (none-added (goal.at.returns-then-is_over c).At-loop-side)) (small (goal.at.returns-then-is_over c).In-Record-2) (free (goal.at.returns-then-is_over c).After-add_tags-added) c.grown-total.ensures
+    scanning_past c.loop-side.invariant (read (goal.at.returns-then-is_over c).In-Record) (c.add_tags-added.ensures [] (none-added (goal.at.returns-then-is_over c).At-loop-side)) (small (goal.at.returns-then-is_over c).In-Record) (free (goal.at.returns-then-is_over c).After-add_tags-added) c.grown-total.ensures
     (sym c.is_over.ensures ∙ c.if-is_over.true)
 
 pub overflow_sub-count : goal.overflow_sub-count
@@ -132,13 +128,13 @@ overflow_sub-count c =
 
 pub repeated-repeats-requires : goal.repeated-repeats-requires
 repeated-repeats-requires c =
-    repeats_room c.loop-side.invariant (read (goal.at.repeated-repeats-requires c).In-Record-2) (c.add_tags-added.ensures [] (none-added (goal.at.repeated-repeats-requires c).At-loop-side)) (omega (arith, c.well_formed.0))
+    repeats_room c.loop-side.invariant (read (goal.at.repeated-repeats-requires c).In-Record) (c.add_tags-added.ensures [] (none-added (goal.at.repeated-repeats-requires c).At-loop-side)) (omega (arith, c.well_formed.0))
 
 pub loop-side-smaller : goal.loop-side-smaller
 loop-side-smaller c =
-    read_less _ _ (read (goal.at.loop-side-smaller c).In-Record-2)
+    read_less _ _ (read (goal.at.loop-side-smaller c).In-Record)
 
 pub loop-side-preserved : goal.loop-side-preserved
 loop-side-preserved c =
-    scanning_next c.loop-side.invariant (read (goal.at.loop-side-preserved c).In-Record-2) (c.add_tags-added.ensures [] (none-added (goal.at.loop-side-preserved c).At-loop-side)) (small (goal.at.loop-side-preserved c).In-Record-2) (free (goal.at.loop-side-preserved c).After-add_tags-added) c.grown-total.ensures
+    scanning_next c.loop-side.invariant (read (goal.at.loop-side-preserved c).In-Record) (c.add_tags-added.ensures [] (none-added (goal.at.loop-side-preserved c).At-loop-side)) (small (goal.at.loop-side-preserved c).In-Record) (free (goal.at.loop-side-preserved c).After-add_tags-added) c.grown-total.ensures
     c.claim.ensures.noted (sym c.is_over.ensures ∙ c.if-is_over.false) c.repeated-repeats.ensures

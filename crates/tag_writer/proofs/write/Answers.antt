@@ -3,7 +3,7 @@ use mathlib.Core.Path.{◌≡◌, sym, ◌∙◌}
 use Rattle.tag_file.specs.Loading.{Lists, lists_of}
 use Rattle.tag_writer_spec.specs.Writer.{lists_test}
 use Rattle.tag_writer_spec.proofs.Tests.{lists_passed}
-use Rattle.tag_writer_spec.proofs.Answers.{call_refused, call-passed}
+use Rattle.tag_writer_spec.proofs.Answers.{call_refused, call_passed}
 use Rattle.tag_writer.proofs.write.Goals as goal
 use Rattle.tag_writer.proofs.write.Goals.{After-test_lists-tested, Start}
 
@@ -27,5 +27,5 @@ returns-in-Failed c =
 
 pub returns-in-Passed : goal.returns-in-Passed
 returns-in-Passed c =
-    call-passed c.args.t (lists (goal.at.returns-in-Passed c).Start) c.args.file.now _ _ (tested (goal.at.returns-in-Passed c).After-test_lists-tested ∙ c.in-Passed.is)
+    call_passed c.args.t (lists (goal.at.returns-in-Passed c).Start) c.args.file.now _ _ (tested (goal.at.returns-in-Passed c).After-test_lists-tested ∙ c.in-Passed.is)
     c.write_good.ensures.answer c.write_good.ensures.file

@@ -5,7 +5,7 @@ use native.Mathlib.Omega.{arith}
 use lib.ListN.{length}
 use Rattle.tag_file.specs.Loading.{Lists, lists_of}
 use Rattle.tag_writer_spec.specs.Writer.{left_bytes, right_bytes, file_bytes}
-use Rattle.tag_writer_spec.proofs.Answers.{side-limits, left-size, right-size, file-size, put_sides, within, short}
+use Rattle.tag_writer_spec.proofs.Answers.{side_limits, left_size, right_size, file_size, put_sides, within, short}
 use Rattle.tag_writer.proofs.write_good.Goals as goal
 use Rattle.tag_writer.proofs.write_good.Goals.{After-side_length-right, Start}
 
@@ -17,27 +17,27 @@ lists s =
     a.right-numbers.now a.right-ends.now a.right-items.now
 
 left-long : (p : After-side_length-right) → length (left_bytes (lists (goal.at.After-side_length-right p).Start)) ≡ p.side_length-left.result
-left-long p = left-size (lists (goal.at.After-side_length-right p).Start) p.requires ∙ sym p.side_length-left.ensures
+left-long p = left_size (lists (goal.at.After-side_length-right p).Start) p.requires ∙ sym p.side_length-left.ensures
 
 right-long : (p : After-side_length-right) → length (right_bytes (lists (goal.at.After-side_length-right p).Start)) ≡ p.side_length-right.result
-right-long p = right-size (lists (goal.at.After-side_length-right p).Start) p.requires ∙ sym p.side_length-right.ensures
+right-long p = right_size (lists (goal.at.After-side_length-right p).Start) p.requires ∙ sym p.side_length-right.ensures
 
 file-long : (p : After-side_length-right)
     → length (file_bytes (lists (goal.at.After-side_length-right p).Start)) ≡ p.side_length-left.result + p.side_length-right.result
-file-long p = omega (arith, file-size (lists (goal.at.After-side_length-right p).Start) p.requires, left-long p, right-long p)
+file-long p = omega (arith, file_size (lists (goal.at.After-side_length-right p).Start) p.requires, left-long p, right-long p)
 
 pub side_length-left-requires : goal.side_length-left-requires
 side_length-left-requires c =
-    side-limits _ _ _ _ c.requires.left
+    side_limits _ _ _ _ c.requires.left
 
 pub side_length-right-requires : goal.side_length-right-requires
 side_length-right-requires c =
-    side-limits _ _ _ _ c.requires.right
+    side_limits _ _ _ _ c.requires.right
 
 pub overflow_add-left : goal.overflow_add-left
 overflow_add-left c =
-    let few = side-limits _ _ _ _ c.requires.left in
-    let more = side-limits _ _ _ _ c.requires.right in
+    let few = side_limits _ _ _ _ c.requires.left in
+    let more = side_limits _ _ _ _ c.requires.right in
     omega (arith, c.side_length-left.ensures, c.side_length-right.ensures)
 
 pub returns-then-file-left : goal.returns-then-file-left

@@ -1,11 +1,11 @@
 use Prim.Native.Nat.{ℕ, ◌-◌}
 use mathlib.Core.Path.{◌≡◌, sym, subst}
-use mathlib.Core.Logic.{⊎_elim}
 use mathlib.Core.Bool.{true}
 use native.Mathlib.Omega.{arith}
 use Rattle.lists.specs.Lists.{memb, slice}
 use Rattle.join_pairs.proofs.shortlists.Inverted.{slice-memb, slice_rank}
 use Rattle.join_pairs.proofs.shortlists.pivot.Goals as goal
+use Rattle.join_pairs.proofs.shortlists.pivot.Goals.{else-n-least, then-n-least}
 
 pub count_holders-least-requires : goal.count_holders-least-requires
 count_holders-least-requires c =
@@ -41,8 +41,7 @@ loop-i-preserved c =
     record {
       low = omega arith;
       there =
-          ⊎_elim (λ way. subst (λ (r : ℕ). memb r part ≡ true) (sym way.1) next)
-          (λ way. subst (λ (r : ℕ). memb r part ≡ true) (sym way.1) inv.there) c.if-n-least.branch;
+          elim c.if-n-least.branch [ then-n-least way ↦ subst (λ (r : ℕ). memb r part ≡ true) (sym way.is) next | else-n-least way ↦ subst (λ (r : ℕ). memb r part ≡ true) (sym way.is) inv.there ];
     }
 
 pub returns : goal.returns

@@ -1,6 +1,6 @@
 -- `pool_loader::second_file::judge` meets its contract: by the first file, or by both.
 use Rattle.pool_scan.proofs.right_slots.Accepted.{slottable}
-use Rattle.pool_loader.proofs.second_file.Answers.{first_taken, first_refused, second-limited, second-decided}
+use Rattle.pool_loader.proofs.second_file.Answers.{first_taken, first_refused, second_limited, second_decided}
 use Rattle.pool_loader.proofs.second_file.judge.Goals as goal
 
 pub returns-in_default : goal.returns-in_default
@@ -30,10 +30,10 @@ scan_second-scanned-requires c =
 pub decide-requires : goal.decide-requires
 decide-requires c =
     let t = first_taken c.args.first.now _ _ c.requires.scanned c.in-Loaded.is in
-    second-limited c.args.first.now c.args.second.now t.clean c.scan_second-scanned.ensures
+    second_limited c.args.first.now c.args.second.now t.clean c.scan_second-scanned.ensures
 
 pub returns : goal.returns
 returns c lent lengths =
     let t = first_taken c.args.first.now _ _ c.requires.scanned c.in-Loaded.is in
-    second-decided c.args.first.now c.args.second.now t.clean c.scan_second-scanned.ensures lent c.index_right.ensures.noted
+    second_decided c.args.first.now c.args.second.now t.clean c.scan_second-scanned.ensures lent c.index_right.ensures.noted
     c.index_right.ensures.counted lengths c.decide.ensures

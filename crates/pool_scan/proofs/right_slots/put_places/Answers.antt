@@ -9,15 +9,15 @@ use Rattle.tag_file.proofs.RecordLaws.{read_less, read_length}
 use Rattle.pool_scan.proofs.right_slots.Walking.{walking_step, walking_within}
 use Rattle.pool_scan.proofs.right_slots.SlotPlacing.{SlotPlacing, placing_start, placing_end, placing_other, placing_room, placing_own}
 use Rattle.pool_scan.proofs.right_slots.put_places.Goals as goal
-use Rattle.pool_scan.proofs.right_slots.put_places.Goals.{After-number_slot-slot, In-Record-2}
+use Rattle.pool_scan.proofs.right_slots.put_places.Goals.{After-number_slot-slot, In-Record}
 
 -- the record that was read
-read : (a : In-Record-2)
+read : (a : In-Record)
     → read_at a.args.file.now a.loop-side.at
     ≡ Record a.in-Record.side a.in-Record.number a.in-Record.count a.in-Record.tags_at a.in-Record.next
 read a = sym a.read_record-answer.ensures ∙ a.in-Record.is
 
-byte : (a : In-Record-2) (i : ℕ)
+byte : (a : In-Record) (i : ℕ)
     → get_or a.args.file.now i 0 < 256
 byte a i = (a.type_inv.file i).fits
 
@@ -31,7 +31,7 @@ room c =
     omega (
       arith,
       c.number_slot-slot.ensures,
-      placing_room c.loop-side.invariant (read (goal.at.After-number_slot-slot c).In-Record-2) c.requires.numbers_noted (byte (goal.at.After-number_slot-slot c).In-Record-2) (is_right c),
+      placing_room c.loop-side.invariant (read (goal.at.After-number_slot-slot c).In-Record) c.requires.numbers_noted (byte (goal.at.After-number_slot-slot c).In-Record) (is_right c),
     )
 
 pub loop-side-init : goal.loop-side-init
@@ -42,9 +42,6 @@ loop-side-init c =
 pub read_record-answer-requires : goal.read_record-answer-requires
 read_record-answer-requires c = tt
 
-pub enum_known-answer : goal.enum_known-answer
-enum_known-answer c = c.in-Record.keys1
-
 pub shape_of-slots-in_default : goal.shape_of-slots-in_default
 shape_of-slots-in_default c =
     c.loop-side.invariant.size ∙ sym c.requires.slots_len
@@ -52,7 +49,7 @@ shape_of-slots-in_default c =
 pub returns-in_default : goal.returns-in_default
 returns-in_default c =
     let told = c.read_record-answer in
-    let stop = no_records c.args.file.now c.loop-side.at told.result (sym told.ensures) c.in-Record.keys2 in
+    let stop = no_records c.args.file.now c.loop-side.at told.result (sym told.ensures) c.in_default.not-Record in
     record {
       noted = c.requires.numbers_noted;
       counted = c.requires.blocks_counted;
@@ -64,20 +61,20 @@ pub is_side-requires : goal.is_side-requires
 is_side-requires c = tt
 
 pub loop-side-smaller-then-not-is_side : goal.loop-side-smaller-then-not-is_side
-loop-side-smaller-then-not-is_side c = read_less _ _ (read (goal.at.loop-side-smaller-then-not-is_side c).In-Record-2)
+loop-side-smaller-then-not-is_side c = read_less _ _ (read (goal.at.loop-side-smaller-then-not-is_side c).In-Record)
 
 pub loop-side-preserved-then-not-is_side : goal.loop-side-preserved-then-not-is_side
 loop-side-preserved-then-not-is_side c =
     let side = c.is_side in
-    placing_other c.loop-side.invariant (read (goal.at.loop-side-preserved-then-not-is_side c).In-Record-2) (sym side.ensures ∙ not-true side.result c.if-not-is_side.true-raw)
+    placing_other c.loop-side.invariant (read (goal.at.loop-side-preserved-then-not-is_side c).In-Record) (sym side.ensures ∙ not-true side.result c.if-not-is_side.true-raw)
 
 pub number_slot-slot-requires : goal.number_slot-slot-requires
 number_slot-slot-requires c = c.requires.blocks_counted
 
 pub overflow_cast-slots : goal.overflow_cast-slots
 overflow_cast-slots c =
-    let after = walking_step c.loop-side.invariant.walk (read (goal.at.overflow_cast-slots c).In-Record-2) in
-    let size = read_length c.args.file.now c.loop-side.at (read (goal.at.overflow_cast-slots c).In-Record-2) in
+    let after = walking_step c.loop-side.invariant.walk (read (goal.at.overflow_cast-slots c).In-Record) in
+    let size = read_length c.args.file.now c.loop-side.at (read (goal.at.overflow_cast-slots c).In-Record) in
     record { fits = omega (arith, size, walking_within after, c.requires.slottable.short) }
 
 pub offset_bounds-slots-slot : goal.offset_bounds-slots-slot
@@ -87,11 +84,11 @@ pub bounds-slots-slot : goal.bounds-slots-slot
 bounds-slots-slot c = room (goal.at.bounds-slots-slot c).After-number_slot-slot
 
 pub loop-side-smaller : goal.loop-side-smaller
-loop-side-smaller c = read_less _ _ (read (goal.at.loop-side-smaller c).In-Record-2)
+loop-side-smaller c = read_less _ _ (read (goal.at.loop-side-smaller c).In-Record)
 
 pub loop-side-preserved : goal.loop-side-preserved
 loop-side-preserved c =
     subst
     (λ (k : ℕ). SlotPlacing c.args.file.now c.args.used.now (set c.loop-side.slots k c.loop-side.at) c.in-Record.next)
     (sym c.number_slot-slot.ensures)
-    (placing_own c.loop-side.invariant (read (goal.at.loop-side-preserved c).In-Record-2) c.requires.numbers_noted (byte (goal.at.loop-side-preserved c).In-Record-2) (is_right (goal.at.loop-side-preserved c).After-number_slot-slot) c.requires.slottable.once)
+    (placing_own c.loop-side.invariant (read (goal.at.loop-side-preserved c).In-Record) c.requires.numbers_noted (byte (goal.at.loop-side-preserved c).In-Record) (is_right (goal.at.loop-side-preserved c).After-number_slot-slot) c.requires.slottable.once)

@@ -38,7 +38,7 @@ returns-then-not-contains c =
     let out = sym c.contains.ensures ∙ not-true _ c.if-not-contains.true-raw in
     record {
       told = c.add_alone.ensures.told ∙ sym out;
-      alone = λ e. c.add_alone.ensures.true;
+      alone = λ e. c.add_alone.ensures.taken;
       kept = λ e. refl;
       met = λ e. true-false e out;
       noted = λ e. true-false e out;
@@ -78,6 +78,6 @@ returns c =
       told = c.add_both-united.ensures.told ∙ sym (met (goal.at.returns c).After-number_slot-slot);
       alone = λ e. true-false (met (goal.at.returns c).After-number_slot-slot) e;
       kept = λ e. true-false (met (goal.at.returns c).After-number_slot-slot) e;
-      met = λ e count start there. c.add_both-united.ensures.true count start (there-at (goal.at.returns c).After-number_slot-slot there);
+      met = λ e count start there. c.add_both-united.ensures.taken count start (there-at (goal.at.returns c).After-number_slot-slot there);
       noted = λ e. ap (λ (k : ℕ). set c.args.slots.now k (pooled_mark + c.add_both-united.result.all)) c.number_slot-slot.ensures;
     }

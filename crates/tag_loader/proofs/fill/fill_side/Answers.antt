@@ -13,10 +13,10 @@ use Rattle.tag_loader.proofs.record_items.Marks.{unmarked_marked}
 use Rattle.tag_loader.proofs.fill.Filling.{side_filling_start, filled_numbers, filled_ends, filled_items}
 use Rattle.tag_loader.proofs.fill.Filling.{filling_known, filling_wide, filling_items, filling_room, filling_own, filling_other}
 use Rattle.tag_loader.proofs.fill.fill_side.Goals as goal
-use Rattle.tag_loader.proofs.fill.fill_side.Goals.{In-Record-2}
+use Rattle.tag_loader.proofs.fill.fill_side.Goals.{In-Record}
 
 -- the record that was read
-read : (a : In-Record-2)
+read : (a : In-Record)
     → read_at a.args.file.now a.loop-kind.at
     ≡ Record a.in-Record.kind a.in-Record.number a.in-Record.count a.in-Record.tags_at a.in-Record.next
 read a = sym a.read_record-answer.ensures ∙ a.in-Record.is
@@ -26,9 +26,6 @@ loop-kind-init c = side_filling_start c.requires
 
 pub read_record-answer-requires : goal.read_record-answer-requires
 read_record-answer-requires c = tt
-
-pub enum_known-answer : goal.enum_known-answer
-enum_known-answer c = c.in-Record.keys1
 
 pub shape_of-numbers-in_default : goal.shape_of-numbers-in_default
 shape_of-numbers-in_default c = c.loop-kind.invariant.for_numbers.same
@@ -43,7 +40,7 @@ pub returns-in_default : goal.returns-in_default
 returns-in_default c =
     let l = c.loop-kind in
     let read = c.read_record-answer in
-    let stop = no_records c.args.file.now l.at read.result (sym read.ensures) c.in-Record.keys2 in
+    let stop = no_records c.args.file.now l.at read.result (sym read.ensures) c.in_default.not-Record in
     record {
       numbers = filled_numbers l.invariant stop;
       ends = filled_ends l.invariant stop;
@@ -54,12 +51,12 @@ pub is_side-requires : goal.is_side-requires
 is_side-requires c = tt
 
 pub loop-kind-smaller-then-not-is_side : goal.loop-kind-smaller-then-not-is_side
-loop-kind-smaller-then-not-is_side c = read_less _ _ (read (goal.at.loop-kind-smaller-then-not-is_side c).In-Record-2)
+loop-kind-smaller-then-not-is_side c = read_less _ _ (read (goal.at.loop-kind-smaller-then-not-is_side c).In-Record)
 
 pub loop-kind-preserved-then-not-is_side : goal.loop-kind-preserved-then-not-is_side
 loop-kind-preserved-then-not-is_side c =
     let side = c.is_side in
-    filling_other c.loop-kind.invariant (read (goal.at.loop-kind-preserved-then-not-is_side c).In-Record-2)
+    filling_other c.loop-kind.invariant (read (goal.at.loop-kind-preserved-then-not-is_side c).In-Record)
     (sym side.ensures ∙ not-true side.result c.if-not-is_side.true-raw)
 
 pub slice_bounds-mark_tags-end : goal.slice_bounds-mark_tags-end
@@ -71,7 +68,7 @@ mark_tags-requires c =
     let a = c.args in
     let side = c.is_side in
     record {
-      tags_known = filling_known c.loop-kind.invariant (read (goal.at.mark_tags-requires c).In-Record-2) c.requires.sorted c.requires.ranked refl c.requires.small
+      tags_known = filling_known c.loop-kind.invariant (read (goal.at.mark_tags-requires c).In-Record) c.requires.sorted c.requires.ranked refl c.requires.small
           (sym side.ensures ∙ not-false side.result c.if-not-is_side.false-raw);
       some_marked = record {
         done = [];
@@ -81,26 +78,26 @@ mark_tags-requires c =
 
 pub slice_bounds-put_record-end : goal.slice_bounds-put_record-end
 slice_bounds-put_record-end c =
-    sym (filling_wide c.loop-kind.invariant (read (goal.at.slice_bounds-put_record-end c).In-Record-2) c.mark_tags.ensures)
+    sym (filling_wide c.loop-kind.invariant (read (goal.at.slice_bounds-put_record-end c).In-Record) c.mark_tags.ensures)
 
 pub put_record-done-requires : goal.put_record-done-requires
 put_record-done-requires c =
     let l = c.loop-kind in
     let side = c.is_side in
     record {
-      marks_len = filling_wide l.invariant (read (goal.at.put_record-done-requires c).In-Record-2) c.mark_tags.ensures;
-      room_for_one = rw (filling_items l.invariant (read (goal.at.put_record-done-requires c).In-Record-2) c.mark_tags.ensures (omega (arith, sorted_size c.requires.sorted, c.requires.small)))
-          (filling_room l.invariant (read (goal.at.put_record-done-requires c).In-Record-2) c.requires.few (sym side.ensures ∙ not-false side.result c.if-not-is_side.false-raw));
+      marks_len = filling_wide l.invariant (read (goal.at.put_record-done-requires c).In-Record) c.mark_tags.ensures;
+      room_for_one = rw (filling_items l.invariant (read (goal.at.put_record-done-requires c).In-Record) c.mark_tags.ensures (omega (arith, sorted_size c.requires.sorted, c.requires.small)))
+          (filling_room l.invariant (read (goal.at.put_record-done-requires c).In-Record) c.requires.few (sym side.ensures ∙ not-false side.result c.if-not-is_side.false-raw));
     }
 
 pub loop-kind-smaller : goal.loop-kind-smaller
 loop-kind-smaller c =
-    read_less _ _ (read (goal.at.loop-kind-smaller c).In-Record-2)
+    read_less _ _ (read (goal.at.loop-kind-smaller c).In-Record)
 
 pub loop-kind-preserved : goal.loop-kind-preserved
 loop-kind-preserved c =
     let l = c.loop-kind in
     let side = c.is_side in
-    let same = filling_items l.invariant (read (goal.at.loop-kind-preserved c).In-Record-2) c.mark_tags.ensures
+    let same = filling_items l.invariant (read (goal.at.loop-kind-preserved c).In-Record) c.mark_tags.ensures
     (omega (arith, sorted_size c.requires.sorted, c.requires.small)) in
-    filling_own l.invariant (read (goal.at.loop-kind-preserved c).In-Record-2) (sym side.ensures ∙ not-false side.result c.if-not-is_side.false-raw) (rw same at c.put_record-done.ensures.lists) c.put_record-done.ensures.marks
+    filling_own l.invariant (read (goal.at.loop-kind-preserved c).In-Record) (sym side.ensures ∙ not-false side.result c.if-not-is_side.false-raw) (rw same at c.put_record-done.ensures.lists) c.put_record-done.ensures.marks

@@ -7,10 +7,10 @@ use lib.ListN.{length, get_or, length-set}
 use Rattle.lists.proofs.Throughout.{all_at}
 use Rattle.validation.proofs.permutations.Fresh.{fresh_start, fresh_next, fresh_end}
 use Rattle.validation.proofs.permutations.all_distinct.Goals as goal
-use Rattle.validation.proofs.permutations.all_distinct.Goals.{After-slice_known-1}
+use Rattle.validation.proofs.permutations.all_distinct.Goals.{In-loop-i}
 
 -- the rank at hand has a mark
-marked : (c : After-slice_known-1)
+marked : (c : In-loop-i)
     → get_or c.args.ranks.now c.loop-i.i 0
     < length c.loop-i.seen
 marked c =
@@ -30,10 +30,10 @@ pub overflow_cast-x : goal.overflow_cast-x
 overflow_cast-x c = omega (arith, c.type_inv.ranks c.loop-i.i)
 
 pub bounds-seen-x : goal.bounds-seen-x
-bounds-seen-x c = marked (goal.at.bounds-seen-x c).After-slice_known-1
+bounds-seen-x c = marked (goal.at.bounds-seen-x c).In-loop-i
 
 pub bounds-seen-x-in-loop-i : goal.bounds-seen-x-in-loop-i
-bounds-seen-x-in-loop-i c = marked (goal.at.bounds-seen-x-in-loop-i c).After-slice_known-1
+bounds-seen-x-in-loop-i c = marked (goal.at.bounds-seen-x-in-loop-i c).In-loop-i
 
 pub loop-i-preserved : goal.loop-i-preserved
 loop-i-preserved c =
