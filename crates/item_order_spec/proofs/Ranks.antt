@@ -19,7 +19,7 @@ use Rattle.item_order_spec.specs.declared.OrderAnswer.TheVariants.{Ordered}
 use Rattle.sets.proofs.Permutation.{permutation_make}
 use Rattle.item_order_spec.specs.Order.{frequency, comes_before, rank_of, rank_table, order_ranks, ranks_after, OrderCall}
 use Rattle.item_order_spec.specs.Keys.{sort_key}
-use Rattle.item_order_spec.proofs.Keys.{key_before}
+use Rattle.item_order_spec.proofs.Keys.{key_before_lem}
 
 module _ (falling : Bool) (T : ℕ) (left right : List (List ℕ)) where
   -- the rank of an item is its rank by key
@@ -30,7 +30,7 @@ module _ (falling : Bool) (T : ℕ) (left right : List (List ℕ)) where
   few i = omega (arith, count_bound (memb i) left, count_bound (memb i) right)
 
   same_order : (i j : ℕ) → key_before frequency_key i j ≡ comes_before falling (frequency left right) i j
-  same_order i j = key_before (length left + length right) (frequency left right) few falling i j
+  same_order i j = key_before_lem (length left + length right) (frequency left right) few falling i j
 
   same_rank : (i : ℕ) → count (key_before frequency_key i) (upto T) ≡ rank_of falling (frequency left right) T i
   same_rank i =

@@ -10,7 +10,7 @@ ghost use Rattle.inputs.specs.Input.{lent_input};
 ghost use Rattle.join.specs.Numbered.{weights_of, numbered_answer};
 ghost use Rattle.first_search_spec.specs.First.{first_answer, first_words};
 ghost use Rattle.item_order_spec.specs.Order.{order_answer, order_ranks, order_words};
-ghost use Rattle.tag_file.specs.Loading.{lent_lists, returned_lists, load_answer, LoadCall};
+ghost use Rattle.tag_file.specs.Loading.{lent_lists, read_lists, returned_lists, load_answer, LoadCall};
 ghost use Rattle.pool_loader_spec.specs.Pooling.{pooled_answer, PooledCall};
 ghost use Rattle.tag_writer_spec.specs.Writer.{write_answer, written_file, write_words};
 
@@ -203,9 +203,9 @@ pub extern "C" fn kitfinder_write(
     answer: &mut [u64; 4],
 )
     ensures answer { answer.new ≡ write_words (write_answer t
-        (lent_lists tags left_numbers left_ends left_items right_numbers right_ends right_items) (length file.old)) }
+        (read_lists tags left_numbers left_ends left_items right_numbers right_ends right_items) (length file.old)) }
     ensures file { file.new ≡ written_file t
-        (lent_lists tags left_numbers left_ends left_items right_numbers right_ends right_items) file.old }
+        (read_lists tags left_numbers left_ends left_items right_numbers right_ends right_items) file.old }
 {
     *answer = tag_writer_spec::write_words(tag_writer::write(
         t,

@@ -85,9 +85,9 @@ module _ (first second : List TagRecord) (once : distinct (numbers_of Right firs
       rw (none, own)
 
   -- the tags at a place are those of its borrower in either file
-  pub tags_pooled : (k : ℕ) → k < length (of_side Right (pooled first second))
+  pub tags_pooled_lem : (k : ℕ) → k < length (of_side Right (pooled first second))
       → (record_of Right (pooled first second) k).tags ≡ borrower_tags first second (get_or (borrowers first second) k 0)
-  tags_pooled k within =
+  tags_pooled_lem k within =
       by_test (ltb k (length (of_side Right first))) (λ t. tags_at_lem k (ltb-true k (length (of_side Right first)) t))
       (λ f. later (ltb-false k (length (of_side Right first)) f))
       ∙ ap (borrower_tags first second) (number_pooled first second k within)

@@ -30,7 +30,7 @@ use Rattle.tag_containment.proofs.LoadedLists.{OverLoaded, fills_left_number, fi
 use Rattle.tag_containment.proofs.LoadedPairs.{tags_contained, and_where, fills_pairs}
 use Rattle.pool_loader_laws.specs.Borrowers.{borrower_tags, borrowers}
 use Rattle.pool_loader_laws.proofs.ByNumber.{numbers_borrowers, number_pooled}
-use Rattle.pool_loader_laws.proofs.BorrowerTags.{tags_pooled}
+use Rattle.pool_loader_laws.proofs.BorrowerTags.{tags_pooled_lem}
 use Rattle.pool_loader_laws.proofs.AcceptedPair.{pair_accepted, pair_fills, first_free, pair_second_free}
 
 -- what is asked of a pair of places: that they are those of a left set of the first file and of a borrower, and that the left
@@ -56,7 +56,7 @@ contained-pooled first second once once_more l r =
     (and_where (ltb r (length (of_side Right (pooled first second)))) _ _
     (λ within.
     ap (contained (record_of Left first l).tags)
-    (tags_pooled first second once once_more r (ltb-true r (length (of_side Right (pooled first second))) within)))))
+    (tags_pooled_lem first second once once_more r (ltb-true r (length (of_side Right (pooled first second))) within)))))
 
 module _ (first second : List ℕ) {lent got : Lists} {loaded : Loaded} {repeats : Repeats}
     (pools : PooledCall first second lent got (load.Loaded loaded repeats)) where

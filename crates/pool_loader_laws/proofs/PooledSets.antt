@@ -32,7 +32,7 @@ use Rattle.pool_loader_spec.proofs.Sides.{left_pooled}
 use Rattle.tag_containment.proofs.ItemTags.{no_record, record_of}
 use Rattle.pool_loader_laws.specs.Borrowers.{tags_of_number, borrower_tags, borrowers}
 use Rattle.pool_loader_laws.proofs.ByNumber.{record_side}
-use Rattle.pool_loader_laws.proofs.BorrowerTags.{tags_pooled, same_tags, by_number}
+use Rattle.pool_loader_laws.proofs.BorrowerTags.{tags_pooled_lem, same_tags, by_number}
 
 -- ---- sets that are not too long
 
@@ -115,7 +115,7 @@ module _ (first second : List TagRecord) (once : distinct (numbers_of Right firs
           → leb (length (collapse (record_of Right (pooled first second) k).tags)) max_set_length ≡ true
       at_most k within =
           let n = get_or (borrowers first second) k 0 in
-          ap (λ (tags : List ℕ). leb (length (collapse tags)) max_set_length) (tags_pooled first second once once_more k within)
+          ap (λ (tags : List ℕ). leb (length (collapse tags)) max_set_length) (tags_pooled_lem first second once once_more k within)
           ∙ le-leb (length (collapse (borrower_tags first second n))) max_set_length (borrower_few n)
 
 -- ---- tags and numbers

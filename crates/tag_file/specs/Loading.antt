@@ -2,9 +2,9 @@
 -- Document 01, "Tag file", and rows 1 to 4 of "When no list is made": "the first record at fault decides, by 1, 2, 3; then 4".
 use Rattle.std.specs.Prelude.{ℕ, ◌+◌, ◌≡◌, Bool, not, ◌&&◌, ◌||◌, eqb, leb, ltb, length}
 use mathlib.Core.List.{List, [], ◌∷◌, ◌++◌, map, flatten}
-use Rattle.std.specs.Borrow.{Bor}
+use Rattle.std.specs.Borrow.{Bor, MutBor}
 use Rattle.lists.specs.Lists.{any}
-use Rattle.lists.specs.Lent.{Lent}
+use Rattle.lists.specs.Lent.{Lent, LentMut}
 use Rattle.sets.specs.Limits.{max_items, max_sets, max_entries}
 use Rattle.sets.specs.Refusals.{refuse_if, unless}
 use Rattle.sets.specs.Lent.{filled_over, after_refusal}
@@ -160,21 +160,33 @@ lists_of tags left_numbers left_ends left_items right_numbers right_ends right_i
     }
 
 -- seven lent lists as they come
-abbrev pub lent_lists : Lent → Lent → Lent → Lent → Lent → Lent → Lent → Lists
+abbrev pub lent_lists : LentMut → LentMut → LentMut → LentMut → LentMut → LentMut → LentMut → Lists
 lent_lists tags left_numbers left_ends left_items right_numbers right_ends right_items =
     lists_of tags.entry.now left_numbers.entry.now left_ends.entry.now left_items.entry.now
     right_numbers.entry.now right_ends.entry.now right_items.entry.now
 
 -- the same as they go back
-abbrev pub returned_lists : Lent → Lent → Lent → Lent → Lent → Lent → Lent → Lists
+abbrev pub returned_lists : LentMut → LentMut → LentMut → LentMut → LentMut → LentMut → LentMut → Lists
 returned_lists tags left_numbers left_ends left_items right_numbers right_ends right_items =
     lists_of tags.exit.now left_numbers.exit.now left_ends.exit.now left_items.exit.now
     right_numbers.exit.now right_ends.exit.now right_items.exit.now
 
 -- and as a `requires` has them
-abbrev pub lists_now : Bor (List ℕ) → Bor (List ℕ) → Bor (List ℕ) → Bor (List ℕ) → Bor (List ℕ) → Bor (List ℕ)
-    → Bor (List ℕ) → Lists
+abbrev pub lists_now : MutBor (List ℕ) → MutBor (List ℕ) → MutBor (List ℕ) → MutBor (List ℕ) → MutBor (List ℕ)
+    → MutBor (List ℕ) → MutBor (List ℕ) → Lists
 lists_now tags left_numbers left_ends left_items right_numbers right_ends right_items =
+    lists_of tags.now left_numbers.now left_ends.now left_items.now
+    right_numbers.now right_ends.now right_items.now
+
+-- seven lists that are read, as they come and as a `requires` has them
+abbrev pub read_lists : Lent → Lent → Lent → Lent → Lent → Lent → Lent → Lists
+read_lists tags left_numbers left_ends left_items right_numbers right_ends right_items =
+    lists_of tags.entry.now left_numbers.entry.now left_ends.entry.now left_items.entry.now
+    right_numbers.entry.now right_ends.entry.now right_items.entry.now
+
+abbrev pub read_lists_now : Bor (List ℕ) → Bor (List ℕ) → Bor (List ℕ) → Bor (List ℕ) → Bor (List ℕ) → Bor (List ℕ)
+    → Bor (List ℕ) → Lists
+read_lists_now tags left_numbers left_ends left_items right_numbers right_ends right_items =
     lists_of tags.now left_numbers.now left_ends.now left_items.now
     right_numbers.now right_ends.now right_items.now
 

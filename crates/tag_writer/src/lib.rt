@@ -3,7 +3,7 @@
 #![tactic(auto)]
 
 ghost use Rattle.std.specs.Prelude.{◌≡◌, length};
-ghost use Rattle.tag_file.specs.Loading.{lent_lists, lists_now};
+ghost use Rattle.tag_file.specs.Loading.{read_lists, read_lists_now};
 ghost use Rattle.tag_writer_spec.specs.Writer.{file_bytes, table_test, numbered_test, lists_test};
 ghost use Rattle.tag_writer_spec.specs.Writer.{written_within, file_after, WriteCall};
 ghost use Rattle.tag_writer_spec.specs.Inner.{GoodLists};
@@ -57,7 +57,7 @@ fn test_lists(
     right_items: &[u16],
 ) -> Tested
     ensures { result ≡ lists_test t
-        (lent_lists tags left_numbers left_ends left_items right_numbers right_ends right_items) }
+        (read_lists tags left_numbers left_ends left_items right_numbers right_ends right_items) }
 {
     let table = test_table(t, tags);
     if let Tested::Failed(why) = table {
@@ -81,11 +81,11 @@ fn write_good(
     right_items: &[u16],
     file: &mut [u8],
 ) -> WriteAnswer
-    requires { GoodLists (lists_now tags left_numbers left_ends left_items right_numbers right_ends right_items) }
+    requires { GoodLists (read_lists_now tags left_numbers left_ends left_items right_numbers right_ends right_items) }
     ensures answer { result ≡ written_within (length file.old) (file_bytes
-        (lent_lists tags left_numbers left_ends left_items right_numbers right_ends right_items)) }
+        (read_lists tags left_numbers left_ends left_items right_numbers right_ends right_items)) }
     ensures file { file.new ≡ file_after result (file_bytes
-        (lent_lists tags left_numbers left_ends left_items right_numbers right_ends right_items)) file.old }
+        (read_lists tags left_numbers left_ends left_items right_numbers right_ends right_items)) file.old }
 {
     let left = side_length(left_ends);
     let right = side_length(right_ends);
@@ -126,7 +126,7 @@ pub fn write(
     right_items: &[u16],
     file: &mut [u8],
 ) -> WriteAnswer
-    ensures { WriteCall t (lent_lists tags left_numbers left_ends left_items right_numbers right_ends right_items)
+    ensures { WriteCall t (read_lists tags left_numbers left_ends left_items right_numbers right_ends right_items)
         file.old file.new result }
 {
     let tested = test_lists(

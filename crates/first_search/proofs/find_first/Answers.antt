@@ -12,7 +12,7 @@ use Rattle.first_search.proofs.find_first.Goals.{After-test_first-tested, In-Pas
 
 -- the left sets of a call
 abbrev lefts : Start → Collection
-lefts s = record { ends = s.args.left-ends.now; items = s.args.left-items.now }
+lefts s = record { ends = s.args.left_ends.now; items = s.args.left_items.now }
 
 found : (p : After-test_first-tested)
     → first_test p.args.t (lefts (goal.at.After-test_first-tested p).Start) p.args.right.now ≡ p.test_first-tested.result

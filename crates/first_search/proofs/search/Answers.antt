@@ -6,7 +6,7 @@ use Rattle.first_search.proofs.search.Goals as goal
 
 pub loop-k-init : goal.loop-k-init
 loop-k-init c =
-    let a = c.args in searching_start a.left-ends.now a.left-items.now a.marks.now
+    let a = c.args in searching_start a.left_ends.now a.left-items.now a.marks.now
 
 pub overflow_cast-end : goal.overflow_cast-end
 overflow_cast-end c = omega (arith, (c.type_inv.left_ends c.loop-k.k).fits)

@@ -10,7 +10,7 @@ use Rattle.first_search.proofs.test_first.Goals.{After-test_items-items, After-t
 
 -- the left sets of a call
 abbrev lefts : Start → Collection
-lefts s = record { ends = s.args.left-ends.now; items = s.args.left-items.now }
+lefts s = record { ends = s.args.left_ends.now; items = s.args.left_items.now }
 
 items-found : (p : After-test_items-items) → items_test p.args.t ≡ p.test_items-items.result
 items-found p = sym p.test_items-items.ensures

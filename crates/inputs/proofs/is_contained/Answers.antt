@@ -1,9 +1,9 @@
-use mathlib.Core.Logic.{⊎_elim}
 use Prim.Native.Nat.{◌-◌}
 use native.Mathlib.Omega.{arith}
 use Rattle.inputs.proofs.Containing.{containing_none, containing_start, containing-stop, containing_end}
 use Rattle.inputs.proofs.Containing.{containing_low, containing_same, containing_high}
 use Rattle.inputs.proofs.is_contained.Goals as goal
+use Rattle.inputs.proofs.is_contained.Goals.{then-x-y-2, else-x-y-2}
 
 pub returns-then-left-eq0 : goal.returns-then-left-eq0
 returns-then-left-eq0 c = containing_none _ _ (omega arith)
@@ -21,10 +21,10 @@ returns-then-x-y c =
 pub loop-i-preserved : goal.loop-i-preserved
 loop-i-preserved c =
     let m = c.loop-i.invariant in
-    ⊎_elim
-    (λ t. rw t.1 (containing_same m (omega arith) (omega arith) t.0.taken))
-    (λ f. rw f.1 (containing_high m (omega arith) (omega arith) (omega (arith, f.0.left))))
-    c.if-x-y-2.branch
+    elim c.if-x-y-2.branch [
+      then-x-y-2 w ↦ rw w.i-is (containing_same m (omega arith) (omega arith) w.if-x-y-2.true)
+      | else-x-y-2 w ↦ rw w.i-is (containing_high m (omega arith) (omega arith) (omega (arith, w.if-x-y-2.false)))
+    ]
 
 pub returns : goal.returns
 returns c = containing_end c.loop-i.invariant c.loop-i-test.false

@@ -32,10 +32,10 @@ use Rattle.join_index.proofs.build.BuildPlan.{least_below, order_above, signed_a
 use Rattle.join_index.proofs.build.BuildStages.{Built, least_ranges, order_ranges}
 
 -- the order by the keys of the left sets
-order_from : (q : Query) (n d : ℕ) → ordered_by (key_at q) q.T (upto (length q.lefts)) n d ≡ order_from q n d
+order_from_lem : (q : Query) (n d : ℕ) → ordered_by (key_at q) q.T (upto (length q.lefts)) n d ≡ order_from q n d
 unfolding ordered_by order_from
-order_from q zero d = refl
-order_from q (suc n) d = ap (λ (l : List ℕ). grouped (key_at q d) (suc q.T) l) (order_from q n (suc d))
+order_from_lem q zero d = refl
+order_from_lem q (suc n) d = ap (λ (l : List ℕ). grouped (key_at q d) (suc q.T) l) (order_from q n (suc d))
 
 module _ {left_ends left_items right_ends right_items ranks w a b c d f : List ℕ} {nl nr limit : ℕ} {rule : Rule} {lay : Layout}
     (built : Built left_ends left_items right_ends right_items ranks nl nr limit rule lay w a b c d f) where
@@ -132,7 +132,7 @@ module _ {left_ends left_items right_ends right_items ranks w a b c d f : List �
       ordered_agree (held_key c lay.left_starts lay.left_ranks) (key_at q) T
       (upto (length left_ends)) limit 0 (λ e k there. order_keys_lem e k (upto_place (length left_ends) k there))
       ∙ ap (λ (n : ℕ). ordered_by (key_at q) T (upto n) limit 0) (sym (left_long plan))
-      ∙ order_from q limit 0
+      ∙ order_from_lem q limit 0
 
   order_end : lay.left_order + length lefts ≡ lay.right_signatures
   order_end = omega (arith, plan.out.right_signatures, left_long plan)

@@ -81,7 +81,7 @@ returns-in_default c =
     let read = c.read_record-answer in
     let stop = no_records c.args.second.now c.loop-side.at read.result (sym read.ensures) c.in_default.not-Record in
     passing_cut c.loop-side.invariant stop c.if-at-second.false
-    (c.refused.ensures ∙ ap (λ (k : ℕ). load.Refused (Malformed k)) c.wrapping_add_usize-place.ensures)
+    (c.refused.ensures ∙ ap (λ (k : ℕ). load.Refused (Malformed k)) c.wrapping_add_usize-place.ensures.value)
 
 pub is_side-requires : goal.is_side-requires
 is_side-requires c = tt
@@ -102,7 +102,7 @@ pub returns-then-claim : goal.returns-then-claim
 returns-then-claim c =
     let l = c.loop-side in
     passing_used l.invariant (read (goal.at.returns-then-claim c).In-Record) (right (goal.at.returns-then-claim c).Then-is_side) (small (goal.at.returns-then-claim c).In-Record) (sym c.claim.ensures.before ∙ c.if-claim.true) l.invariant.size
-    (c.refused-then-claim.ensures ∙ ap (λ (k : ℕ). load.Refused (NumberUsed k)) c.wrapping_add_usize-place.ensures)
+    (c.refused-then-claim.ensures ∙ ap (λ (k : ℕ). load.Refused (NumberUsed k)) c.wrapping_add_usize-place.ensures.value)
 
 pub unite-united-requires : goal.unite-united-requires
 unite-united-requires c =
@@ -139,7 +139,7 @@ returns-then-is_past c =
     let one = stepped c.requires (bytes (goal.at.returns-then-is_past c).Else-claim) inv (read (goal.at.returns-then-is_past c).In-Record) (right-here (goal.at.returns-then-is_past c).Else-claim) (small (goal.at.returns-then-is_past c).In-Record) (free (goal.at.returns-then-is_past c).Else-claim) c.unite-united.ensures in
     passing_past inv (read (goal.at.returns-then-is_past c).In-Record) (right-here (goal.at.returns-then-is_past c).Else-claim) (small (goal.at.returns-then-is_past c).In-Record) (free (goal.at.returns-then-is_past c).Else-claim) c.unite-united.result one.one one.size
     (sym (ap (λ (k : Counted). over_of k.total) c.count_set-counted.ensures) ∙ sym c.is_past.ensures ∙ c.if-is_past.true)
-    (c.refused-then-is_past.ensures ∙ ap (λ (k : ℕ). load.Refused (TooMany k)) c.wrapping_add_usize-place.ensures)
+    (c.refused-then-is_past.ensures ∙ ap (λ (k : ℕ). load.Refused (TooMany k)) c.wrapping_add_usize-place.ensures.value)
 
 pub loop-side-smaller-else-is_past : goal.loop-side-smaller-else-is_past
 loop-side-smaller-else-is_past c = read_less _ _ (read (goal.at.loop-side-smaller-else-is_past c).In-Record)
@@ -149,7 +149,7 @@ loop-side-preserved-else-is_past c =
     let inv = c.loop-side.invariant in
     let one = stepped c.requires (bytes (goal.at.loop-side-preserved-else-is_past c).Else-claim) inv (read (goal.at.loop-side-preserved-else-is_past c).In-Record) (right-here (goal.at.loop-side-preserved-else-is_past c).Else-claim) (small (goal.at.loop-side-preserved-else-is_past c).In-Record) (free (goal.at.loop-side-preserved-else-is_past c).Else-claim) c.unite-united.ensures in
     passing_by
-    (c.count_set-counted.ensures ∙ ap (counted_by c.loop-side.counted c.unite-united.result c.in-Record.count) c.wrapping_add_usize-place.ensures)
+    (c.count_set-counted.ensures ∙ ap (counted_by c.loop-side.counted c.unite-united.result c.in-Record.count) c.wrapping_add_usize-place.ensures.value)
     (passing_next inv (read (goal.at.loop-side-preserved-else-is_past c).In-Record) (right-here (goal.at.loop-side-preserved-else-is_past c).Else-claim) (small (goal.at.loop-side-preserved-else-is_past c).In-Record) (free (goal.at.loop-side-preserved-else-is_past c).Else-claim) c.unite-united.result one.one one.size
     (sym (ap (λ (k : Counted). over_of k.total) c.count_set-counted.ensures) ∙ sym c.is_past.ensures ∙ c.if-is_past.false)
     c.claim.ensures.noted one.distinct one.words one.is one.counted)

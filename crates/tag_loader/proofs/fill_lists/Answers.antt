@@ -56,9 +56,9 @@ returns c =
     record {
       tags_filled = tags_filled c.requires c.args.tags.now c.fill_tags.ensures;
       left_numbers_filled = c.fill_side.ensures.numbers;
-      left_ends_filled = ends_filled c.requires Left c.args.left-ends.now c.fill_side.ensures.ends;
-      left_items_filled = items_filled c.requires Left c.args.left-items.now c.fill_side.ensures.items;
+      left_ends_filled = ends_filled c.requires Left c.args.left_ends.now c.fill_side.ensures.ends;
+      left_items_filled = items_filled c.requires Left c.args.left_items.now c.fill_side.ensures.items;
       right_numbers_filled = c.fill_side-2.ensures.numbers;
-      right_ends_filled = ends_filled c.requires Right c.args.right-ends.now c.fill_side-2.ensures.ends;
-      right_items_filled = items_filled c.requires Right c.args.right-items.now c.fill_side-2.ensures.items;
+      right_ends_filled = ends_filled c.requires Right c.args.right_ends.now c.fill_side-2.ensures.ends;
+      right_items_filled = items_filled c.requires Right c.args.right_items.now c.fill_side-2.ensures.items;
     }

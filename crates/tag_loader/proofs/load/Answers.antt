@@ -8,7 +8,7 @@ use Rattle.tag_loader.proofs.load.Goals.{After-scan-answer}
 abbrev lent : After-scan-answer → Lists
 lent at-scan =
     let a = at-scan.args in
-    lists_of a.tags.now a.left-numbers.now a.left-ends.now a.left-items.now
+    lists_of a.tags.now a.left_numbers.now a.left-ends.now a.left-items.now
     a.right-numbers.now a.right-ends.now a.right-items.now
 
 -- each list is as long as it was: so says the call, of its parameters in their order

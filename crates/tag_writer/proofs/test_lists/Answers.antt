@@ -11,7 +11,7 @@ use Rattle.tag_writer.proofs.test_lists.Goals.{After-test_numbered-left, After-t
 abbrev lists : Start → Lists
 lists s =
     let a = s.args in
-    lists_of a.tags.now a.left-numbers.now a.left-ends.now a.left-items.now
+    lists_of a.tags.now a.left_numbers.now a.left-ends.now a.left-items.now
     a.right-numbers.now a.right-ends.now a.right-items.now
 
 -- what was found of the table, and of the left sets

@@ -11,7 +11,7 @@ use Rattle.tag_writer.proofs.write.Goals.{After-test_lists-tested, Start}
 abbrev lists : Start → Lists
 lists s =
     let a = s.args in
-    lists_of a.tags.now a.left-numbers.now a.left-ends.now a.left-items.now
+    lists_of a.tags.now a.left_numbers.now a.left-ends.now a.left-items.now
     a.right-numbers.now a.right-ends.now a.right-items.now
 
 tested : (p : After-test_lists-tested) → lists_test p.args.t (lists (goal.at.After-test_lists-tested p).Start) ≡ p.test_lists-tested.result

@@ -13,7 +13,7 @@ use Rattle.tag_writer.proofs.write_good.Goals.{After-side_length-right, Start}
 abbrev lists : Start → Lists
 lists s =
     let a = s.args in
-    lists_of a.tags.now a.left-numbers.now a.left-ends.now a.left-items.now
+    lists_of a.tags.now a.left_numbers.now a.left-ends.now a.left-items.now
     a.right-numbers.now a.right-ends.now a.right-items.now
 
 left-long : (p : After-side_length-right) → length (left_bytes (lists (goal.at.After-side_length-right p).Start)) ≡ p.side_length-left.result

@@ -12,7 +12,7 @@ put_word-n-requires c =
 pub put_number-requires : goal.put_number-requires
 put_number-requires c =
     let word = c.put_word-n in
-    omega (arith, c.requires, word.ensures.past, word.auto.0, length-append c.args.word.now (decimal c.args.number))
+    omega (arith, c.requires, word.ensures.past, word.auto.text, length-append c.args.word.now (decimal c.args.number))
 
 pub returns : goal.returns
 returns c =

@@ -11,7 +11,7 @@ use Rattle.text.proofs.put_number.Goals.{After-decimal-n}
 
 -- what the library spelled
 spelled : (c : After-decimal-n) → take c.decimal-n.result c.decimal-n.new.out ≡ decimal c.args.number
-spelled c = (c.decimal-n.ensures.digits, c.decimal-n.ensures.rest) ∙ digits_decimal _ _ c.decimal-n.ensures.len
+spelled c = c.decimal-n.ensures.digits ∙ digits_decimal _ _ c.decimal-n.ensures.len
 
 pub put_word-requires : goal.put_word-requires
 put_word-requires c =
@@ -20,5 +20,5 @@ put_word-requires c =
 pub returns : goal.returns
 returns c =
     let call = c.put_word in
-    subst (λ (l : List ℕ). Put c.args.text.now c.args.at l call.result call.new.0)
+    subst (λ (l : List ℕ). Put c.args.text.now c.args.at l call.result call.new.text)
     (spelled (goal.at.returns c).After-decimal-n) call.ensures

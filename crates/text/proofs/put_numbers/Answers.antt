@@ -16,7 +16,7 @@ put_labelled-m-requires c =
       arith,
       c.requires,
       first.ensures.past,
-      first.auto.0,
+      first.auto.text,
       long_labelled c.args.word.now c.args.first c.ranges.first.fits,
       long_labelled (ascii " ") c.args.second c.ranges.second.fits,
     )
@@ -29,7 +29,7 @@ put_word-requires c =
       arith,
       c.requires,
       first.ensures.past,
-      first.auto.0,
+      first.auto.text,
       second.ensures.past,
       second.auto.0,
       long_labelled c.args.word.now c.args.first c.ranges.first.fits,

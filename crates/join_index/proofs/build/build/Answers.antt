@@ -6,8 +6,8 @@ use Rattle.join_index.proofs.build.BuildGround.{ground, ground_items}
 use Rattle.join_index.proofs.build.build.Goals as goal
 use Rattle.join_index.proofs.build.build.Goals.{After-lay_out-lay}
 
-planned : (c : After-lay_out-lay) → Planned c.args.left-ends.now c.args.left-items.now
-    c.args.right-ends.now c.args.right-items.now c.args.ranks.now
+planned : (c : After-lay_out-lay) → Planned c.args.left_ends.now c.args.left_items.now
+    c.args.right_ends.now c.args.right_items.now c.args.ranks.now
     c.count_entries-left_entries.result c.count_entries-right_entries.result c.lay_out-lay.result
     c.args.work.now
 planned c =

@@ -6,7 +6,7 @@ use Rattle.pool_scan.proofs.counting.first_long.Goals as goal
 
 pub returns-in-Failed : goal.returns-in-Failed
 returns-in-Failed c =
-    rw c..given.1
+    rw c.in-Failed.is
 
 pub returns-then-all-gt-MAX_SET_LENGTH : goal.returns-then-all-gt-MAX_SET_LENGTH
 returns-then-all-gt-MAX_SET_LENGTH c =

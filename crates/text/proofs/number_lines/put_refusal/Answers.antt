@@ -8,7 +8,7 @@ use Rattle.text.proofs.number_lines.put_refusal.Goals as goal
 
 pub returns : goal.returns
 returns c =
-    let call = c.Put-refused in
+    let call = c.put_refused in
     let head = c.head_of-head in
     let text = c.args.text.now in
     record {

@@ -10,7 +10,7 @@ loop-i-init c = lines_start _ _ _ _ _ c.requires
 
 -- the pair at the front of what is left
 next : (c : After-shared_slice_known-in-loop-i-1)
-    → PairAt c.args.left-numbers.now c.args.right-numbers.now c.args.pairs.now
+    → PairAt c.args.left_numbers.now c.args.right_numbers.now c.args.pairs.now
     c.loop-i.i
 next c = pair_next c.loop-i.invariant c.loop-i-test.true
 
