@@ -1,7 +1,7 @@
 /* The kit finder: a set containment join of kits and stacks, the first kit for one stack, the order of tags, and the tag file's loader
  * and writer, for one pad or two.
  *
- * Link libkitfinder.a, which `rt staticlib kitfinder` writes to target/staticlib (x86-64 Linux); scripts/install puts it, this header
+ * Link libkitfinder.a, which scripts/library writes to target/staticlib (x86-64 Linux); scripts/install puts it, this header
  * and a pkg-config file below a prefix. Every function is proved to meet its contract (crates/kitfinder/src/lib.rt).
  * docs/FORMAT.md has the tag file, the limits and what makes a set bad; examples/kiosk.c and examples/waiting.c use what is here.
  *

@@ -34,8 +34,12 @@ fn built() -> PathBuf {
     if !script.exists() {
         fail("this package lies outside its repository: KITFINDER_LIB must name the folder that has libkitfinder.a");
     }
-    for sources in ["crates.txt", "crates", "scripts"] {
-        println!("cargo:rerun-if-changed={}", root.join(sources).display());
+    // Not all of crates: what rt keeps in a crate's out/ is no source.
+    let crates = std::fs::read_dir(root.join("crates")).into_iter().flatten().flatten();
+    let parts = crates.flat_map(|one| ["src", "specs", "proofs"].map(|part| one.path().join(part)));
+    let parts = parts.filter(|part| part.exists());
+    for sources in [root.join("crates.txt"), root.join("scripts")].into_iter().chain(parts) {
+        println!("cargo:rerun-if-changed={}", sources.display());
     }
     match Command::new(&script).status() {
         Ok(status) if status.success() => root.join("target/staticlib"),
