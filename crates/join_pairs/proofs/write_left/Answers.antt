@@ -39,7 +39,7 @@ returns c =
     record {
       wrote = record {
         changed = changed_none a.lay.slots a.lay.row_starts a.work.now;
-        c = λ q there.
+        wrote = λ q there.
             kept_put there c.word_at-from.ensures c.word_at-to.ensures (omega (arith, c.if-from-eq0.false))
             c.write_kept.ensures;
       };

@@ -97,5 +97,5 @@ shape_of-right_items c = c.fill_lists.auto.right_items
 pub returns : goal.returns
 returns c =
     call_loaded c.scan-answer.ensures c.in-Loaded.is (lent (goal.at.returns c).After-scan-answer)
-    c.has_room.ensures c.if-not-has_room.left
+    c.has_room.ensures c.if-not-has_room.false-raw
     c.fill_lists.ensures

@@ -59,7 +59,7 @@ returns c =
             left_built = c.build_side-2.ensures;
             least_built = c.build_least.ensures;
             order_built = c.build_order.ensures;
-            c = c.sign_collections.ensures;
+            signed = c.sign_collections.ensures;
           });
       room = omega (
         arith,

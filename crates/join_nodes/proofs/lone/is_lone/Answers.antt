@@ -28,7 +28,7 @@ returns-in-Merge c =
     λ yes.
     record {
       one = omega (arith, c.if-hi-lo-ne1.false, c.requires.some_query.holds.some);
-      c = c.in-Merge.is;
+      merge = c.in-Merge.is;
       short = λ q there.
           subst (λ (k : ℕ). length (left_at q k) ≤ c.args.st.limit) c.word_at-k.ensures.is
           (key_within q c.args.st.limit c.word_at-k.result

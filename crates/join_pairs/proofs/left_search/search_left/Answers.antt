@@ -55,7 +55,7 @@ returns c =
     record {
       wrote = record {
         changed = c.find_candidates-c.ensures.listed.changed;
-        c = λ q there.
+        wrote = λ q there.
             shortlist_put c.probe_left-p.ensures c.pivot-r.ensures c.find_candidates-c.ensures.listed there
             (c.write_row.ensures q (shortlist_room c.probe_left-p.ensures c.pivot-r.ensures c.find_candidates-c.ensures.listed there));
       };
