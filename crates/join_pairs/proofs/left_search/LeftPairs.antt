@@ -23,13 +23,13 @@ use Rattle.join_pairs.specs.row_pairs.Containing.{pairs_with, row_among}
 use Rattle.join_pairs.specs.left_search.LeftRows.{row_at}
 
 -- a row of the pair list, as the right places that are kept
-row_from : (k : ℕ) (left : List ℕ) (rights : List (List ℕ)) (r n : ℕ) → r + n ≡ length rights
+row_from_lem : (k : ℕ) (left : List ℕ) (rights : List (List ℕ)) (r n : ℕ) → r + n ≡ length rights
     → row_from (contained left) k r (drop r rights) ≡ pairs_with k (keep (λ (s : ℕ). contained left (get_or rights s [])) (range r n))
 unfolding row_from pairs_with keep range
-row_from k left rights r zero e = rw (drop_of_length-le rights {i = r} (omega arith))
-row_from k left rights r (suc n) e =
+row_from_lem k left rights r zero e = rw (drop_of_length-le rights {i = r} (omega arith))
+row_from_lem k left rights r (suc n) e =
     rw (drop-cons rights r [] (omega arith))
-    (made (contained left (get_or rights r [])) (row_from k left rights (suc r) n (omega arith)))
+    (made (contained left (get_or rights r [])) (row_from_lem k left rights (suc r) n (omega arith)))
   where
     made : (b : Bool)
         → row_from (contained left) k (suc r) (drop (suc r) rights)
@@ -40,7 +40,7 @@ row_from k left rights r (suc n) e =
     made false later = later
 
 pub row-whole : (q : Query) (k : ℕ) → row_at q k ≡ row_among q k (upto (length q.rights))
-row-whole q k = row_from k (get_or q.lefts k []) q.rights 0 (length q.rights) (omega arith)
+row-whole q k = row_from_lem k (get_or q.lefts k []) q.rights 0 (length q.rights) (omega arith)
 
 module _ {lay : Layout} {q : Query} {w : List ℕ} {k : ℕ} (there : LeftThere lay q w k) where
   -- a left set without ranks is contained in no right set

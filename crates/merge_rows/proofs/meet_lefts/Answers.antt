@@ -36,11 +36,11 @@ offset_bounds-left_items-start c =
 pub slice_bounds-meet_left-count : goal.slice_bounds-meet_left-count
 slice_bounds-meet_left-count c = (set_here (goal.at.slice_bounds-meet_left-count c).In-loop-k).good.ordered
 
-pub slice-bounds-meet-left-start : goal.slice-bounds-meet-left-start
-slice-bounds-meet-left-start c = (set_here (goal.at.slice-bounds-meet-left-start c).In-loop-k).good.ordered
+pub slice_bounds-meet_left-start : goal.slice_bounds-meet_left-start
+slice_bounds-meet_left-start c = (set_here (goal.at.slice_bounds-meet_left-start c).In-loop-k).good.ordered
 
-pub slice-bounds-meet-left-end : goal.slice-bounds-meet-left-end
-slice-bounds-meet-left-end c = (set_here (goal.at.slice-bounds-meet-left-end c).In-loop-k).good.within
+pub slice_bounds-meet_left-end : goal.slice_bounds-meet_left-end
+slice_bounds-meet_left-end c = (set_here (goal.at.slice_bounds-meet_left-end c).In-loop-k).good.within
 
 pub meet_left-met-requires : goal.meet_left-met-requires
 meet_left-met-requires c =

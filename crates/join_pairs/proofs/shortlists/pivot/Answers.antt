@@ -41,7 +41,7 @@ loop-i-preserved c =
     record {
       low = omega arith;
       there =
-          elim c.if-n-least.branch [ then-n-least way ↦ subst (λ (r : ℕ). memb r part ≡ true) (sym way.is) next | else-n-least way ↦ subst (λ (r : ℕ). memb r part ≡ true) (sym way.is) inv.there ];
+          elim c.if-n-least.branch [ then-n-least way ↦ subst (λ (r : ℕ). memb r part ≡ true) (sym way.rank-is) next | else-n-least way ↦ subst (λ (r : ℕ). memb r part ≡ true) (sym way.rank-is) inv.there ];
     }
 
 pub returns : goal.returns

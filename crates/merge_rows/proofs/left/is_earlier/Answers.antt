@@ -32,11 +32,11 @@ offset_bounds-items-start c =
 pub slice_bounds-same_items-count : goal.slice_bounds-same_items-count
 slice_bounds-same_items-count c = omega (arith, c.start_of-start.ensures, (set_there (goal.at.slice_bounds-same_items-count c).After-start_of-start).good.ordered)
 
-pub slice-bounds-same-items-start : goal.slice-bounds-same-items-start
-slice-bounds-same-items-start c = omega (arith, c.start_of-start.ensures, (set_there (goal.at.slice-bounds-same-items-start c).After-start_of-start).good.ordered)
+pub slice_bounds-same_items-start : goal.slice_bounds-same_items-start
+slice_bounds-same_items-start c = omega (arith, c.start_of-start.ensures, (set_there (goal.at.slice_bounds-same_items-start c).After-start_of-start).good.ordered)
 
-pub slice-bounds-same-items-end : goal.slice-bounds-same-items-end
-slice-bounds-same-items-end c = (set_there (goal.at.slice-bounds-same-items-end c).After-start_of-start).good.within
+pub slice_bounds-same_items-end : goal.slice_bounds-same_items-end
+slice_bounds-same_items-end c = (set_there (goal.at.slice_bounds-same_items-end c).After-start_of-start).good.within
 
 pub returns : goal.returns
 returns c =

@@ -52,9 +52,6 @@ offset_bounds-work-i c = omega (arith, word_low (goal.at.offset_bounds-work-i c)
 pub bounds-work-i : goal.bounds-work-i
 bounds-work-i c = omega (arith, word_low (goal.at.bounds-work-i c).After-shared_slice_known-2-1)
 
-pub overflow_cast-j : goal.overflow_cast-j
-overflow_cast-j c = omega (arith, c.type_inv.work (word_at (goal.at.overflow_cast-j c).After-shared_slice_known-2-1))
-
 pub offset_bounds-work-i-2 : goal.offset_bounds-work-i-2
 offset_bounds-work-i-2 c = omega (arith, word_low (goal.at.offset_bounds-work-i-2 c).After-shared_slice_known-2-1)
 

@@ -53,11 +53,11 @@ offset_bounds-items-start c =
 pub slice_bounds-add_right-count : goal.slice_bounds-add_right-count
 slice_bounds-add_right-count c = (set_here (goal.at.slice_bounds-add_right-count c).In-loop-s).good.ordered
 
-pub slice-bounds-add-right-start : goal.slice-bounds-add-right-start
-slice-bounds-add-right-start c = (set_here (goal.at.slice-bounds-add-right-start c).In-loop-s).good.ordered
+pub slice_bounds-add_right-start : goal.slice_bounds-add_right-start
+slice_bounds-add_right-start c = (set_here (goal.at.slice_bounds-add_right-start c).In-loop-s).good.ordered
 
-pub slice-bounds-add-right-end : goal.slice-bounds-add-right-end
-slice-bounds-add-right-end c = (set_here (goal.at.slice-bounds-add-right-end c).In-loop-s).good.within
+pub slice_bounds-add_right-end : goal.slice_bounds-add_right-end
+slice_bounds-add_right-end c = (set_here (goal.at.slice_bounds-add_right-end c).In-loop-s).good.within
 
 pub add_right-requires : goal.add_right-requires
 add_right-requires c =
@@ -65,7 +65,7 @@ add_right-requires c =
     record {
       block =
           record { few = block.few; place = block.place; room = omega (arith, block.room, c.open_block.ensures.size) };
-      items = (set_here (goal.at.add_right-requires c).In-loop-s).well-formed.below;
+      items = (set_here (goal.at.add_right-requires c).In-loop-s).good.below;
     }
 
 pub loop-s-preserved : goal.loop-s-preserved

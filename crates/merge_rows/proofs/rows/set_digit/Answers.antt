@@ -6,4 +6,4 @@ use Rattle.merge_rows.proofs.rows.set_digit.Goals as goal
 pub returns : goal.returns
 returns c =
     let a = c.args in
-    digit_set a.work.now a.c a.j c.requires (λ i. omega (arith, c.type_inv.work i))
+    digit_set a.work.now a.c a.j c.requires (λ i. omega (arith, c.items_fit i))
