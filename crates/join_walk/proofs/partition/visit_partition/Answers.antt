@@ -130,7 +130,7 @@ unheld c q r part =
     let key = key-is (goal.at.Else-is_held c).After-key_at-key q r part in
     let rank : c.key_at-key.result - 1 ≡ r = omega (arith, key) in
     subst (λ (n : ℕ). inverted_list q n ≡ []) rank
-    (c.is_held_lem.ensures q (rank-there (goal.at.Else-is_held c).Else-asks_seen q r part) c.if-is_held.false)
+    (c.is_held.ensures q (rank-there (goal.at.Else-is_held c).Else-asks_seen q r part) c.if-is_held.false)
 
 pub keep_list-top-requires : goal.keep_list-top-requires
 keep_list-top-requires c =
