@@ -1,16 +1,15 @@
 -- The lowest digit 1 of a word, taken away by `word & (word - 1)`; and the digits that two words share or that only one has.
-use Prim.Native.Nat.{ℕ, zero, suc, ◌+◌, ◌-◌, ◌*◌, ◌/◌, ◌%◌, ◌^◌, ◌<◌, ◌≤◌, min, max}
-use mathlib.Core.Path.{◌≡◌, refl, sym, ap, ap₂, ◌∙◌}
-use mathlib.Core.List.{List, [], ◌∷◌}
-use mathlib.Core.Bool.{Bool, true, false, not, ◌&&◌}
-use native.Mathlib.Nat.{pow-suc, add-zero, div-one}
+use Prim.Native.Nat.{ℕ, zero, suc, ◌+◌, ◌-◌, ◌*◌, ◌/◌, ◌%◌, ◌^◌, ◌<◌, ◌≤◌}
+use mathlib.Core.Path.{◌≡◌, refl, sym, ap, ◌∙◌}
+use mathlib.Core.List.{◌∷◌}
+use mathlib.Core.Bool.{Bool, true, not, ◌&&◌}
+use native.Mathlib.Nat.{pow-suc, add-zero}
 use native.Mathlib.Omega.{arith}
 use lib.Dec.{eqb}
 use lib.Bits.{bit_and, bit_xor, and_step, and_shr, and_mod, xor_shr, xor_mod, and_zero_l, and_self}
 use lib.Count.{count_trailing_zeros, under}
 use Rattle.lists.specs.Lists.{onto, keep, range}
-use Rattle.lists.proofs.Filtering.{keep-keep, keep_agree}
-use Rattle.lists.proofs.Ranges.{range_lower, range_upper}
+use Rattle.lists.proofs.Filtering.{keep-keep}
 use Rattle.bit_sets.specs.BitSets.{bit_at, digits_from}
 use Rattle.bit_sets.proofs.Digits.{digits_keep}
 

@@ -1,6 +1,6 @@
 -- The refusal table of document 01, "When no list is made", a row a refusal; the words that every answer begins with; and tests in a
 -- row: the first that refuses decides.
-use Rattle.std.specs.Prelude.{ℕ, List, [], ◌∷◌, Bool, true, false, cond, replicate}
+use Rattle.std.specs.Prelude.{ℕ, List, ◌∷◌, Bool, true, false, cond, replicate}
 use Rattle.sets.specs.declared.Side.{Side}
 use Rattle.sets.specs.declared.Side.TheVariants.{Left, Right}
 use Rattle.sets.specs.declared.Refusal.{Refusal}

@@ -1,4 +1,3 @@
-use Prim.Native.Nat.{◌-◌}
 use Rattle.lists.proofs.Zeros.{zeroed_start, zeroed_step, zeroed_end}
 use Rattle.lists.proofs.zero_u8.Goals as goal
 

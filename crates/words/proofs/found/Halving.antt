@@ -9,7 +9,7 @@ use lib.Dec.{eqb, ltb}
 use lib.ListN.{length, get_or}
 use Rattle.lists.specs.Lists.{memb, slice}
 use Rattle.lists.proofs.Bools.{by_test, true-false}
-use Rattle.lists.proofs.Membership.{Place, memb_at, memb_place}
+use Rattle.lists.proofs.Membership.{memb_at, memb_place}
 use Rattle.lists.proofs.Rising.{rising_below}
 use Rattle.lists.proofs.Slices.{length-slice, get_d_slice}
 use Rattle.words.specs.Merges.{Rising}

@@ -1,5 +1,4 @@
 use mathlib.Core.Path.{refl, sym, ◌∙◌}
-use Prim.Native.Nat.{◌-◌}
 use native.Mathlib.Omega.{arith}
 use Rattle.validation.proofs.falls.Ends.{ends_low, ends_long, ends_next, ends_end}
 use Rattle.validation.proofs.falls.good_ends.Goals as goal

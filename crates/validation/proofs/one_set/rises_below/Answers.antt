@@ -1,5 +1,4 @@
 use mathlib.Core.Path.{refl, sym, ◌∙◌}
-use Prim.Native.Nat.{◌-◌}
 use native.Mathlib.Omega.{arith}
 use Rattle.sets.specs.Collections.{between}
 use Rattle.validation.proofs.one_set.Rises.{rises_all, rises_low, rises_high, rises_next, rises_end}

@@ -1,4 +1,3 @@
-use Prim.Native.Nat.{◌-◌}
 use native.Mathlib.Omega.{arith}
 use Rattle.words.proofs.flags.Flagging.{flagging_start, flagging_low, flagging_step, flagging_end}
 use Rattle.words.proofs.flags.flag_words.Goals as goal

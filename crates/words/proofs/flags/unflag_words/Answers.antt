@@ -1,4 +1,3 @@
-use Prim.Native.Nat.{◌-◌}
 use native.Mathlib.Omega.{arith}
 use Rattle.words.proofs.flags.Flagging.{unflagging_start, unflagging_low, unflagging_step, unflagging_end}
 use Rattle.words.proofs.flags.unflag_words.Goals as goal

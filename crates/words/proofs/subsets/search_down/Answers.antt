@@ -1,5 +1,4 @@
 use mathlib.Core.Path.{refl}
-use Prim.Native.Nat.{◌-◌}
 use native.Mathlib.Omega.{arith}
 use Rattle.words.proofs.Trimming.{trimming_stop, trimming_other, trimming_same, trimming_end}
 use Rattle.words.proofs.subsets.search_down.Goals as goal

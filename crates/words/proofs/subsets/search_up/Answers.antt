@@ -1,5 +1,4 @@
 use mathlib.Core.Path.{refl}
-use Prim.Native.Nat.{◌-◌}
 use Rattle.words.proofs.Advancing.{advancing_stop, advancing_other, advancing_same, advancing_end}
 use Rattle.words.proofs.subsets.search_up.Goals as goal
 

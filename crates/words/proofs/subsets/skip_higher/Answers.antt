@@ -1,5 +1,4 @@
 use mathlib.Core.Path.{refl}
-use Prim.Native.Nat.{◌-◌}
 use native.Mathlib.Omega.{arith}
 use Rattle.words.proofs.Trimming.{skipped, skipping_next}
 use Rattle.words.proofs.subsets.skip_higher.Goals as goal

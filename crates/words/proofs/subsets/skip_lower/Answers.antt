@@ -1,5 +1,4 @@
 use mathlib.Core.Path.{refl}
-use Prim.Native.Nat.{◌-◌}
 use native.Mathlib.Omega.{arith}
 use Rattle.words.proofs.Advancing.{passed, passing_next}
 use Rattle.words.proofs.subsets.skip_lower.Goals as goal
