@@ -156,9 +156,9 @@ module _ (file : List ℕ) (low : (i : ℕ) → get_or file i 0 < 256) (clear : 
       (record { settings = settings; good = good; work = ltb-false work_words (words_needed input) enough })
       ∙ ap (λ (q : Query). walk_answer q (full_words - 1) pair_places) (query_is rs)
 
-  pub records_text : records_text rs ≡ plain_text rs
+  pub records_text_lem : records_text rs ≡ plain_text rs
   unfolding join_text
-  records_text =
+  records_text_lem =
       let repeats = repeat_totals rs in
       let ln = numbers_of Left rs in
       let rn = numbers_of Right rs in
@@ -178,7 +178,7 @@ listing_cases file low = ap (unless refusal_line (length_test file)) (by_fault (
   where
     by_fault : (t : Tested) → file_fault file ≡ t
         → unless refusal_line t (records_text (records file)) ≡ unless refusal_line t (plain_text (records file))
-    by_fault Passed clear = records_text file low clear
+    by_fault Passed clear = records_text_lem file low clear
     by_fault (Failed why) fault = refl
 
 -- each pair of records is listed once where the left one has a tag and each of its tags is a tag of the right one, else not at all

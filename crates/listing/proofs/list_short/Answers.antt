@@ -18,8 +18,8 @@ lent p =
 abbrev got : After-load-answer → Lists
 got p =
     let last = p.load-answer.new in
-    lists_of last.1.0 last.1.1.0 last.1.1.1.0 last.1.1.1.1.0 last.1.1.1.1.1.0
-    last.1.1.1.1.1.1.0 last.1.1.1.1.1.1.1.0
+    lists_of last.tags last.left_numbers last.left_ends last.left_items last.right_numbers last.right_ends
+    last.right_items
 
 program-lists : (p : After-load-answer) → ProgramLists (lent p)
 program-lists p =
