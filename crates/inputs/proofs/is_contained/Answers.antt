@@ -22,7 +22,7 @@ pub loop-i-preserved : goal.loop-i-preserved
 loop-i-preserved c =
     let m = c.loop-i.invariant in
     elim c.if-x-y-2.branch [
-      then-x-y-2 w ↦ rw w.i-is (containing_same m (omega arith) (omega arith) w.if-x-y-2.true)
+      | then-x-y-2 w ↦ rw w.i-is (containing_same m (omega arith) (omega arith) w.if-x-y-2.true)
       | else-x-y-2 w ↦ rw w.i-is (containing_high m (omega arith) (omega arith) (omega (arith, w.if-x-y-2.false)))
     ]
 

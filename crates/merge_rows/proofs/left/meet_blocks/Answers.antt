@@ -47,7 +47,7 @@ loop-rest-preserved c =
     let inv = c.loop-rest.invariant in
     let some = c.loop-rest-test.true in
     elim c.if-word-ne0.branch [
-      then-word-ne0 w ↦ blocks_same w.work-is w.pairs-is w.met-is
+      | then-word-ne0 w ↦ blocks_same w.work-is w.pairs-is w.met-is
           (blocks_step c.requires.there inv some c.shared-word.result c.shared-word.ensures w.meet_block-met.ensures.yielded w.meet_block-met.ensures.signs)
       | else-word-ne0 w ↦ blocks_same w.work-is w.pairs-is w.met-is
           (blocks_none c.requires.there inv some c.shared-word.result c.shared-word.ensures w.if-word-ne0.false)
