@@ -254,10 +254,7 @@ fn popular() -> Workload {
 
 /// Two kinds with so few entries for their tags and stacks that a bit for each tag and stack does not fit a work list of 16n + 64 words.
 pub fn thin_kinds() -> Vec<Workload> {
-    vec![
-        plain("sparse", 9, &Kind { t: 4096, zipf: 0.5, left: (1000, (1, 6)), right: (4096, (1, 6)), around: 5 }),
-        popular(),
-    ]
+    vec![plain("sparse", 9, &Kind { t: 4096, zipf: 0.5, left: (1000, (1, 6)), right: (4096, (1, 6)), around: 5 }), popular()]
 }
 
 /// A small join with empty sets, equal sets, few items, and at times nothing on a side; not measured, only compared.

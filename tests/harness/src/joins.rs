@@ -237,8 +237,7 @@ pub fn separated(rule: Rule, node: Node) -> [bool; 6] {
     ]
 }
 
-pub const SEPARATED: [&str; 6] =
-    ["a*c + (b*t + g)", "(a*c + g) + b*t", "fused a*c", "fused b*t", "(h*c)*m", "at most instead of below"];
+pub const SEPARATED: [&str; 6] = ["a*c + (b*t + g)", "(a*c + g) + b*t", "fused a*c", "fused b*t", "(h*c)*m", "at most instead of below"];
 
 pub fn rule(random: &mut Random, nodes: &[Node]) -> Rule {
     match random.below(8) {

@@ -57,13 +57,7 @@ const VECTORS: &[Vector] = &[
     Vector { name: "P2", limit: 2, result: Joined([4, 3, 1, 2, 1, 0], SHELF_PAIRS), ..SHELF },
     Vector { name: "P3 limit 1", rule: Rule::Check, limit: 1, result: CHECK_ALL, ..SHELF },
     Vector { name: "P3 limit 255", rule: Rule::Check, limit: 255, result: CHECK_ALL, ..SHELF },
-    Vector {
-        name: "P4",
-        rule: weighed(1.0, 1.0, 0.0, 1.5),
-        limit: 255,
-        result: Joined([4, 0, 4, 7, 3, 0], SHELF_PAIRS),
-        ..SHELF
-    },
+    Vector { name: "P4", rule: weighed(1.0, 1.0, 0.0, 1.5), limit: 255, result: Joined([4, 0, 4, 7, 3, 0], SHELF_PAIRS), ..SHELF },
     Vector {
         name: "P5",
         t: 257,
@@ -75,14 +69,7 @@ const VECTORS: &[Vector] = &[
         ..SHELF
     },
     Vector { name: "P6", left: &[], places: 0, result: Joined([0; 6], &[]), ..SHELF },
-    Vector {
-        name: "P7",
-        left: &[&[]],
-        right: &[&[0], &[1, 2]],
-        places: 0,
-        result: Joined([0; 6], &[]),
-        ..SHELF
-    },
+    Vector { name: "P7", left: &[&[]], right: &[&[0], &[1, 2]], places: 0, result: Joined([0; 6], &[]), ..SHELF },
     Vector { name: "P8 allowance 6", rule: Rule::Check, budget: 6, result: Refused(8), ..SHELF },
     Vector { name: "P8 allowance 7", rule: Rule::Check, budget: 7, result: CHECK_ALL, ..SHELF },
     Vector { name: "P9 7 places", rule: Rule::Check, places: 7, result: Refused(9), ..SHELF },
@@ -146,12 +133,7 @@ const VECTORS: &[Vector] = &[
         result: Joined([3, 0, 3, 6, 3, 0], &[0, 0, 0, 1, 1, 0]),
         ..SHELF
     },
-    Vector {
-        name: "not-a-number never goes on",
-        rule: weighed(f64::NAN, 0.0, 0.0, f64::INFINITY),
-        result: CHECK_ALL,
-        ..SHELF
-    },
+    Vector { name: "not-a-number never goes on", rule: weighed(f64::NAN, 0.0, 0.0, f64::INFINITY), result: CHECK_ALL, ..SHELF },
     Vector {
         name: "infinite below infinite is false",
         rule: weighed(0.0, 0.0, f64::INFINITY, f64::INFINITY),
@@ -182,15 +164,7 @@ const VECTORS: &[Vector] = &[
         result: Joined([1, 1, 0, 0, 0, 0], &[0, 0]),
         ..SHELF
     },
-    Vector {
-        name: "no items at all",
-        t: 0,
-        left: &[&[], &[]],
-        right: &[&[]],
-        places: 0,
-        result: Joined([0; 6], &[]),
-        ..SHELF
-    },
+    Vector { name: "no items at all", t: 0, left: &[&[], &[]], right: &[&[]], places: 0, result: Joined([0; 6], &[]), ..SHELF },
     Vector {
         name: "an empty left set has no pair with an empty right set",
         left: &[&[0], &[]],

@@ -119,7 +119,10 @@ fn main() {
     add("an empty kit last", whole(&and(&format[0], &empty), &format[1], &[(7, 9)]));
     add("an empty kit alone", whole(&empty, &format[1], &[]));
     add("an empty kit alone, on both pads", whole(&empty, &and(&empty, &format[1]), &[]));
-    add("an empty kit that has tags in the second file", whole(&and(&format[0], &empty), &and(&kit(8, &[tag(2)]), &format[1]), &[(7, 9)]));
+    add(
+        "an empty kit that has tags in the second file",
+        whole(&and(&format[0], &empty), &and(&kit(8, &[tag(2)]), &format[1]), &[(7, 9)]),
+    );
     add("an empty kit and a stack that is empty on both pads", whole(&and(&empty, &stack(9, &[])), &stack(9, &[]), &[]));
     add("an empty kit in the second file alone", whole(&format[0], &and(&empty, &format[1]), &[(7, 9)]));
 
