@@ -143,7 +143,7 @@ fn growth_report(sizes: &[usize], methods: &[Method], times: &[Vec<f64>]) -> Rep
     let plotted = methods.iter().enumerate().filter(|(_, method)| method.is_plotted);
     let plotted = plotted.map(|(k, method)| Line { name: method.name.into(), points: points(k) });
     Report {
-        tables: table("sets a side", &heads, &lines) + "![Time of one join as the sets double](growth.svg)\n\n",
+        tables: table("sets a side", &heads, &lines),
         plot: plot::svg("The join as the sets double", "sets on each side, and items", "processor time of one join", plotted.collect()),
     }
 }
@@ -164,6 +164,7 @@ pub fn measure(rounds: usize) -> Report {
     let sizes: Vec<usize> = growth.iter().chain([&kinds[full]]).map(|w| w.left.len()).collect();
     let Report { tables, plot } = growth_report(&sizes, &methods, &growth_times);
     let title = format!("The kind `{FULL}` as its sets and items double; its last column is the one above.\n\n");
-    let thin_table = time_table("time of one join over many tags", &thin, &methods, &thin_times, &found[kinds.len()..kinds.len() + thin.len()]);
+    let thin_table =
+        time_table("time of one join over many tags", &thin, &methods, &thin_times, &found[kinds.len()..kinds.len() + thin.len()]);
     Report { tables: kind_tables(&kinds, &methods, &times, &found[..kinds.len()]) + &thin_table + &title + &tables, plot }
 }
