@@ -22,7 +22,7 @@ fn print(pairs: &[(u16, u16)]) -> io::Result<()> {
 }
 
 fn tell_repeats(file: &TagFile) {
-    let (kits, stacks) = (file.left_repeats(), file.right_repeats());
+    let (kits, stacks) = (file.kit_repeats(), file.stack_repeats());
     if kits + stacks > 0 {
         eprintln!("kiosk: repeated reads: {kits} of kits, {stacks} of stacks");
     }

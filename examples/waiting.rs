@@ -15,20 +15,16 @@ fn fail(what: &str) -> ExitCode {
 /// A loaded file, and what the screen needs of each of its stacks.
 fn find(bytes: &[u8]) -> Result<(TagFile, Vec<First>), Refusal> {
     let file = TagFile::load(bytes)?;
-    let kits = file.left().collection();
-    let mut found = Vec::new();
-    for place in 0..file.right().len() {
-        let stack = file.right().get(place).unwrap_or_default();
-        found.push(kitfinder::first(file.t(), kits, stack)?);
-    }
+    let kits = file.kits().collection();
+    let found = file.stacks().iter().map(|stack| kitfinder::first(file.t(), kits, stack)).collect::<Result<_, _>>()?;
     Ok((file, found))
 }
 
 fn print(file: &TagFile, found: &[First]) -> io::Result<()> {
     let mut output = io::BufWriter::new(io::stdout().lock());
-    for (stack, first) in file.right_numbers().iter().zip(found) {
+    for (stack, first) in file.stack_numbers().iter().zip(found) {
         match first.place {
-            Some(place) => write!(output, "stack {stack}: kit {} is whole", file.left_numbers()[place])?,
+            Some(place) => write!(output, "stack {stack}: kit {} is whole", file.kit_numbers()[place])?,
             None => write!(output, "stack {stack}: no kit is whole")?,
         }
         writeln!(output, ", kits compared: {}", first.compared)?;

@@ -2,7 +2,9 @@
 //! one stack, the order of tags, and the tag file's loader and writer, for one pad or two.
 //!
 //! Two levels. [`join`], [`first`], [`order`], [`load`], [`load_pooled`], [`write()`] and [`read_record`] each call one function of the
-//! library on lists that the caller lends, and allocate nothing. [`TagFile`], [`Sets`] and [`Query::run`] own their lists.
+//! library on lists that the caller lends, and allocate nothing. [`TagFile`], [`Sets`], [`Query::run`] and [`Joined`] own their lists.
+//!
+//! Which kits a stack holds whole:
 //!
 //! ```
 //! # fn main() -> Result<(), kitfinder::Refusal> {
@@ -18,8 +20,30 @@
 //! # }
 //! ```
 //!
-//! Words: a kit is a left set, a stack a right set, a tag an item, the allowance the budget. A place is the number of a set in its
-//! collection, from 0. A repeat is a read of a tag that its own record had before; pad installers judge an aerial by them.
+//! A whole program, which says what each stack of a tag file holds:
+//!
+//! ```
+//! use kitfinder::{Query, TagFile};
+//!
+//! fn main() -> Result<(), Box<dyn std::error::Error>> {
+//!     let file = TagFile::load(&std::fs::read("../examples/library.tags")?)?;
+//!     // Rare tags first, of which three decide a kit's candidates. Whatever is chosen, the same kits are found.
+//!     let ranks = file.ranks(false)?;
+//!     let found = Query { limit: 3, ..file.query(&ranks) }.run()?;
+//!     for (place, stack) in file.stacks().iter().enumerate() {
+//!         let kits: Vec<u16> = found.kits_of(place).map(|kit| file.kit_numbers()[kit]).collect();
+//!         println!("stack {} of {} tags holds kits {kits:?}", file.stack_numbers()[place], stack.len());
+//!     }
+//! #   assert_eq!(file.numbers(&found).collect::<Vec<_>>(), [(101, 1), (102, 1), (103, 2), (104, 1)]);
+//! #   assert_eq!([0, 1, 2].map(|place| found.kits_of(place).collect::<Vec<_>>()), [vec![0, 1, 3], vec![2], vec![]]);
+//!     Ok(())
+//! }
+//! ```
+//!
+//! Words: what owns its lists speaks of kits, stacks and tags, as librarians do. What is lent speaks of the join: a kit is a left set, a
+//! stack a right set, a tag an item, the allowance the budget. [`TagFile`] answers to both. A place is the number of a set in its
+//! collection, from 0; a record number is what the tag file calls it. A repeat is a read of a tag that its own record had before; pad
+//! installers judge an aerial by them.
 //! docs/FORMAT.md has the tag file, the limits, and what makes a set bad.
 //!
 //! Everything may be called from several threads at once. The stack that each function of the library may take is a constant here

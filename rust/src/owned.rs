@@ -18,6 +18,7 @@ use crate::{
 /// let stacks: Sets = [vec![0, 1, 5], vec![5]].into_iter().collect();
 /// assert_eq!(stacks.len(), 2);
 /// assert_eq!(stacks.get(0), Some(&[0, 1, 5][..]));
+/// assert!(stacks.iter().map(<[u16]>::len).eq([3, 1]));
 /// ```
 #[derive(Clone, Debug, Default, PartialEq, Eq)]
 pub struct Sets {
@@ -64,6 +65,11 @@ impl Sets {
         self.items.get(start..end)
     }
 
+    /// The items of each set, by place.
+    pub fn iter(&self) -> impl ExactSizeIterator<Item = &[u16]> + DoubleEndedIterator + Clone {
+        (0..self.len()).map(|place| self.get(place).unwrap_or_default())
+    }
+
     /// The sets as a join takes them.
     pub fn collection(&self) -> Collection<'_> {
         Collection { ends: &self.ends, items: &self.items }
@@ -97,9 +103,35 @@ impl Joined {
         self.counts
     }
 
-    /// The pairs, each a left place and a right place, rising.
+    /// The pairs, each the place of a kit and of a stack that contains it, rising by kit, then stack.
     pub fn pairs(&self) -> impl ExactSizeIterator<Item = (usize, usize)> + DoubleEndedIterator + Clone + '_ {
         pairs(&self.list)
+    }
+
+    /// The places of the stacks that contain the kit at a place, rising. It is found by halving.
+    ///
+    /// ```
+    /// use kitfinder::{Query, Rule, Sets};
+    /// let kits: Sets = [vec![0], vec![], vec![0, 1]].into_iter().collect();
+    /// let stacks: Sets = [vec![0, 1], vec![0]].into_iter().collect();
+    /// let (left, right) = (kits.collection(), stacks.collection());
+    /// let found = Query { t: 2, left, right, limit: 2, ranks: &[0, 1], budget: u32::MAX, rule: Rule::Merge }.run()?;
+    /// assert!(found.stacks_of(0).eq([0, 1]));
+    /// assert!(found.stacks_of(1).eq([]));
+    /// assert!(found.kits_of(0).eq([0, 2]));
+    /// assert!(found.kits_of(1).eq([0]));
+    /// # Ok::<(), kitfinder::Refusal>(())
+    /// ```
+    pub fn stacks_of(&self, kit: usize) -> impl ExactSizeIterator<Item = usize> + DoubleEndedIterator + Clone + '_ {
+        let (all, _) = self.list.as_chunks::<2>();
+        let start = all.partition_point(|pair| usize::from(pair[0]) < kit);
+        let length = all[start..].partition_point(|pair| usize::from(pair[0]) == kit);
+        all[start..start + length].iter().map(|pair| usize::from(pair[1]))
+    }
+
+    /// The places of the kits that the stack at a place contains, rising. The whole list is gone through.
+    pub fn kits_of(&self, stack: usize) -> impl DoubleEndedIterator<Item = usize> + Clone + '_ {
+        self.pairs().filter(move |pair| pair.1 == stack).map(|pair| pair.0)
     }
 }
 
@@ -125,17 +157,18 @@ impl Query<'_> {
     }
 }
 
-/// A loaded tag file, or those of two pads pooled: its tags, its kits (left sets) and its stacks (right sets), and how many reads of each
-/// were repeats. What is written and loaded again is equal but for the repeats, of which it has none.
+/// A loaded tag file, or those of two pads pooled: its tags, its kits and its stacks, and how many reads of each were repeats. In a
+/// [`Query`] the kits are the left sets and the stacks the right sets. What is written and loaded again is equal but for the repeats, of
+/// which it has none.
 #[derive(Clone, Debug, Default, PartialEq, Eq)]
 pub struct TagFile {
     tags: Vec<u8>,
-    left_numbers: Vec<u16>,
-    left: Sets,
-    left_repeats: usize,
-    right_numbers: Vec<u16>,
-    right: Sets,
-    right_repeats: usize,
+    kit_numbers: Vec<u16>,
+    kits: Sets,
+    kit_repeats: usize,
+    stack_numbers: Vec<u16>,
+    stacks: Sets,
+    stack_repeats: usize,
 }
 
 impl TagFile {
@@ -178,18 +211,18 @@ impl TagFile {
 
     /// Lists as long as so many bytes of files can need, those with kits and those with stacks: a record has its head, an entry or a tag
     /// its bytes. Every tag is in the files with stacks.
-    fn with_room(left_bytes: usize, right_bytes: usize) -> TagFile {
+    fn with_room(kit_bytes: usize, stack_bytes: usize) -> TagFile {
         let sets = |bytes: usize| (bytes / RECORD_HEAD_BYTES).min(MAX_SETS);
         let entries = |bytes: usize| (bytes / TAG_BYTES).min(MAX_ENTRIES);
         let side = |bytes: usize| Sets { ends: vec![0; sets(bytes)], items: vec![0; entries(bytes)] };
         TagFile {
-            tags: vec![0; TAG_BYTES * entries(right_bytes).min(MAX_ITEMS)],
-            left_numbers: vec![0; sets(left_bytes)],
-            left: side(left_bytes),
-            left_repeats: 0,
-            right_numbers: vec![0; sets(right_bytes)],
-            right: side(right_bytes),
-            right_repeats: 0,
+            tags: vec![0; TAG_BYTES * entries(stack_bytes).min(MAX_ITEMS)],
+            kit_numbers: vec![0; sets(kit_bytes)],
+            kits: side(kit_bytes),
+            kit_repeats: 0,
+            stack_numbers: vec![0; sets(stack_bytes)],
+            stacks: side(stack_bytes),
+            stack_repeats: 0,
         }
     }
 
@@ -197,26 +230,26 @@ impl TagFile {
     fn lists(&mut self) -> Lists<'_> {
         Lists {
             tags: &mut self.tags,
-            left_numbers: &mut self.left_numbers,
-            left_ends: &mut self.left.ends,
-            left_items: &mut self.left.items,
-            right_numbers: &mut self.right_numbers,
-            right_ends: &mut self.right.ends,
-            right_items: &mut self.right.items,
+            left_numbers: &mut self.kit_numbers,
+            left_ends: &mut self.kits.ends,
+            left_items: &mut self.kits.items,
+            right_numbers: &mut self.stack_numbers,
+            right_ends: &mut self.stacks.ends,
+            right_items: &mut self.stacks.items,
         }
     }
 
     /// Cuts the lists to what was filled, and takes the repeats over.
     fn cut(&mut self, counts: Loaded) {
         self.tags.truncate(TAG_BYTES * counts.tags);
-        self.left_numbers.truncate(counts.left_sets);
-        self.left.ends.truncate(counts.left_sets);
-        self.left.items.truncate(counts.left_entries);
-        self.right_numbers.truncate(counts.right_sets);
-        self.right.ends.truncate(counts.right_sets);
-        self.right.items.truncate(counts.right_entries);
-        self.left_repeats = counts.left_repeats;
-        self.right_repeats = counts.right_repeats;
+        self.kit_numbers.truncate(counts.left_sets);
+        self.kits.ends.truncate(counts.left_sets);
+        self.kits.items.truncate(counts.left_entries);
+        self.stack_numbers.truncate(counts.right_sets);
+        self.stacks.ends.truncate(counts.right_sets);
+        self.stacks.items.truncate(counts.right_entries);
+        self.kit_repeats = counts.left_repeats;
+        self.stack_repeats = counts.right_repeats;
     }
 
     /// How many items there are: the distinct tags.
@@ -230,40 +263,40 @@ impl TagFile {
     }
 
     /// The record numbers of the kits.
-    pub fn left_numbers(&self) -> &[u16] {
-        &self.left_numbers
+    pub fn kit_numbers(&self) -> &[u16] {
+        &self.kit_numbers
     }
 
     /// The kits.
-    pub fn left(&self) -> &Sets {
-        &self.left
+    pub fn kits(&self) -> &Sets {
+        &self.kits
     }
 
     /// How many reads of the kits were repeats, those of the second of two files left out.
-    pub fn left_repeats(&self) -> usize {
-        self.left_repeats
+    pub fn kit_repeats(&self) -> usize {
+        self.kit_repeats
     }
 
     /// The record numbers of the stacks.
-    pub fn right_numbers(&self) -> &[u16] {
-        &self.right_numbers
+    pub fn stack_numbers(&self) -> &[u16] {
+        &self.stack_numbers
     }
 
     /// The stacks.
-    pub fn right(&self) -> &Sets {
-        &self.right
+    pub fn stacks(&self) -> &Sets {
+        &self.stacks
     }
 
     /// How many reads of the stacks were repeats, those of both of two files.
-    pub fn right_repeats(&self) -> usize {
-        self.right_repeats
+    pub fn stack_repeats(&self) -> usize {
+        self.stack_repeats
     }
 
     /// The file that the writer makes: kits, then stacks, each record's tags rising, without repeats.
     pub fn write(&self) -> Result<Vec<u8>, Refusal> {
-        let (left, right) = (self.left.collection(), self.right.collection());
+        let (left, right) = (self.kits.collection(), self.stacks.collection());
         let mut file = vec![0; file_bytes(left, right)];
-        let length = write(self.t(), &self.tags, &self.left_numbers, left, &self.right_numbers, right, &mut file)?;
+        let length = write(self.t(), &self.tags, &self.kit_numbers, left, &self.stack_numbers, right, &mut file)?;
         file.truncate(length);
         Ok(file)
     }
@@ -271,22 +304,31 @@ impl TagFile {
     /// The ranks of the items by frequency, rising or falling.
     pub fn ranks(&self, falling: bool) -> Result<Vec<u16>, Refusal> {
         let mut ranks = vec![0; self.t() as usize];
-        order(self.t(), self.left.collection(), self.right.collection(), falling, &mut ranks)?;
+        order(self.t(), self.kits.collection(), self.stacks.collection(), falling, &mut ranks)?;
         Ok(ranks)
     }
 
-    /// Kit number and stack number of each kit that a stack holds whole, by their places in the file: with limit 2, Merge, rising
-    /// ranks and the greatest allowance. A kit without tags is never among them.
+    /// The join of the kits and the stacks over these ranks, with the settings to begin with: Merge, limit 2 and the greatest allowance.
+    /// Others replace them, as in `Query { limit: 3, ..file.query(&ranks) }`.
+    pub fn query<'a>(&'a self, ranks: &'a [u16]) -> Query<'a> {
+        let (left, right) = (self.kits.collection(), self.stacks.collection());
+        Query { t: self.t(), left, right, limit: 2, ranks, budget: u32::MAX, rule: Rule::Merge }
+    }
+
+    /// Kit number and stack number of each kit that a stack holds whole, by their places in the file: [`TagFile::query`] with rising
+    /// ranks. A kit without tags is never among them.
     pub fn whole_kits(&self) -> Result<Vec<(u16, u16)>, Refusal> {
-        let ranks = self.ranks(false)?;
-        let (left, right) = (self.left.collection(), self.right.collection());
-        let query = Query { t: self.t(), left, right, limit: 2, ranks: &ranks, budget: u32::MAX, rule: Rule::Merge };
-        let found = query.run()?;
-        Ok(found.pairs().map(|(kit, stack)| (self.left_numbers[kit], self.right_numbers[stack])).collect())
+        let found = self.query(&self.ranks(false)?).run()?;
+        Ok(self.numbers(&found).collect())
+    }
+
+    /// Kit number and stack number of each pair that a join of this file found. Of a join of another file it may panic.
+    pub fn numbers<'a>(&'a self, found: &'a Joined) -> impl ExactSizeIterator<Item = (u16, u16)> + 'a {
+        found.pairs().map(|(kit, stack)| (self.kit_numbers[kit], self.stack_numbers[stack]))
     }
 
     /// The number of the first kit, by its place in the file, that a stack holds whole, where there is one: what a screen can show before
-    /// all of them are found. A kit without tags is passed over. The stack is its items, as [`TagFile::right`] has them. See
+    /// all of them are found. A kit without tags is passed over. The stack is its items, as [`TagFile::stacks`] has them. See
     /// [`first`](crate::first()).
     ///
     /// ```
@@ -302,7 +344,40 @@ impl TagFile {
     /// # }
     /// ```
     pub fn first_kit(&self, stack: &[u16]) -> Result<Option<u16>, Refusal> {
-        let found = first(self.t(), self.left.collection(), stack)?;
-        Ok(found.place.map(|kit| self.left_numbers[kit]))
+        let found = first(self.t(), self.kits.collection(), stack)?;
+        Ok(found.place.map(|kit| self.kit_numbers[kit]))
+    }
+}
+
+/// The same by the join's words: its left sets are the kits, its right sets the stacks.
+impl TagFile {
+    /// [`TagFile::kit_numbers`].
+    pub fn left_numbers(&self) -> &[u16] {
+        self.kit_numbers()
+    }
+
+    /// [`TagFile::kits`].
+    pub fn left(&self) -> &Sets {
+        self.kits()
+    }
+
+    /// [`TagFile::kit_repeats`].
+    pub fn left_repeats(&self) -> usize {
+        self.kit_repeats()
+    }
+
+    /// [`TagFile::stack_numbers`].
+    pub fn right_numbers(&self) -> &[u16] {
+        self.stack_numbers()
+    }
+
+    /// [`TagFile::stacks`].
+    pub fn right(&self) -> &Sets {
+        self.stacks()
+    }
+
+    /// [`TagFile::stack_repeats`].
+    pub fn right_repeats(&self) -> usize {
+        self.stack_repeats()
     }
 }

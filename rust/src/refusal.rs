@@ -51,6 +51,15 @@ impl Refusal {
             Refusal::Overlong(_) => 10,
         }
     }
+
+    /// The first number that is returned with it: a byte place, the side of a bad set (0 for kits, 1 for stacks), or 0.
+    pub fn detail(&self) -> usize {
+        match self {
+            Refusal::Malformed(at) | Refusal::NumberUsed(at) | Refusal::TooMany(at) | Refusal::Overlong(at) => *at,
+            Refusal::BadSet(Side::Right, _) => 1,
+            _ => 0,
+        }
+    }
 }
 
 impl fmt::Display for Refusal {

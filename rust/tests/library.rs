@@ -185,6 +185,60 @@ fn sets_are_sorted_and_their_repeats_collapsed() {
     sets.push([7]);
     assert_eq!(sets.collection(), Collection { ends: &[3, 3, 4], items: &[1, 2, 3, 7] });
     assert_eq!((0..4).map(|place| sets.get(place)).collect::<Vec<_>>(), [Some(&[1, 2, 3][..]), Some(&[]), Some(&[7]), None]);
+    assert!(sets.iter().eq([&[1, 2, 3][..], &[], &[7]]));
+    assert!(sets.iter().rev().map(<[u16]>::len).eq([1, 0, 3]));
+    assert_eq!((sets.iter().len(), Sets::new().iter().len()), (3, 0));
+}
+
+#[test]
+fn a_result_has_the_stacks_of_a_kit_and_the_kits_of_a_stack() {
+    let (kits, stacks) = shelf();
+    let among: Sets = [vec![], vec![0, 1], vec![], vec![1], vec![0, 2, 3], vec![]].into_iter().collect();
+    for kits in [&kits, &among, &Sets::new()] {
+        let found = query(kits, &stacks).run().expect("the shelf is accepted");
+        let pairs: Vec<(usize, usize)> = found.pairs().collect();
+        // also at places that no set has
+        for place in (0..8).chain([65535, 65536, usize::MAX]) {
+            let stacks_of: Vec<usize> = pairs.iter().filter(|pair| pair.0 == place).map(|pair| pair.1).collect();
+            let kits_of: Vec<usize> = pairs.iter().filter(|pair| pair.1 == place).map(|pair| pair.0).collect();
+            assert!(found.stacks_of(place).eq(stacks_of.iter().copied()));
+            assert_eq!(found.stacks_of(place).len(), stacks_of.len());
+            assert!(found.stacks_of(place).rev().eq(stacks_of.iter().rev().copied()));
+            assert!(found.kits_of(place).eq(kits_of.iter().copied()));
+            assert!(found.kits_of(place).rev().eq(kits_of.iter().rev().copied()));
+        }
+    }
+    let found = query(&kits, &stacks).run().expect("the shelf is accepted");
+    assert_eq!((found.stacks_of(1).collect(), found.kits_of(0).collect()), (vec![0, 1], vec![0, 1]));
+}
+
+#[test]
+fn a_loaded_file_is_joined_with_any_settings() {
+    let file = TagFile::load(&repository("examples/library.tags")).expect("in order");
+    let whole = file.whole_kits().expect("accepted");
+    assert_eq!(whole, [(101, 1), (102, 1), (103, 2), (104, 1)]);
+    for falling in [false, true] {
+        let ranks = file.ranks(falling).expect("accepted");
+        let start = file.query(&ranks);
+        assert_eq!((start.t, start.limit, start.budget, start.rule), (file.t(), 2, u32::MAX, Rule::Merge));
+        assert_eq!((start.left, start.right), (file.kits().collection(), file.stacks().collection()));
+        for (rule, limit) in [(Rule::Merge, 2), (Rule::Check, 2), (Rule::Merge, 255)] {
+            let found = Query { rule, limit, ..start }.run().expect("accepted");
+            assert!(file.numbers(&found).eq(whole.iter().copied()));
+        }
+        assert_eq!(Query { limit: 256, ..start }.run(), Err(Refusal::BadSettings));
+    }
+}
+
+#[test]
+fn a_loaded_file_answers_to_the_words_of_the_join() {
+    let kits = [record(b"KT", 9, &[1, 1]), record(b"KT", 4, &[5, 1])].concat();
+    let file = TagFile::load(&[kits, record(b"SK", 3, &[7, 1, 7, 7])].concat()).expect("in order");
+    assert_eq!((file.left_numbers(), file.right_numbers()), (file.kit_numbers(), file.stack_numbers()));
+    assert_eq!((file.left(), file.right()), (file.kits(), file.stacks()));
+    assert_eq!((file.left_repeats(), file.right_repeats()), (file.kit_repeats(), file.stack_repeats()));
+    assert_eq!((file.kit_numbers(), file.stack_numbers(), repeats(&file)), (&[9, 4][..], &[3][..], (1, 2)));
+    assert_eq!((file.kits().len(), file.stacks().len()), (2, 1));
 }
 
 #[test]
@@ -366,6 +420,8 @@ fn refusals_are_errors_with_numbers_and_words() {
         Refusal::ShortPairs,
         Refusal::Overlong(3),
     ];
+    assert_eq!(refusals.map(|refusal| refusal.detail()), [3, 3, 3, 0, 1, 0, 0, 0, 0, 3]);
+    assert_eq!(Refusal::BadSet(Side::Left, 3).detail(), 0);
     for (refusal, number) in refusals.iter().zip(1..) {
         assert_eq!(refusal.number(), number);
         let error: Box<dyn std::error::Error + Send + Sync> = Box::new(*refusal);
