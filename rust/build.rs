@@ -1,6 +1,7 @@
-// Links the proved static library. It is built, by scripts/library, where it is not there yet or its sources have changed; the first
-// time that takes some minutes, and scripts/library by itself tells how far it is. KITFINDER_LIB names another folder that has
-// libkitfinder.a (or, with KITFINDER_LINK=dylib, libkitfinder.so) to link instead, as scripts/install puts it.
+// Links the proved library. It is the static one of this repository: scripts/library builds it by rt where it is not there yet or its sources
+// have changed; the first time that takes some minutes, and scripts/library by itself tells how far it is. KITFINDER_LIB names a folder
+// whose libkitfinder.a is linked instead, and then rt is not needed: lib below the prefix of scripts/install is one. With
+// KITFINDER_LINK=dylib it is the shared library of that folder, libkitfinder.so.
 use std::path::{Path, PathBuf};
 use std::process::{exit, Command};
 
@@ -8,11 +9,16 @@ fn main() {
     println!("cargo:rerun-if-env-changed=KITFINDER_LIB");
     println!("cargo:rerun-if-env-changed=KITFINDER_LINK");
     let link = std::env::var("KITFINDER_LINK").unwrap_or_else(|_| "static".into());
+    let name = match link.as_str() {
+        "static" => "libkitfinder.a",
+        "dylib" => "libkitfinder.so",
+        _ => fail("KITFINDER_LINK is static or dylib"),
+    };
     let folder = match std::env::var_os("KITFINDER_LIB") {
         Some(folder) => PathBuf::from(folder),
         None => built(),
     };
-    let library = folder.join(if link == "dylib" { "libkitfinder.so" } else { "libkitfinder.a" });
+    let library = folder.join(name);
     if !library.exists() {
         fail(&format!("{} is not there: KITFINDER_LIB must name the folder that has it", library.display()));
     }
@@ -43,7 +49,9 @@ fn built() -> PathBuf {
     }
     match Command::new(&script).status() {
         Ok(status) if status.success() => root.join("target/staticlib"),
-        Ok(_) => fail("the static library was not built: scripts/library says why"),
+        Ok(_) => {
+            fail("the static library was not built, as told above. Without rt, KITFINDER_LIB must name a folder that has libkitfinder.a")
+        }
         Err(error) => fail(&format!("{}: {error}", script.display())),
     }
 }
