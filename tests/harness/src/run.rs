@@ -54,7 +54,18 @@ impl Plan {
     }
 }
 
-/// Runs named checks; every failure is printed, and the program ends with status 1 where there is one.
+/// The most memory that a test may take, in MB: the gate runs where little more is free.
+const MOST_MEMORY: u64 = 2048;
+
+/// The most memory that this program has taken so far, in MB, as Linux tells it.
+fn peak_memory() -> u64 {
+    let status = std::fs::read_to_string("/proc/self/status").expect("/proc/self/status");
+    let peak = status.lines().find_map(|line| line.strip_prefix("VmHWM:")?.trim().strip_suffix(" kB")?.parse::<u64>().ok());
+    peak.expect("a line VmHWM in kB").div_ceil(1024)
+}
+
+/// Says of named checks that were made how they went and how much memory they took. Every failure is printed, and the program ends with
+/// status 1 where there is one, or where the memory is more than a test may take.
 pub fn run_named(checks: Vec<(String, Result<(), String>)>) {
     let mut failures = 0;
     for (name, result) in &checks {
@@ -63,7 +74,12 @@ pub fn run_named(checks: Vec<(String, Result<(), String>)>) {
             failures += 1;
         }
     }
-    println!("{} named cases, {failures} failed", checks.len());
+    let peak = peak_memory();
+    println!("{} named cases, {failures} failed, {peak} MB of memory at most", checks.len());
+    if peak > MOST_MEMORY {
+        println!("FAILED: a test may take {MOST_MEMORY} MB");
+        failures += 1;
+    }
     if failures > 0 {
         std::process::exit(1);
     }
