@@ -1,8 +1,9 @@
 /* The kit finder: a set containment join of kits and stacks, the first kit for one stack, the order of tags, and the tag file's loader
  * and writer, for one pad or two.
  *
- * Link libkitfinder.a, which scripts/library writes to target/staticlib (x86-64 Linux); scripts/install puts it, this header
- * and a pkg-config file below a prefix. Every function is proved to meet its contract (crates/kitfinder/src/lib.rt).
+ * Link libkitfinder.a, which scripts/library writes to target/staticlib (x86-64 Linux); scripts/install puts it, a shared library
+ * of the same functions, this header and files for pkg-config and CMake below a prefix. Every function is proved to meet its contract
+ * (crates/kitfinder/src/lib.rt).
  * docs/FORMAT.md has the tag file, the limits and what makes a set bad; examples/kiosk.c and examples/waiting.c use what is here.
  *
  * Words: kits are left sets, stacks are right sets, tags are items, the allowance is the budget. Librarians say the first, parameters
@@ -51,7 +52,12 @@
 extern "C" {
 #endif
 
+/* The version; no function tells it, so that every name of the library is a proved function. */
 #define KITFINDER_VERSION "0.2.0"
+
+/* Of the shared library, libkitfinder.so.0. It rises where a program that was built with an older header must be built again: a function takes
+ * other parameters, or its answer has more words. */
+#define KITFINDER_ABI 0
 
 /* The limits: items (tags), sets and entries of a side, items of a set, and the join's limit. An entry is an item of a set. */
 #define KITFINDER_MAX_ITEMS 4096
