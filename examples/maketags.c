@@ -1,6 +1,6 @@
-/* Makes a tag file from text. A line is a record: the letter K for a kit or S for a stack, a space, its number without leading zeros,
- * and for each tag a space and 24 hexadecimal digits; a line feed ends it. A kit without tags is whole in no stack. What it writes is
- * what the loader accepts: a line that it does not is named, and nothing is written.
+/* Makes a tag file from text. A line is a record: the letter K for a kit or S for a stack, a space, its number, and for each tag a
+ * space and 24 hexadecimal digits; a kit without tags is whole in no stack. What it writes is what the loader accepts: a line that it
+ * does not is named, and nothing is written.
  * Usage: maketags <TEXT >FILE */
 #include <inttypes.h>
 #include <stdio.h>
@@ -45,17 +45,9 @@ static int digit(int c)
     return c >= 'A' && c <= 'F' ? c - 'A' + 10 : -1;
 }
 
-/* A text from another system may end its lines with a carriage return before the line feed. */
-static void need_no_return(int c, size_t line)
-{
-    if (c == '\r')
-        fail_at(line, "has a carriage return, and a line feed alone ends a line; to take them out: tr -d '\\r'");
-}
-
 /* Reads one line from the standard input, whose first letter is given, and puts its record. */
 static void make_record(int letter, size_t line)
 {
-    need_no_return(letter, line);
     if (letter != 'K' && letter != 'S')
         fail_at(line, "begins with neither K nor S");
     if (getchar() != ' ')
@@ -64,14 +56,13 @@ static void make_record(int letter, size_t line)
     int c = getchar();
     if (c < '0' || c > '9')
         fail_at(line, "has no number");
-    int zero = c == '0', digits = 0;
-    for (; c >= '0' && c <= '9' && number <= UINT16_MAX; c = getchar(), digits++) {
-        if (zero && digits > 0)
-            fail_at(line, "has a number that begins with 0");
+    int zero = c == '0';
+    for (; c >= '0' && c <= '9' && number <= UINT16_MAX; c = getchar())
         number = 10 * number + (uint32_t)(c - '0');
-    }
     if (number > UINT16_MAX)
         fail_at(line, "has a number above 65535");
+    if (zero && number > 0)
+        fail_at(line, "has a number that begins with 0");
 
     put(letter == 'K' ? 'K' : 'S');
     put(letter == 'K' ? 'T' : 'K');
@@ -90,7 +81,6 @@ static void make_record(int letter, size_t line)
         if (++count > KITFINDER_MAX_SET_LENGTH)
             fail_at(line, "has more than 255 tags");
     }
-    need_no_return(c, line);
     if (c != '\n')
         fail_at(line, "has something other than a space and a tag, or no end");
     file[count_at] = (uint8_t)count;
