@@ -6,7 +6,8 @@ usage: tools/spell.py [--table FILE]    at the top of the repository, once, afte
 A name that specs/ or proofs/ declare turns, everywhere that it stands: in specs/, proofs/, the clauses of src/, and the code spans of
 comments and of the documents. A dash stays where it joins two words of specs/ or of the library; every other dash, and every hump
 inside a word, becomes an underscore. Names of src/, generated names of proof files, strings, inputs and outputs stay as they are.
-It stops before it writes anything where two names of one file fall together, or a new name is one of the library's that a file imports.
+Where a law and a definition, or a law and one of the library's names, would fall together, the law ends in `_lem`. It stops before it writes anything
+where two other names of one file would. Laws that a Proof.antt declares for itself keep their names.
 """
 import collections
 import os
