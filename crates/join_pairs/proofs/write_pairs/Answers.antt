@@ -19,9 +19,9 @@ use Rattle.join_pairs.proofs.PairRows.{pairs_next, pairs_none}
 use Rattle.join_pairs.proofs.write_pairs.Invariants.{PairsWriting}
 use Rattle.join_pairs.proofs.write_pairs.Goals as goal
 
-list-room : {lay : Layout} {q : Query} {w : List ℕ} {lefts : ℕ} {was : List ℕ} → PairsRoom lay q w lefts was
+list_room : {lay : Layout} {q : Query} {w : List ℕ} {lefts : ℕ} {was : List ℕ} → PairsRoom lay q w lefts was
     → length (pair_list q.lefts q.rights) ≤ length was
-list-room {lay} {q} there = omega (arith, there.room, length-pair_list q.lefts q.rights)
+list_room {lay} {q} there = omega (arith, there.room, length-pair_list q.lefts q.rights)
 
 module _ {lay : Layout} {w : List ℕ} {lefts : ℕ} {was v pairs : List ℕ} {n k : ℕ}
     (writing : PairsWriting lay w lefts was v pairs n k)
@@ -54,7 +54,7 @@ module _ {lay : Layout} {w : List ℕ} {lefts : ℕ} {was v pairs : List ℕ} {n
     pairs_end : lefts ≤ k → (q : Query) → PairsRoom lay q w lefts was
         → pairs ≡ pair_list q.lefts q.rights ++ drop (length (pair_list q.lefts q.rights)) was
     pairs_end past q there =
-        written_whole (writing_end (writing.written q there) (pairs_none q k (omega (arith, there.left_count)))) (list-room there)
+        written_whole (writing_end (writing.written q there) (pairs_none q k (omega (arith, there.left_count)))) (list_room there)
 
 pub loop-k-init : goal.loop-k-init
 loop-k-init c =
@@ -62,7 +62,7 @@ loop-k-init c =
       record {
         changed = changed_none a.lay.slots a.lay.row_starts a.work.now;
         written = λ q there. writing_start a.pairs.now 0 (pair_list q.lefts q.rights)
-            (omega (arith, list-room there));
+            (omega (arith, list_room there));
       },
       c.requires.clear,
     )

@@ -9,11 +9,11 @@ use Rattle.join_walk.proofs.WalkSteps.{ready_cleared, rows_cleared, done_cleared
 use Rattle.join_walk.proofs.walk.Goals as goal
 
 -- no counter has anything at first
-none-zero : (kind : Kind) → counter kind (record { by_path = 0; confirmed = 0; dropped = 0; false_drops = 0 }) ≡ 0
-none-zero path_pair = refl
-none-zero confirmed_check = refl
-none-zero dropped_check = refl
-none-zero false_check = refl
+none_zero : (kind : Kind) → counter kind (record { by_path = 0; confirmed = 0; dropped = 0; false_drops = 0 }) ≡ 0
+none_zero path_pair = refl
+none_zero confirmed_check = refl
+none_zero dropped_check = refl
+none_zero false_check = refl
 
 pub clear_rows-requires : goal.clear_rows-requires
 clear_rows-requires c =
@@ -26,7 +26,7 @@ pub returns-then-lefts-eq0 : goal.returns-then-lefts-eq0
 returns-then-lefts-eq0 c =
     record {
       walked = λ q ready.
-          done_cleared ready c.clear_rows.ensures (walk_none (ready_cleared ready c.clear_rows.ensures) c.if-lefts-eq0.true none-zero (rows_cleared ready c.clear_rows.ensures));
+          done_cleared ready c.clear_rows.ensures (walk_none (ready_cleared ready c.clear_rows.ensures) c.if-lefts-eq0.true none_zero (rows_cleared ready c.clear_rows.ensures));
       clear = c.requires.clear_2;
     }
 
@@ -44,7 +44,7 @@ visit_partitions-requires c =
         query = c.requires.some_query.query;
         holds =
             walk_partitions (ready_cleared c.requires.some_query.holds c.clear_rows.ensures) (omega (arith, c.if-lefts-eq0.false)) c.merged_end-mid.ensures
-            none-zero (rows_cleared c.requires.some_query.holds c.clear_rows.ensures);
+            none_zero (rows_cleared c.requires.some_query.holds c.clear_rows.ensures);
       };
       clear_2 = c.requires.clear_2;
     }
@@ -59,9 +59,9 @@ returns c =
       walked = λ q ready.
           let so = ready_cleared ready c.clear_rows.ensures in
           let parts =
-          walk_partitions so (omega (arith, c.if-lefts-eq0.false)) c.merged_end-mid.ensures none-zero (rows_cleared ready c.clear_rows.ensures) in
+          walk_partitions so (omega (arith, c.if-lefts-eq0.false)) c.merged_end-mid.ensures none_zero (rows_cleared ready c.clear_rows.ensures) in
           done_cleared ready c.clear_rows.ensures
-          (walk_done so (omega (arith, c.if-lefts-eq0.false)) c.merged_end-mid.ensures none-zero
+          (walk_done so (omega (arith, c.if-lefts-eq0.false)) c.merged_end-mid.ensures none_zero
           (c.visit_partitions.ensures.visited q parts));
       clear = c.visit_partitions.ensures.clear;
     }

@@ -21,8 +21,8 @@ got p =
     lists_of last.tags last.left_numbers last.left_ends last.left_items last.right_numbers last.right_ends
     last.right_items
 
-program-lists : (p : After-load-answer) → ProgramLists (lent p)
-program-lists p =
+program_lists : (p : After-load-answer) → ProgramLists (lent p)
+program_lists p =
     record {
       tags = p.new_tags-tags.ensures;
       left_numbers = p.new_places-left_numbers.ensures;
@@ -48,5 +48,5 @@ returns-in-Loaded c =
 pub returns-in-Refused : goal.returns-in-Refused
 returns-in-Refused c =
     fills_same
-    (refused_load c.args.file.now {lent = lent (goal.at.returns-in-Refused c).After-load-answer} {got = got (goal.at.returns-in-Refused c).After-load-answer} c.load-answer.ensures c.in-Refused.is (program-lists (goal.at.returns-in-Refused c).After-load-answer) c.requires.0)
+    (refused_load c.args.file.now {lent = lent (goal.at.returns-in-Refused c).After-load-answer} {got = got (goal.at.returns-in-Refused c).After-load-answer} c.load-answer.ensures c.in-Refused.is (program_lists (goal.at.returns-in-Refused c).After-load-answer) c.requires.0)
     (put_fills c.put_refusal.ensures.put (omega (arith, c.put_refusal.ensures.upper_bound, c.requires.1)))

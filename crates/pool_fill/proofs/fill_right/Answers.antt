@@ -56,25 +56,25 @@ second_walk a =
     (no_records s.first.now a.loop-side.at got.result (sym got.ensures) a.in_default.not-Record))
 
 -- the same of the second file
-read-second : (a : In-Record-answer)
+read_second : (a : In-Record-answer)
     → read_at a.args.second.now a.loop-side-2.on
     ≡ Record a.in-Record-answer.side a.in-Record-answer.number a.in-Record-answer.count a.in-Record-answer.tags_at a.in-Record-answer.next
-read-second a = sym a.read_record-answer-in-loop-side-2.ensures ∙ a.in-Record-answer.is
+read_second a = sym a.read_record-answer-in-loop-side-2.ensures ∙ a.in-Record-answer.is
 
-second-right-side : (o : Else-not-is_side-2)
+second_right_side : (o : Else-not-is_side-2)
     → same_side Right o.in-Record-answer.side ≡ true
-second-right-side o =
+second_right_side o =
     sym o.is_side-in-loop-side-2.ensures ∙ not-false o.is_side-in-loop-side-2.result o.if-not-is_side-2.false-raw
 
-second-bytes : (a : At-loop-side-2) (i : ℕ) → get_or a.args.second.now i 0 < 256
-second-bytes a i =
+second_bytes : (a : At-loop-side-2) (i : ℕ) → get_or a.args.second.now i 0 < 256
+second_bytes a i =
     (a.type_inv.second i).fits
 
 -- the index has the tags of a right set's record
-tags-known : (own : Else-not-is_side)
+tags_known_here : (own : Else-not-is_side)
     → let a = own.args in
     TagsKnown a.first.now a.heads.now a.tails.now a.n a.ids.now a.ranks.now own.in-Record.tags_at own.in-Record.count
-tags-known own =
+tags_known_here own =
     own_known own.requires own.loop-side.invariant (read (goal.at.Else-not-is_side own).In-Record) (right_side own) (bytes (goal.at.Else-not-is_side own).At-loop-side)
 
 -- the same of the second file: the record, and its tags
@@ -83,12 +83,12 @@ right_there : (own : Else-not-is_side-2)
     RightHere second (second_walk (goal.at.Else-not-is_side-2 own).At-loop-side-2).seen own.loop-side-2.on own.in-Record-answer.count own.in-Record-answer.tags_at own.in-Record-answer.next
     (record { side = own.in-Record-answer.side; number = own.in-Record-answer.number; tags = tags_at own.in-Record-answer.count second own.in-Record-answer.tags_at })
 right_there own =
-    right_here own.requires (second_walk (goal.at.Else-not-is_side-2 own).At-loop-side-2) (read-second (goal.at.Else-not-is_side-2 own).In-Record-answer) (second-right-side own) (second-bytes (goal.at.Else-not-is_side-2 own).At-loop-side-2)
+    right_here own.requires (second_walk (goal.at.Else-not-is_side-2 own).At-loop-side-2) (read_second (goal.at.Else-not-is_side-2 own).In-Record-answer) (second_right_side own) (second_bytes (goal.at.Else-not-is_side-2 own).At-loop-side-2)
 
-second-known : (own : Else-not-is_side-2)
+second_known : (own : Else-not-is_side-2)
     → let a = own.args in
     TagsKnown a.second.now a.heads.now a.tails.now a.n a.ids.now a.ranks.now own.in-Record-answer.tags_at own.in-Record-answer.count
-second-known own =
+second_known own =
     let w = second_walk (goal.at.Else-not-is_side-2 own).At-loop-side-2 in
     by_test (member own.args.used.now own.in-Record-answer.number)
     (met_known own.requires w (right_there own)) (new_known own.requires w (right_there own))
@@ -103,8 +103,8 @@ absent : (missed : Else-contains)
 absent missed = sym missed.contains.ensures ∙ missed.if-contains.false
 
 -- where it has, its slot is one
-slot-below : (found : After-number_slot-slot-then-contains) → found.number_slot-slot-then-contains.result < max_sets
-slot-below found =
+slot_below : (found : After-number_slot-slot-then-contains) → found.number_slot-slot-then-contains.result < max_sets
+slot_below found =
     let w = second_walk (goal.at.After-number_slot-slot-then-contains found).At-loop-side-2 in
     let slot = met_slot found.requires w (right_there (goal.at.After-number_slot-slot-then-contains found).Else-not-is_side-2) (there (goal.at.After-number_slot-slot-then-contains found).Then-contains) in
     omega (arith, found.number_slot-slot-then-contains.ensures, slot.within, w.long)
@@ -133,7 +133,7 @@ pub mark_tags-requires : goal.mark_tags-requires
 mark_tags-requires c =
     let w = c.loop-side.invariant in
     record {
-      tags_known = tags-known (goal.at.mark_tags-requires c).Else-not-is_side;
+      tags_known = tags_known_here (goal.at.mark_tags-requires c).Else-not-is_side;
       some_marked = record { done = []; marked = unmarked_marked _ w.unmarked };
     }
 
@@ -142,14 +142,14 @@ number_slot-slot-requires c = c.requires.counted
 
 pub slice_bounds-put_own-end : goal.slice_bounds-put_own-end
 slice_bounds-put_own-end c =
-    sym (fresh_wide (tags-known (goal.at.slice_bounds-put_own-end c).Else-not-is_side) c.loop-side.invariant.unmarked c.mark_tags.ensures)
+    sym (fresh_wide (tags_known_here (goal.at.slice_bounds-put_own-end c).Else-not-is_side) c.loop-side.invariant.unmarked c.mark_tags.ensures)
 
 pub put_own-done-requires : goal.put_own-done-requires
 put_own-done-requires c =
     let w = c.loop-side.invariant in
-    let items = fresh_items (tags-known (goal.at.put_own-done-requires c).Else-not-is_side) w.unmarked c.mark_tags.ensures in
+    let items = fresh_items (tags_known_here (goal.at.put_own-done-requires c).Else-not-is_side) w.unmarked c.mark_tags.ensures in
     record {
-      marks_len = fresh_wide (tags-known (goal.at.put_own-done-requires c).Else-not-is_side) w.unmarked c.mark_tags.ensures;
+      marks_len = fresh_wide (tags_known_here (goal.at.put_own-done-requires c).Else-not-is_side) w.unmarked c.mark_tags.ensures;
       slot_in_bounds = rw c.number_slot-slot.ensures (own_slot c.requires w (read (goal.at.put_own-done-requires c).In-Record) (right_side (goal.at.put_own-done-requires c).Else-not-is_side) (bytes (goal.at.put_own-done-requires c).At-loop-side)).within;
       room_for_own = rw (c.number_slot-slot.ensures, items) (own_room c.requires w (read (goal.at.put_own-done-requires c).In-Record) (right_side (goal.at.put_own-done-requires c).Else-not-is_side) (bytes (goal.at.put_own-done-requires c).At-loop-side));
     }
@@ -160,7 +160,7 @@ loop-side-smaller c = read_less _ _ (read (goal.at.loop-side-smaller c).In-Recor
 pub loop-side-preserved : goal.loop-side-preserved
 loop-side-preserved c =
     let w = c.loop-side.invariant in
-    let items = fresh_items (tags-known (goal.at.loop-side-preserved c).Else-not-is_side) w.unmarked c.mark_tags.ensures in
+    let items = fresh_items (tags_known_here (goal.at.loop-side-preserved c).Else-not-is_side) w.unmarked c.mark_tags.ensures in
     first_walk_own c.requires w (read (goal.at.loop-side-preserved c).In-Record) (right_side (goal.at.loop-side-preserved c).Else-not-is_side) (bytes (goal.at.loop-side-preserved c).At-loop-side)
     (rw (c.number_slot-slot.ensures, items) at c.put_own-done.ensures.lists) c.put_own-done.ensures.marks
 
@@ -197,12 +197,12 @@ pub is_side-requires-in-loop-side-2 : goal.is_side-requires-in-loop-side-2
 is_side-requires-in-loop-side-2 c = tt
 
 pub loop-side-2-smaller-then-not-is_side-2 : goal.loop-side-2-smaller-then-not-is_side-2
-loop-side-2-smaller-then-not-is_side-2 c = read_less _ _ (read-second (goal.at.loop-side-2-smaller-then-not-is_side-2 c).In-Record-answer)
+loop-side-2-smaller-then-not-is_side-2 c = read_less _ _ (read_second (goal.at.loop-side-2-smaller-then-not-is_side-2 c).In-Record-answer)
 
 pub loop-side-2-preserved-then-not-is_side-2 : goal.loop-side-2-preserved-then-not-is_side-2
 loop-side-2-preserved-then-not-is_side-2 c =
     λ n₀ e₀ i₀ w.
-    second_walk_skip c.requires (c.loop-side-2.invariant n₀ e₀ i₀ w) (read-second (goal.at.loop-side-2-preserved-then-not-is_side-2 c).In-Record-answer)
+    second_walk_skip c.requires (c.loop-side-2.invariant n₀ e₀ i₀ w) (read_second (goal.at.loop-side-2-preserved-then-not-is_side-2 c).In-Record-answer)
     (sym c.is_side-in-loop-side-2.ensures ∙ not-true c.is_side-in-loop-side-2.result c.if-not-is_side-2.true-raw)
 
 pub slice_bounds-mark_tags-end-in-loop-side-2 : goal.slice_bounds-mark_tags-end-in-loop-side-2
@@ -211,7 +211,7 @@ slice_bounds-mark_tags-end-in-loop-side-2 c = sym (second_walk (goal.at.slice_bo
 pub mark_tags-requires-in-loop-side-2 : goal.mark_tags-requires-in-loop-side-2
 mark_tags-requires-in-loop-side-2 c =
     record {
-      tags_known = second-known (goal.at.mark_tags-requires-in-loop-side-2 c).Else-not-is_side-2;
+      tags_known = second_known (goal.at.mark_tags-requires-in-loop-side-2 c).Else-not-is_side-2;
       some_marked = record { done = []; marked = unmarked_marked _ (second_walk (goal.at.mark_tags-requires-in-loop-side-2 c).At-loop-side-2).unmarked };
     }
 
@@ -223,17 +223,17 @@ pub number_slot-slot-requires-then-contains : goal.number_slot-slot-requires-the
 number_slot-slot-requires-then-contains c = c.requires.counted
 
 pub offset_bounds-slots-slot : goal.offset_bounds-slots-slot
-offset_bounds-slots-slot c = omega (arith, slot-below (goal.at.offset_bounds-slots-slot c).After-number_slot-slot-then-contains)
+offset_bounds-slots-slot c = omega (arith, slot_below (goal.at.offset_bounds-slots-slot c).After-number_slot-slot-then-contains)
 
 pub bounds-slots-slot : goal.bounds-slots-slot
-bounds-slots-slot c = omega (arith, slot-below (goal.at.bounds-slots-slot c).After-number_slot-slot-then-contains, (second_walk (goal.at.bounds-slots-slot c).At-loop-side-2).long)
+bounds-slots-slot c = omega (arith, slot_below (goal.at.bounds-slots-slot c).After-number_slot-slot-then-contains, (second_walk (goal.at.bounds-slots-slot c).At-loop-side-2).long)
 
 pub overflow_cast-slots : goal.overflow_cast-slots
 overflow_cast-slots c = omega (arith, (c.type_inv.slots c.number_slot-slot-then-contains.result).fits)
 
 pub slice_bounds-pool_marked-end : goal.slice_bounds-pool_marked-end
 slice_bounds-pool_marked-end c =
-    sym (fresh_wide (second-known (goal.at.slice_bounds-pool_marked-end c).Else-not-is_side-2) (second_walk (goal.at.slice_bounds-pool_marked-end c).At-loop-side-2).unmarked c.mark_tags-in-loop-side-2.ensures)
+    sym (fresh_wide (second_known (goal.at.slice_bounds-pool_marked-end c).Else-not-is_side-2) (second_walk (goal.at.slice_bounds-pool_marked-end c).At-loop-side-2).unmarked c.mark_tags-in-loop-side-2.ensures)
 
 pub pool_marked-requires : goal.pool_marked-requires
 pool_marked-requires c =
@@ -242,34 +242,34 @@ pool_marked-requires c =
     (met_standing c.requires w (right_there (goal.at.pool_marked-requires c).Else-not-is_side-2) (there (goal.at.pool_marked-requires c).Then-contains) (more_fresh w.unmarked c.mark_tags-in-loop-side-2.ensures))
 
 pub loop-side-2-smaller-then-contains : goal.loop-side-2-smaller-then-contains
-loop-side-2-smaller-then-contains c = read_less _ _ (read-second (goal.at.loop-side-2-smaller-then-contains c).In-Record-answer)
+loop-side-2-smaller-then-contains c = read_less _ _ (read_second (goal.at.loop-side-2-smaller-then-contains c).In-Record-answer)
 
 pub loop-side-2-preserved-then-contains : goal.loop-side-2-preserved-then-contains
 loop-side-2-preserved-then-contains c =
     λ n₀ e₀ i₀ start.
     let w = c.loop-side-2.invariant n₀ e₀ i₀ start in
-    second_walk_met c.requires w (right_here c.requires w (read-second (goal.at.loop-side-2-preserved-then-contains c).In-Record-answer) (second-right-side (goal.at.loop-side-2-preserved-then-contains c).Else-not-is_side-2) (second-bytes (goal.at.loop-side-2-preserved-then-contains c).At-loop-side-2)) (there (goal.at.loop-side-2-preserved-then-contains c).Then-contains)
+    second_walk_met c.requires w (right_here c.requires w (read_second (goal.at.loop-side-2-preserved-then-contains c).In-Record-answer) (second_right_side (goal.at.loop-side-2-preserved-then-contains c).Else-not-is_side-2) (second_bytes (goal.at.loop-side-2-preserved-then-contains c).At-loop-side-2)) (there (goal.at.loop-side-2-preserved-then-contains c).Then-contains)
     (more_fresh w.unmarked c.mark_tags-in-loop-side-2.ensures) (rw c.number_slot-slot-then-contains.ensures at c.pool_marked.ensures.items) c.pool_marked.ensures.marks
 
 pub slice_bounds-put_record-end : goal.slice_bounds-put_record-end
 slice_bounds-put_record-end c =
-    sym (fresh_wide (second-known (goal.at.slice_bounds-put_record-end c).Else-not-is_side-2) (second_walk (goal.at.slice_bounds-put_record-end c).At-loop-side-2).unmarked c.mark_tags-in-loop-side-2.ensures)
+    sym (fresh_wide (second_known (goal.at.slice_bounds-put_record-end c).Else-not-is_side-2) (second_walk (goal.at.slice_bounds-put_record-end c).At-loop-side-2).unmarked c.mark_tags-in-loop-side-2.ensures)
 
 pub put_record-done-requires : goal.put_record-done-requires
 put_record-done-requires c =
     let w = second_walk (goal.at.put_record-done-requires c).At-loop-side-2 in
     record {
-      marks_len = fresh_wide (second-known (goal.at.put_record-done-requires c).Else-not-is_side-2) w.unmarked c.mark_tags-in-loop-side-2.ensures;
-      room_for_one = rw (fresh_items (second-known (goal.at.put_record-done-requires c).Else-not-is_side-2) w.unmarked c.mark_tags-in-loop-side-2.ensures)
+      marks_len = fresh_wide (second_known (goal.at.put_record-done-requires c).Else-not-is_side-2) w.unmarked c.mark_tags-in-loop-side-2.ensures;
+      room_for_one = rw (fresh_items (second_known (goal.at.put_record-done-requires c).Else-not-is_side-2) w.unmarked c.mark_tags-in-loop-side-2.ensures)
           (new_room c.requires w (right_there (goal.at.put_record-done-requires c).Else-not-is_side-2) (absent (goal.at.put_record-done-requires c).Else-contains));
     }
 
 pub loop-side-2-smaller : goal.loop-side-2-smaller
-loop-side-2-smaller c = read_less _ _ (read-second (goal.at.loop-side-2-smaller c).In-Record-answer)
+loop-side-2-smaller c = read_less _ _ (read_second (goal.at.loop-side-2-smaller c).In-Record-answer)
 
 pub loop-side-2-preserved : goal.loop-side-2-preserved
 loop-side-2-preserved c =
     λ n₀ e₀ i₀ start.
     let w = c.loop-side-2.invariant n₀ e₀ i₀ start in
-    second_walk_new c.requires w (right_here c.requires w (read-second (goal.at.loop-side-2-preserved c).In-Record-answer) (second-right-side (goal.at.loop-side-2-preserved c).Else-not-is_side-2) (second-bytes (goal.at.loop-side-2-preserved c).At-loop-side-2)) (absent (goal.at.loop-side-2-preserved c).Else-contains)
-    (rw (fresh_items (second-known (goal.at.loop-side-2-preserved c).Else-not-is_side-2) w.unmarked c.mark_tags-in-loop-side-2.ensures) at c.put_record-done.ensures.lists) c.put_record-done.ensures.marks
+    second_walk_new c.requires w (right_here c.requires w (read_second (goal.at.loop-side-2-preserved c).In-Record-answer) (second_right_side (goal.at.loop-side-2-preserved c).Else-not-is_side-2) (second_bytes (goal.at.loop-side-2-preserved c).At-loop-side-2)) (absent (goal.at.loop-side-2-preserved c).Else-contains)
+    (rw (fresh_items (second_known (goal.at.loop-side-2-preserved c).Else-not-is_side-2) w.unmarked c.mark_tags-in-loop-side-2.ensures) at c.put_record-done.ensures.lists) c.put_record-done.ensures.marks

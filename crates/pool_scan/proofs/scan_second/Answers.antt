@@ -34,8 +34,8 @@ few a = read_count _ _ (read a) (λ i. (a.type_inv.second i).fits)
 right : (a : Then-is_side) → same_side Right a.in-Record.side ≡ true
 right a = sym a.is_side.ensures ∙ a.if-is_side.true
 
-right-here : (e : Else-claim) → same_side Right e.in-Record.side ≡ true
-right-here e = right (goal.at.Else-claim e).Then-is_side
+right_here : (e : Else-claim) → same_side Right e.in-Record.side ≡ true
+right_here e = right (goal.at.Else-claim e).Then-is_side
 
 -- its number was not noted
 free : (e : Else-claim) → member e.loop-side.noted e.in-Record.number ≡ false
@@ -106,13 +106,13 @@ returns-then-claim c =
 
 pub unite-united-requires : goal.unite-united-requires
 unite-united-requires c =
-    step_ready c.requires (bytes (goal.at.unite-united-requires c).Else-claim) c.loop-side.invariant (read (goal.at.unite-united-requires c).In-Record) (right-here (goal.at.unite-united-requires c).Else-claim) (small (goal.at.unite-united-requires c).In-Record) (free (goal.at.unite-united-requires c).Else-claim) (few (goal.at.unite-united-requires c).In-Record)
+    step_ready c.requires (bytes (goal.at.unite-united-requires c).Else-claim) c.loop-side.invariant (read (goal.at.unite-united-requires c).In-Record) (right_here (goal.at.unite-united-requires c).Else-claim) (small (goal.at.unite-united-requires c).In-Record) (free (goal.at.unite-united-requires c).Else-claim) (few (goal.at.unite-united-requires c).In-Record)
 
 pub count_set-counted-requires : goal.count_set-counted-requires
 count_set-counted-requires c =
     let inv = c.loop-side.invariant in
-    let bounds = step_bounds c.requires (bytes (goal.at.count_set-counted-requires c).Else-claim) inv (read (goal.at.count_set-counted-requires c).In-Record) (right-here (goal.at.count_set-counted-requires c).Else-claim) (small (goal.at.count_set-counted-requires c).In-Record) (free (goal.at.count_set-counted-requires c).Else-claim) c.unite-united.ensures in
-    let one = stepped c.requires (bytes (goal.at.count_set-counted-requires c).Else-claim) inv (read (goal.at.count_set-counted-requires c).In-Record) (right-here (goal.at.count_set-counted-requires c).Else-claim) (small (goal.at.count_set-counted-requires c).In-Record) (free (goal.at.count_set-counted-requires c).Else-claim) c.unite-united.ensures in
+    let bounds = step_bounds c.requires (bytes (goal.at.count_set-counted-requires c).Else-claim) inv (read (goal.at.count_set-counted-requires c).In-Record) (right_here (goal.at.count_set-counted-requires c).Else-claim) (small (goal.at.count_set-counted-requires c).In-Record) (free (goal.at.count_set-counted-requires c).Else-claim) c.unite-united.ensures in
+    let one = stepped c.requires (bytes (goal.at.count_set-counted-requires c).Else-claim) inv (read (goal.at.count_set-counted-requires c).In-Record) (right_here (goal.at.count_set-counted-requires c).Else-claim) (small (goal.at.count_set-counted-requires c).In-Record) (free (goal.at.count_set-counted-requires c).Else-claim) c.unite-united.ensures in
     let more = passing_repeats inv (read (goal.at.count_set-counted-requires c).In-Record) one.distinct (omega (arith, c.well_formed.0)) (omega (arith, c.well_formed.1.0)) in
     record {
       limited = inv.taken.limited;
@@ -130,14 +130,14 @@ refused-requires-then-is_past c = tt
 
 pub shape_of-slots-then-is_past : goal.shape_of-slots-then-is_past
 shape_of-slots-then-is_past c =
-    let one = stepped c.requires (bytes (goal.at.shape_of-slots-then-is_past c).Else-claim) c.loop-side.invariant (read (goal.at.shape_of-slots-then-is_past c).In-Record) (right-here (goal.at.shape_of-slots-then-is_past c).Else-claim) (small (goal.at.shape_of-slots-then-is_past c).In-Record) (free (goal.at.shape_of-slots-then-is_past c).Else-claim) c.unite-united.ensures in
+    let one = stepped c.requires (bytes (goal.at.shape_of-slots-then-is_past c).Else-claim) c.loop-side.invariant (read (goal.at.shape_of-slots-then-is_past c).In-Record) (right_here (goal.at.shape_of-slots-then-is_past c).Else-claim) (small (goal.at.shape_of-slots-then-is_past c).In-Record) (free (goal.at.shape_of-slots-then-is_past c).Else-claim) c.unite-united.ensures in
     one.size ∙ sym c.requires.slotted.size
 
 pub returns-then-is_past : goal.returns-then-is_past
 returns-then-is_past c =
     let inv = c.loop-side.invariant in
-    let one = stepped c.requires (bytes (goal.at.returns-then-is_past c).Else-claim) inv (read (goal.at.returns-then-is_past c).In-Record) (right-here (goal.at.returns-then-is_past c).Else-claim) (small (goal.at.returns-then-is_past c).In-Record) (free (goal.at.returns-then-is_past c).Else-claim) c.unite-united.ensures in
-    passing_past inv (read (goal.at.returns-then-is_past c).In-Record) (right-here (goal.at.returns-then-is_past c).Else-claim) (small (goal.at.returns-then-is_past c).In-Record) (free (goal.at.returns-then-is_past c).Else-claim) c.unite-united.result one.one one.size
+    let one = stepped c.requires (bytes (goal.at.returns-then-is_past c).Else-claim) inv (read (goal.at.returns-then-is_past c).In-Record) (right_here (goal.at.returns-then-is_past c).Else-claim) (small (goal.at.returns-then-is_past c).In-Record) (free (goal.at.returns-then-is_past c).Else-claim) c.unite-united.ensures in
+    passing_past inv (read (goal.at.returns-then-is_past c).In-Record) (right_here (goal.at.returns-then-is_past c).Else-claim) (small (goal.at.returns-then-is_past c).In-Record) (free (goal.at.returns-then-is_past c).Else-claim) c.unite-united.result one.one one.size
     (sym (ap (λ (k : Counted). over_of k.total) c.count_set-counted.ensures) ∙ sym c.is_past.ensures ∙ c.if-is_past.true)
     (c.refused-then-is_past.ensures ∙ ap (λ (k : ℕ). load.Refused (TooMany k)) c.wrapping_add_usize-place.ensures.value)
 
@@ -147,10 +147,10 @@ loop-side-smaller-else-is_past c = read_less _ _ (read (goal.at.loop-side-smalle
 pub loop-side-preserved-else-is_past : goal.loop-side-preserved-else-is_past
 loop-side-preserved-else-is_past c =
     let inv = c.loop-side.invariant in
-    let one = stepped c.requires (bytes (goal.at.loop-side-preserved-else-is_past c).Else-claim) inv (read (goal.at.loop-side-preserved-else-is_past c).In-Record) (right-here (goal.at.loop-side-preserved-else-is_past c).Else-claim) (small (goal.at.loop-side-preserved-else-is_past c).In-Record) (free (goal.at.loop-side-preserved-else-is_past c).Else-claim) c.unite-united.ensures in
+    let one = stepped c.requires (bytes (goal.at.loop-side-preserved-else-is_past c).Else-claim) inv (read (goal.at.loop-side-preserved-else-is_past c).In-Record) (right_here (goal.at.loop-side-preserved-else-is_past c).Else-claim) (small (goal.at.loop-side-preserved-else-is_past c).In-Record) (free (goal.at.loop-side-preserved-else-is_past c).Else-claim) c.unite-united.ensures in
     passing_by
     (c.count_set-counted.ensures ∙ ap (counted_by c.loop-side.counted c.unite-united.result c.in-Record.count) c.wrapping_add_usize-place.ensures.value)
-    (passing_next inv (read (goal.at.loop-side-preserved-else-is_past c).In-Record) (right-here (goal.at.loop-side-preserved-else-is_past c).Else-claim) (small (goal.at.loop-side-preserved-else-is_past c).In-Record) (free (goal.at.loop-side-preserved-else-is_past c).Else-claim) c.unite-united.result one.one one.size
+    (passing_next inv (read (goal.at.loop-side-preserved-else-is_past c).In-Record) (right_here (goal.at.loop-side-preserved-else-is_past c).Else-claim) (small (goal.at.loop-side-preserved-else-is_past c).In-Record) (free (goal.at.loop-side-preserved-else-is_past c).Else-claim) c.unite-united.result one.one one.size
     (sym (ap (λ (k : Counted). over_of k.total) c.count_set-counted.ensures) ∙ sym c.is_past.ensures ∙ c.if-is_past.false)
     c.claim.ensures.noted one.distinct one.words one.is one.counted)
 

@@ -8,8 +8,8 @@ use Rattle.signatures.proofs.sign_set.Goals as goal
 use Rattle.signatures.proofs.sign_set.Goals.{After-position_of-bit}
 
 -- the bit of the item at hand is one of 64
-bit-low : (c : After-position_of-bit) → c.position_of-bit.result < 64
-bit-low c =
+bit_low : (c : After-position_of-bit) → c.position_of-bit.result < 64
+bit_low c =
     let a = c.args in
     omega (arith, c.position_of-bit.ensures, position_bound (get_or a.items.now c.loop-i.i 0))
 
@@ -17,10 +17,10 @@ pub loop-i-init : goal.loop-i-init
 loop-i-init c = refl
 
 pub overflow_cast-mark : goal.overflow_cast-mark
-overflow_cast-mark c = omega (arith, bit-low (goal.at.overflow_cast-mark c).After-position_of-bit)
+overflow_cast-mark c = omega (arith, bit_low (goal.at.overflow_cast-mark c).After-position_of-bit)
 
 pub overflow_shl-mark : goal.overflow_shl-mark
-overflow_shl-mark c = bit-low (goal.at.overflow_shl-mark c).After-position_of-bit
+overflow_shl-mark c = bit_low (goal.at.overflow_shl-mark c).After-position_of-bit
 
 pub loop-i-preserved : goal.loop-i-preserved
 loop-i-preserved c =

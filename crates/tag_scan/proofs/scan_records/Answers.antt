@@ -37,9 +37,9 @@ few : (a : In-Record) → a.in-Record.count ≤ max_set_length
 few a = read_count _ _ (read a) (λ i. (a.type_inv.file i).fits)
 
 -- no tags of it are added yet
-none-added : (l : At-loop-side)
+none_added : (l : At-loop-side)
     → Adding [] l.loop-side.heads l.loop-side.tails l.loop-side.total.tag_count 0 l.loop-side.ids (replicate seen_words 0)
-none-added l = adding_start l.loop-side.invariant.taken.sorted
+none_added l = adding_start l.loop-side.invariant.taken.sorted
 
 free : (g : After-add_tags-added)
     → member g.loop-side.used (key_of g.in-Record.side g.in-Record.number) ≡ false
@@ -91,18 +91,18 @@ returns-then-claim c =
 
 pub slice_bounds-add_tags-end : goal.slice_bounds-add_tags-end
 slice_bounds-add_tags-end c =
-    sym (none-added (goal.at.slice_bounds-add_tags-end c).At-loop-side).wide
+    sym (none_added (goal.at.slice_bounds-add_tags-end c).At-loop-side).wide
 
 pub add_tags-added-requires : goal.add_tags-added-requires
 add_tags-added-requires c =
     record {
-      some_adding = record { done = []; adding = none-added (goal.at.add_tags-added-requires c).At-loop-side };
+      some_adding = record { done = []; adding = none_added (goal.at.add_tags-added-requires c).At-loop-side };
       room_to_add = scanning_room c.loop-side.invariant (read (goal.at.add_tags-added-requires c).In-Record) (few (goal.at.add_tags-added-requires c).In-Record);
     }
 
 pub grown-total-requires : goal.grown-total-requires
 grown-total-requires c =
-    let none = none-added (goal.at.grown-total-requires c).At-loop-side in
+    let none = none_added (goal.at.grown-total-requires c).At-loop-side in
     record {
       limited = c.loop-side.invariant.taken.limited;
       distinct_le_max_set_length = distinct_few c.loop-side.invariant (read (goal.at.grown-total-requires c).In-Record) (c.add_tags-added.ensures [] none) none (few (goal.at.grown-total-requires c).In-Record);
@@ -118,17 +118,17 @@ shape_of-used-then-is_over c =
 
 pub returns-then-is_over : goal.returns-then-is_over
 returns-then-is_over c =
-    scanning_past c.loop-side.invariant (read (goal.at.returns-then-is_over c).In-Record) (c.add_tags-added.ensures [] (none-added (goal.at.returns-then-is_over c).At-loop-side)) (small (goal.at.returns-then-is_over c).In-Record) (free (goal.at.returns-then-is_over c).After-add_tags-added) c.grown-total.ensures
+    scanning_past c.loop-side.invariant (read (goal.at.returns-then-is_over c).In-Record) (c.add_tags-added.ensures [] (none_added (goal.at.returns-then-is_over c).At-loop-side)) (small (goal.at.returns-then-is_over c).In-Record) (free (goal.at.returns-then-is_over c).After-add_tags-added) c.grown-total.ensures
     (sym c.is_over.ensures ∙ c.if-is_over.true)
 
 pub overflow_sub-count : goal.overflow_sub-count
 overflow_sub-count c =
-    let none = none-added (goal.at.overflow_sub-count c).At-loop-side in
+    let none = none_added (goal.at.overflow_sub-count c).At-loop-side in
     omega (arith, added_distinct none (c.add_tags-added.ensures [] none))
 
 pub repeated-repeats-requires : goal.repeated-repeats-requires
 repeated-repeats-requires c =
-    repeats_room c.loop-side.invariant (read (goal.at.repeated-repeats-requires c).In-Record) (c.add_tags-added.ensures [] (none-added (goal.at.repeated-repeats-requires c).At-loop-side)) (omega (arith, c.well_formed.0))
+    repeats_room c.loop-side.invariant (read (goal.at.repeated-repeats-requires c).In-Record) (c.add_tags-added.ensures [] (none_added (goal.at.repeated-repeats-requires c).At-loop-side)) (omega (arith, c.well_formed.0))
 
 pub loop-side-smaller : goal.loop-side-smaller
 loop-side-smaller c =
@@ -136,5 +136,5 @@ loop-side-smaller c =
 
 pub loop-side-preserved : goal.loop-side-preserved
 loop-side-preserved c =
-    scanning_next c.loop-side.invariant (read (goal.at.loop-side-preserved c).In-Record) (c.add_tags-added.ensures [] (none-added (goal.at.loop-side-preserved c).At-loop-side)) (small (goal.at.loop-side-preserved c).In-Record) (free (goal.at.loop-side-preserved c).After-add_tags-added) c.grown-total.ensures
+    scanning_next c.loop-side.invariant (read (goal.at.loop-side-preserved c).In-Record) (c.add_tags-added.ensures [] (none_added (goal.at.loop-side-preserved c).At-loop-side)) (small (goal.at.loop-side-preserved c).In-Record) (free (goal.at.loop-side-preserved c).After-add_tags-added) c.grown-total.ensures
     c.claim.ensures.noted (sym c.is_over.ensures ∙ c.if-is_over.false) c.repeated-repeats.ensures

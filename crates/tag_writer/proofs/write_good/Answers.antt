@@ -16,15 +16,15 @@ lists s =
     lists_of a.tags.now a.left_numbers.now a.left_ends.now a.left_items.now
     a.right_numbers.now a.right_ends.now a.right_items.now
 
-left-long : (p : After-side_length-right) → length (left_bytes (lists (goal.at.After-side_length-right p).Start)) ≡ p.side_length-left.result
-left-long p = left_size (lists (goal.at.After-side_length-right p).Start) p.requires ∙ sym p.side_length-left.ensures
+left_long : (p : After-side_length-right) → length (left_bytes (lists (goal.at.After-side_length-right p).Start)) ≡ p.side_length-left.result
+left_long p = left_size (lists (goal.at.After-side_length-right p).Start) p.requires ∙ sym p.side_length-left.ensures
 
-right-long : (p : After-side_length-right) → length (right_bytes (lists (goal.at.After-side_length-right p).Start)) ≡ p.side_length-right.result
-right-long p = right_size (lists (goal.at.After-side_length-right p).Start) p.requires ∙ sym p.side_length-right.ensures
+right_long : (p : After-side_length-right) → length (right_bytes (lists (goal.at.After-side_length-right p).Start)) ≡ p.side_length-right.result
+right_long p = right_size (lists (goal.at.After-side_length-right p).Start) p.requires ∙ sym p.side_length-right.ensures
 
-file-long : (p : After-side_length-right)
+file_long : (p : After-side_length-right)
     → length (file_bytes (lists (goal.at.After-side_length-right p).Start)) ≡ p.side_length-left.result + p.side_length-right.result
-file-long p = omega (arith, file_size (lists (goal.at.After-side_length-right p).Start) p.requires, left-long p, right-long p)
+file_long p = omega (arith, file_size (lists (goal.at.After-side_length-right p).Start) p.requires, left_long p, right_long p)
 
 pub side_length-left-requires : goal.side_length-left-requires
 side_length-left-requires c =
@@ -43,7 +43,7 @@ overflow_add-left c =
 pub returns-then-file-left : goal.returns-then-file-left
 returns-then-file-left c =
     record {
-      answer = short (length c.args.file.now) (file_bytes (lists (goal.at.returns-then-file-left c).Start)) _ (file-long (goal.at.returns-then-file-left c).After-side_length-right)
+      answer = short (length c.args.file.now) (file_bytes (lists (goal.at.returns-then-file-left c).Start)) _ (file_long (goal.at.returns-then-file-left c).After-side_length-right)
           c.if-file-left.true;
       file = c.zero_u8.ensures;
     }
@@ -52,14 +52,14 @@ pub put_side-requires : goal.put_side-requires
 put_side-requires c =
     record {
       good_side = c.requires.left;
-      in_bounds = omega (arith, left-long (goal.at.put_side-requires c).After-side_length-right, c.if-file-left.false);
+      in_bounds = omega (arith, left_long (goal.at.put_side-requires c).After-side_length-right, c.if-file-left.false);
     }
 
 pub put_side-requires-2 : goal.put_side-requires-2
 put_side-requires-2 c =
     record {
       good_side = c.requires.right;
-      in_bounds = omega (arith, right-long (goal.at.put_side-requires-2 c).After-side_length-right, c.put_side.auto, c.if-file-left.false);
+      in_bounds = omega (arith, right_long (goal.at.put_side-requires-2 c).After-side_length-right, c.put_side.auto, c.if-file-left.false);
     }
 
 pub returns : goal.returns
@@ -67,7 +67,7 @@ returns c =
     let file = c.args.file.now in
     let room = c.if-file-left.false in
     record {
-      answer = within (length file) (file_bytes (lists (goal.at.returns c).Start)) _ (file-long (goal.at.returns c).After-side_length-right) room;
-      file = put_sides (lists (goal.at.returns c).Start) c.requires file _ _ _ (left-long (goal.at.returns c).After-side_length-right) (omega (arith, file-long (goal.at.returns c).After-side_length-right, room))
+      answer = within (length file) (file_bytes (lists (goal.at.returns c).Start)) _ (file_long (goal.at.returns c).After-side_length-right) room;
+      file = put_sides (lists (goal.at.returns c).Start) c.requires file _ _ _ (left_long (goal.at.returns c).After-side_length-right) (omega (arith, file_long (goal.at.returns c).After-side_length-right, room))
           c.put_side.ensures c.put_side-2.ensures;
     }

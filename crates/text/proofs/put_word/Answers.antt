@@ -20,8 +20,8 @@ byte_next word i more = rw (add-one i) (drop-cons word i 0 more)
 pub loop-i-init : goal.loop-i-init
 loop-i-init c = writing_start _ _ _ c.requires
 
-byte-room : (c : After-shared_slice_known-1) → c.loop-i.n + 1 ≤ length c.loop-i.text
-byte-room c = writing_room c.loop-i.invariant (_ ∷ []) _ (byte_next _ _ c.loop-i-test.true)
+byte_room : (c : After-shared_slice_known-1) → c.loop-i.n + 1 ≤ length c.loop-i.text
+byte_room c = writing_room c.loop-i.invariant (_ ∷ []) _ (byte_next _ _ c.loop-i-test.true)
 
 pub bounds-word-i : goal.bounds-word-i
 bounds-word-i c =
@@ -29,11 +29,11 @@ bounds-word-i c =
 
 pub bounds-text-n : goal.bounds-text-n
 bounds-text-n c =
-    omega (arith, byte-room (goal.at.bounds-text-n c).After-shared_slice_known-1)
+    omega (arith, byte_room (goal.at.bounds-text-n c).After-shared_slice_known-1)
 
 pub overflow_add-n : goal.overflow_add-n
 overflow_add-n c =
-    omega (arith, byte-room (goal.at.overflow_add-n c).After-shared_slice_known-1)
+    omega (arith, byte_room (goal.at.overflow_add-n c).After-shared_slice_known-1)
 
 pub loop-i-preserved : goal.loop-i-preserved
 loop-i-preserved c =

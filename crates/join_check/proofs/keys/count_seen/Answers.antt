@@ -4,7 +4,7 @@ use native.Mathlib.Omega.{arith}
 use lib.ListN.{get_or}
 use Rattle.lists.specs.Lists.{one}
 use Rattle.join_index.proofs.Places.{place_right, count_past, count_next}
-use Rattle.join_check.proofs.keys.count_seen.Invariants.{isSeen}
+use Rattle.join_check.proofs.keys.count_seen.Invariants.{is_seen}
 use Rattle.join_check.proofs.keys.count_seen.Goals as goal
 
 pub loop-i-init : goal.loop-i-init
@@ -36,13 +36,13 @@ loop-i-preserved c =
       few = omega (arith, c.loop-i.invariant.few, c.number-n.ensures.small);
       same = λ q there.
           let s = c.word_at-s.result in
-          let is : c.number-n.result ≡ one (isSeen q a.r (get_or a.work.now i 0)) =
+          let is : c.number-n.result ≡ one (is_seen q a.r (get_or a.work.now i 0)) =
           c.number-n.ensures.is
           ∙ ap one (c.is_seen.ensures q (place_right there i s c.loop-i.invariant.low
           c.loop-i-test.true c.word_at-s.ensures))
-          ∙ ap (λ (k : ℕ). one (isSeen q a.r k)) c.word_at-s.ensures.is
+          ∙ ap (λ (k : ℕ). one (is_seen q a.r k)) c.word_at-s.ensures.is
           in
-          let next = count_next (isSeen q a.r) a.work.now i a.to c.loop-i-test.true there.within in
+          let next = count_next (is_seen q a.r) a.work.now i a.to c.loop-i-test.true there.within in
           omega (arith, c.loop-i.invariant.same q there);
     }
 
@@ -52,6 +52,6 @@ returns c =
     let a = c.args in
     omega (
       arith,
-      count_past (isSeen q a.r) a.work.now c.loop-i.i a.to c.loop-i-test.false,
+      count_past (is_seen q a.r) a.work.now c.loop-i.i a.to c.loop-i-test.false,
       c.loop-i.invariant.same q there,
     )

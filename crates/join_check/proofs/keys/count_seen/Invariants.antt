@@ -12,15 +12,15 @@ use Rattle.join_index.specs.declared.Layout.{Layout}
 use Rattle.join_index.specs.Asking.{PlacesThere}
 use Rattle.join_check.proofs.keys.count_seen.Given as goal
 
-abbrev pub isSeen : Query → ℕ → ℕ → Bool
-isSeen q r s = seen r (right_at q s)
+abbrev pub is_seen : Query → ℕ → ℕ → Bool
+is_seen q r s = seen r (right_at q s)
 
 pub record SeenCounting (lay : Layout) (w : List ℕ) (from to r n i : ℕ) : Type 0 where
   pub low : from ≤ i
   pub few : n ≤ i - from
   pub same :
       (q : Query) → PlacesThere lay q w from to
-      → n + count (isSeen q r) (slice i to w) ≡ count (isSeen q r) (slice from to w)
+      → n + count (is_seen q r) (slice i to w) ≡ count (is_seen q r) (slice from to w)
 
 abbrev pub invariant-loop-i : goal.invariant-loop-i
 invariant-loop-i l = SeenCounting l.lay l.work l.from l.to l.r l.n l.i

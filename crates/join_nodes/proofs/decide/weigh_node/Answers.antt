@@ -21,9 +21,9 @@ rank_on-rank-requires c =
     some_path c.requires (λ q path node. node_path node (c.args.d - 1) (omega (arith, node.candidates.deep)))
 
 -- both words of the last rank's offsets lie in the work list
-rank-low : (c : After-rank_on-rank)
+rank_low : (c : After-rank_on-rank)
     → let a = c.args in a.lay.offsets + c.rank_on-rank.result + 1 < length a.work.now
-rank-low c =
+rank_low c =
     let node = c.requires.holds in
     let cands = node.candidates in
     omega (
@@ -35,25 +35,25 @@ rank-low c =
     )
 
 pub overflow_add-offsets : goal.overflow_add-offsets
-overflow_add-offsets c = omega (arith, rank-low (goal.at.overflow_add-offsets c).After-rank_on-rank, c.well_formed)
+overflow_add-offsets c = omega (arith, rank_low (goal.at.overflow_add-offsets c).After-rank_on-rank, c.well_formed)
 
 pub word_at-first-requires : goal.word_at-first-requires
-word_at-first-requires c = omega (arith, rank-low (goal.at.word_at-first-requires c).After-rank_on-rank)
+word_at-first-requires c = omega (arith, rank_low (goal.at.word_at-first-requires c).After-rank_on-rank)
 
 pub overflow_add-offsets-2 : goal.overflow_add-offsets-2
-overflow_add-offsets-2 c = omega (arith, rank-low (goal.at.overflow_add-offsets-2 c).After-rank_on-rank, c.well_formed)
+overflow_add-offsets-2 c = omega (arith, rank_low (goal.at.overflow_add-offsets-2 c).After-rank_on-rank, c.well_formed)
 
 pub overflow_add-offsets-3 : goal.overflow_add-offsets-3
-overflow_add-offsets-3 c = omega (arith, rank-low (goal.at.overflow_add-offsets-3 c).After-rank_on-rank, c.well_formed)
+overflow_add-offsets-3 c = omega (arith, rank_low (goal.at.overflow_add-offsets-3 c).After-rank_on-rank, c.well_formed)
 
 pub word_at-last-requires : goal.word_at-last-requires
-word_at-last-requires c = omega (arith, rank-low (goal.at.word_at-last-requires c).After-rank_on-rank)
+word_at-last-requires c = omega (arith, rank_low (goal.at.word_at-last-requires c).After-rank_on-rank)
 
 -- they bound a list that lies there too
-list-low : (c : After-word_at-last)
+list_low : (c : After-word_at-last)
     → let a = c.args in
     (c.word_at-first.result ≤ c.word_at-last.result) × (a.lay.index + c.word_at-last.result ≤ length a.work.now)
-list-low c =
+list_low c =
     let node = c.requires.holds in
     let cands = node.candidates in
     let held =
@@ -61,10 +61,10 @@ list-low c =
     (omega (arith, held.rise), omega (arith, held.within, cands.index.room))
 
 pub overflow_add-index : goal.overflow_add-index
-overflow_add-index c = omega (arith, (list-low (goal.at.overflow_add-index c).After-word_at-last).0, (list-low (goal.at.overflow_add-index c).After-word_at-last).1, c.well_formed)
+overflow_add-index c = omega (arith, (list_low (goal.at.overflow_add-index c).After-word_at-last).0, (list_low (goal.at.overflow_add-index c).After-word_at-last).1, c.well_formed)
 
 pub overflow_add-index-2 : goal.overflow_add-index-2
-overflow_add-index-2 c = omega (arith, (list-low (goal.at.overflow_add-index-2 c).After-word_at-last).1, c.well_formed)
+overflow_add-index-2 c = omega (arith, (list_low (goal.at.overflow_add-index-2 c).After-word_at-last).1, c.well_formed)
 
 pub count_seen-t-requires : goal.count_seen-t-requires
 count_seen-t-requires c =

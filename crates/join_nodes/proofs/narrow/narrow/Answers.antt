@@ -10,21 +10,21 @@ use Rattle.join_nodes.proofs.narrow.narrow.Goals as goal
 use Rattle.join_nodes.proofs.narrow.narrow.Goals.{After-word_at-last}
 
 -- the two words that were read bound a list that lies in the work list
-list-low : (c : After-word_at-last)
+list_low : (c : After-word_at-last)
     → let a = c.args in
     (c.word_at-first.result ≤ c.word_at-last.result) × (a.lay.index + c.word_at-last.result ≤ length a.work.now)
-list-low c =
+list_low c =
     let cands = c.requires.some_path.holds.0 in
     let held = inverted_read cands c.requires.some_path.holds.1 c.word_at-first.ensures c.word_at-last.ensures in
     (omega (arith, held.rise), omega (arith, held.within, cands.index.room))
 
 pub overflow_add-result : goal.overflow_add-result
 overflow_add-result c =
-    let low = list-low (goal.at.overflow_add-result c).After-word_at-last in
+    let low = list_low (goal.at.overflow_add-result c).After-word_at-last in
     omega (arith, low.0, low.1, c.well_formed.0)
 
 pub overflow_add-result-then-d-eq1 : goal.overflow_add-result-then-d-eq1
-overflow_add-result-then-d-eq1 c = omega (arith, (list-low (goal.at.overflow_add-result-then-d-eq1 c).After-word_at-last).1, c.well_formed.0)
+overflow_add-result-then-d-eq1 c = omega (arith, (list_low (goal.at.overflow_add-result-then-d-eq1 c).After-word_at-last).1, c.well_formed.0)
 
 pub returns-then-d-eq1 : goal.returns-then-d-eq1
 returns-then-d-eq1 c =
@@ -37,11 +37,11 @@ returns-then-d-eq1 c =
 
 pub overflow_add-index : goal.overflow_add-index
 overflow_add-index c =
-    let low = list-low (goal.at.overflow_add-index c).After-word_at-last in
+    let low = list_low (goal.at.overflow_add-index c).After-word_at-last in
     omega (arith, low.0, low.1, c.well_formed.0)
 
 pub overflow_add-index-2 : goal.overflow_add-index-2
-overflow_add-index-2 c = omega (arith, (list-low (goal.at.overflow_add-index-2 c).After-word_at-last).1, c.well_formed.0)
+overflow_add-index-2 c = omega (arith, (list_low (goal.at.overflow_add-index-2 c).After-word_at-last).1, c.well_formed.0)
 
 pub intersect-end-requires : goal.intersect-end-requires
 intersect-end-requires c =

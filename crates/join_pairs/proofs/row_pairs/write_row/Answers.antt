@@ -21,8 +21,8 @@ use Rattle.join_pairs.proofs.shortlists.Inverted.{slice-memb}
 use Rattle.join_pairs.proofs.row_pairs.write_row.Invariants.{RowWriting}
 use Rattle.join_pairs.proofs.row_pairs.write_row.Goals as goal
 
-row-past : (q : Query) (k : ℕ) (w : List ℕ) (i to : ℕ) → to ≤ i → row_among q k (slice i to w) ≡ []
-row-past q k w i to past =
+row_past : (q : Query) (k : ℕ) (w : List ℕ) (i to : ℕ) → to ≤ i → row_among q k (slice i to w) ≡ []
+row_past q k w i to past =
     ap (row_among q k) (slice_past i to w past) ∙ row_none (contained_at q k) k
 
 module _ {lay : Layout} {w : List ℕ} {p : Probe} {k from to at : ℕ} {was : List ℕ} {n : ℕ} {pairs : List ℕ} {i s : ℕ} {b : Bool}
@@ -109,4 +109,4 @@ pub returns : goal.returns
 returns c =
     let a = c.args in
     let loop = c.loop-i in
-    λ q there. writing_end (loop.invariant.written q there) (row-past q a.k a.work.now loop.i a.to c.loop-i-test.false)
+    λ q there. writing_end (loop.invariant.written q there) (row_past q a.k a.work.now loop.i a.to c.loop-i-test.false)

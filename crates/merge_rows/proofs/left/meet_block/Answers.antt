@@ -15,8 +15,8 @@ use Rattle.merge_rows.proofs.BlockSteps.{others_places, drops_within, drops_smal
 use Rattle.merge_rows.proofs.left.meet_block.Goals as goal
 
 -- a whole list is signed
-signed-whole : (more : List ℕ) {mark : ℕ} → mark ≡ signature (between 0 (length more) more) → mark ≡ signature more
-signed-whole more is = is ∙ ap signature (rw (sub-zero (length more)) (take-length more))
+signed_whole : (more : List ℕ) {mark : ℕ} → mark ≡ signature (between 0 (length more) more) → mark ≡ signature more
+signed_whole more is = is ∙ ap signature (rw (sub-zero (length more)) (take-length more))
 
 pub overflow_mul-t : goal.overflow_mul-t
 overflow_mul-t c =
@@ -52,27 +52,27 @@ pub overflow_add-result : goal.overflow_add-result
 overflow_add-result c =
     omega (
       arith,
-      drops_small c.requires.there c.shared-held.result c.shared-held.ensures (signed-whole c.args.more.now c.sign_set-mark.ensures)
+      drops_small c.requires.there c.shared-held.result c.shared-held.ensures (signed_whole c.args.more.now c.sign_set-mark.ensures)
           c.count_drops-dropped.ensures.counted,
     )
 
 pub overflow_sub-result : goal.overflow_sub-result
 overflow_sub-result c =
-    drops_within c.requires.there c.shared-held.result c.shared-held.ensures (signed-whole c.args.more.now c.sign_set-mark.ensures)
+    drops_within c.requires.there c.shared-held.result c.shared-held.ensures (signed_whole c.args.more.now c.sign_set-mark.ensures)
     c.count_drops-dropped.ensures.counted c.ones_of.ensures
 
 pub overflow_add-result-2 : goal.overflow_add-result-2
 overflow_add-result-2 c =
     omega (
       arith,
-      falses_small c.requires.there c.shared-held.result c.shared-held.ensures (signed-whole c.args.more.now c.sign_set-mark.ensures)
+      falses_small c.requires.there c.shared-held.result c.shared-held.ensures (signed_whole c.args.more.now c.sign_set-mark.ensures)
           c.count_drops-dropped.ensures.counted c.ones_of.ensures,
     )
 
 pub returns : goal.returns
 returns c =
     record {
-      yielded = block_checked c.requires.there c.shared-held.result c.shared-held.ensures (signed-whole c.args.more.now c.sign_set-mark.ensures)
+      yielded = block_checked c.requires.there c.shared-held.result c.shared-held.ensures (signed_whole c.args.more.now c.sign_set-mark.ensures)
           c.count_drops-dropped.ensures.counted c.ones_of.ensures c.list_word-end.ensures;
       signs = c.count_drops-dropped.ensures.signs;
     }

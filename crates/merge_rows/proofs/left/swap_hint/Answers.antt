@@ -18,9 +18,9 @@ word_at c = c.args.r.hints + number c % c.args.lefts
 first_small : (c : After-shared_slice_known-2-1) → get_or c.args.set.now 0 0 < 65536
 first_small c = omega (arith, c.type_inv.set 0)
 
-last-small : (c : After-shared_slice_known-2-1)
+last_small : (c : After-shared_slice_known-2-1)
     → let set = c.args.set.now in get_or set (length set - 1) 0 < 65536
-last-small c = omega (arith, c.type_inv.set (length c.args.set.now - 1))
+last_small c = omega (arith, c.type_inv.set (length c.args.set.now - 1))
 
 word_low : (c : After-shared_slice_known-2-1) → number c % c.args.lefts < c.args.lefts
 word_low c = mod-lt (number c) (omega (arith, c.requires.place))
@@ -32,13 +32,13 @@ pub overflow_mul-sum : goal.overflow_mul-sum
 overflow_mul-sum c = omega (arith, c.type_inv.set 0)
 
 pub overflow_cast-sum-2 : goal.overflow_cast-sum-2
-overflow_cast-sum-2 c = omega (arith, last-small (goal.at.overflow_cast-sum-2 c).After-shared_slice_known-2-1)
+overflow_cast-sum-2 c = omega (arith, last_small (goal.at.overflow_cast-sum-2 c).After-shared_slice_known-2-1)
 
 pub overflow_add-sum : goal.overflow_add-sum
-overflow_add-sum c = omega (arith, first_small (goal.at.overflow_add-sum c).After-shared_slice_known-2-1, last-small (goal.at.overflow_add-sum c).After-shared_slice_known-2-1)
+overflow_add-sum c = omega (arith, first_small (goal.at.overflow_add-sum c).After-shared_slice_known-2-1, last_small (goal.at.overflow_add-sum c).After-shared_slice_known-2-1)
 
 pub overflow_add-sum-2 : goal.overflow_add-sum-2
-overflow_add-sum-2 c = omega (arith, first_small (goal.at.overflow_add-sum-2 c).After-shared_slice_known-2-1, last-small (goal.at.overflow_add-sum-2 c).After-shared_slice_known-2-1, c.requires.short)
+overflow_add-sum-2 c = omega (arith, first_small (goal.at.overflow_add-sum-2 c).After-shared_slice_known-2-1, last_small (goal.at.overflow_add-sum-2 c).After-shared_slice_known-2-1, c.requires.short)
 
 pub overflow_cast-i-2 : goal.overflow_cast-i-2
 overflow_cast-i-2 c = omega (arith, word_low (goal.at.overflow_cast-i-2 c).After-shared_slice_known-2-1, c.requires.few)

@@ -10,9 +10,9 @@ use Rattle.merge_rows.specs.ShortLists.{pairs_with, Listed}
 use Rattle.merge_rows.proofs.ShortWriting.{listed_put, listed_past, length_pairs, length_digits}
 use Rattle.merge_rows.proofs.listed.list_word.Goals as goal
 
-word-past : (pairs : List ℕ) (word k base at ones : ℕ) → ones ≡ count (bit_at word) (upto 64) → length pairs < at + 2 * ones
+word_past : (pairs : List ℕ) (word k base at ones : ℕ) → ones ≡ count (bit_at word) (upto 64) → length pairs < at + 2 * ones
     → Listed pairs at (pairs_with k (digits_from 64 base word)) (at + 2 * ones) pairs
-word-past pairs word k base at ones is past =
+word_past pairs word k base at ones is past =
     let long = length_pairs k (digits_from 64 base word) in
     let digits = length_digits base word in
     listed_past pairs at (pairs_with k (digits_from 64 base word)) (at + 2 * ones) (omega arith) past
@@ -26,7 +26,7 @@ overflow_add-end c = let a = c.args in omega (arith, c.ones_of.ensures, length_d
 pub returns-then-pairs-end : goal.returns-then-pairs-end
 returns-then-pairs-end c =
     let a = c.args in
-    word-past a.pairs.now a.word a.k a.base a.at c.ones_of.result c.ones_of.ensures c.if-pairs-end.true
+    word_past a.pairs.now a.word a.k a.base a.at c.ones_of.result c.ones_of.ensures c.if-pairs-end.true
 
 pub put_pairs-requires : goal.put_pairs-requires
 put_pairs-requires c =

@@ -57,44 +57,44 @@ loop-rest-init c =
     }
 
 -- a pair has room, and its right place fits
-room-here : (c : In-loop-rest) → c.loop-rest.end + 2 ≤ length c.loop-rest.pairs
-room-here c = pair-room c.loop-rest.invariant c.loop-rest-test.true
+room_here : (c : In-loop-rest) → c.loop-rest.end + 2 ≤ length c.loop-rest.pairs
+room_here c = pair-room c.loop-rest.invariant c.loop-rest-test.true
 
-place-low : (c : In-loop-rest) → c.args.base + count_trailing_zeros 64 c.loop-rest.rest ≤ 4096
-place-low c = omega (arith, c.requires.places.right, trailing_le 64 c.loop-rest.rest)
+place_low : (c : In-loop-rest) → c.args.base + count_trailing_zeros 64 c.loop-rest.rest ≤ 4096
+place_low c = omega (arith, c.requires.places.right, trailing_le 64 c.loop-rest.rest)
 
 pub overflow_cast-pairs : goal.overflow_cast-pairs
 overflow_cast-pairs c = omega (arith, c.requires.places.left)
 
 pub offset_bounds-pairs-end : goal.offset_bounds-pairs-end
-offset_bounds-pairs-end c = omega (arith, room-here (goal.at.offset_bounds-pairs-end c).In-loop-rest)
+offset_bounds-pairs-end c = omega (arith, room_here (goal.at.offset_bounds-pairs-end c).In-loop-rest)
 
 pub bounds-pairs-end : goal.bounds-pairs-end
-bounds-pairs-end c = omega (arith, room-here (goal.at.bounds-pairs-end c).In-loop-rest)
+bounds-pairs-end c = omega (arith, room_here (goal.at.bounds-pairs-end c).In-loop-rest)
 
 pub overflow_cast-pairs-in-loop-rest : goal.overflow_cast-pairs-in-loop-rest
-overflow_cast-pairs-in-loop-rest c = omega (arith, place-low (goal.at.overflow_cast-pairs-in-loop-rest c).In-loop-rest)
+overflow_cast-pairs-in-loop-rest c = omega (arith, place_low (goal.at.overflow_cast-pairs-in-loop-rest c).In-loop-rest)
 
 pub overflow_add-pairs : goal.overflow_add-pairs
-overflow_add-pairs c = omega (arith, place-low (goal.at.overflow_add-pairs c).In-loop-rest)
+overflow_add-pairs c = omega (arith, place_low (goal.at.overflow_add-pairs c).In-loop-rest)
 
 pub overflow_cast-pairs-in-loop-rest-2 : goal.overflow_cast-pairs-in-loop-rest-2
-overflow_cast-pairs-in-loop-rest-2 c = omega (arith, place-low (goal.at.overflow_cast-pairs-in-loop-rest-2 c).In-loop-rest)
+overflow_cast-pairs-in-loop-rest-2 c = omega (arith, place_low (goal.at.overflow_cast-pairs-in-loop-rest-2 c).In-loop-rest)
 
 pub overflow_add-pairs-in-loop-rest : goal.overflow_add-pairs-in-loop-rest
-overflow_add-pairs-in-loop-rest c = omega (arith, room-here (goal.at.overflow_add-pairs-in-loop-rest c).In-loop-rest)
+overflow_add-pairs-in-loop-rest c = omega (arith, room_here (goal.at.overflow_add-pairs-in-loop-rest c).In-loop-rest)
 
 pub offset_bounds-pairs-end-in-loop-rest : goal.offset_bounds-pairs-end-in-loop-rest
-offset_bounds-pairs-end-in-loop-rest c = omega (arith, room-here (goal.at.offset_bounds-pairs-end-in-loop-rest c).In-loop-rest)
+offset_bounds-pairs-end-in-loop-rest c = omega (arith, room_here (goal.at.offset_bounds-pairs-end-in-loop-rest c).In-loop-rest)
 
 pub bounds-pairs-end-in-loop-rest : goal.bounds-pairs-end-in-loop-rest
-bounds-pairs-end-in-loop-rest c = simp length-set (omega (arith, room-here (goal.at.bounds-pairs-end-in-loop-rest c).In-loop-rest))
+bounds-pairs-end-in-loop-rest c = simp length-set (omega (arith, room_here (goal.at.bounds-pairs-end-in-loop-rest c).In-loop-rest))
 
 pub overflow_sub-rest : goal.overflow_sub-rest
 overflow_sub-rest c = omega (arith, c.loop-rest-test.true)
 
 pub overflow_add-end : goal.overflow_add-end
-overflow_add-end c = omega (arith, room-here (goal.at.overflow_add-end c).In-loop-rest)
+overflow_add-end c = omega (arith, room_here (goal.at.overflow_add-end c).In-loop-rest)
 
 pub loop-rest-smaller : goal.loop-rest-smaller
 loop-rest-smaller c = pair-fewer c.loop-rest.invariant c.loop-rest-test.true

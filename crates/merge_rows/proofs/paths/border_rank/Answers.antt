@@ -17,9 +17,9 @@ use Rattle.merge_rows.proofs.PathLaws.{marked_below, nth_border}
 use Rattle.merge_rows.proofs.paths.border_rank.Goals as goal
 
 -- a set has as many marks as items
-marks-all : {ranks set is : List ℕ} (n : ℕ) → Ranked ranks set → RanksMarked ranks set (replicate n 0) is → length ranks ≤ 64 * length is
+marks_all : {ranks set is : List ℕ} (n : ℕ) → Ranked ranks set → RanksMarked ranks set (replicate n 0) is → length ranks ≤ 64 * length is
     → count (member is) (upto (64 * length is)) ≡ length set
-marks-all {ranks} {set} {is} n ranked marked wide =
+marks_all {ranks} {set} {is} n ranked marked wide =
     marked_below ranked marked (no_member n) (64 * length is)
     ∙ count_agree (λ x. ltb (get_or ranks x 0) (64 * length is)) (λ x. true) set
     (λ x there.
@@ -31,7 +31,7 @@ pub nth_member-requires : goal.nth_member-requires
 nth_member-requires c =
     record {
       some = c.requires.some;
-      enough = omega (arith, marks-all 64 c.requires.ranked c.mark_ranks.ensures (omega (arith, c.mark_ranks.ensures.size, c.requires.ranked.few)), c.requires.longer);
+      enough = omega (arith, marks_all 64 c.requires.ranked c.mark_ranks.ensures (omega (arith, c.mark_ranks.ensures.size, c.requires.ranked.few)), c.requires.longer);
       few = omega (arith, c.mark_ranks.ensures.size);
     }
 

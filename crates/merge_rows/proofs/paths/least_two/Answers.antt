@@ -27,8 +27,8 @@ agree a b c d to from =
     same_test (leb a b) (ltb c d) (λ e. lt-ltb c d (to (leb-true a b e))) (λ e. le-leb a b (from (ltb-true c d e)))
 
 -- one more key: up to the lower of two numbers, and up to the second of three
-lower-step : (b f k n : ℕ) → leb b f ≡ ltb n 1 → leb b (min f k) ≡ ltb (n + one (ltb k b)) 1
-lower-step b f k n first =
+lower_step : (b f k n : ℕ) → leb b f ≡ ltb n 1 → leb b (min f k) ≡ ltb (n + one (ltb k b)) 1
+lower_step b f k n first =
     by_test (ltb k b)
     (λ e.
     let low = ltb-true k b e in
@@ -41,8 +41,8 @@ lower-step b f k n first =
     (λ h. omega (arith, there b f n 1 first (omega arith)))
     (λ h. omega (arith, back b f n 1 first (omega arith))))
 
-second-step : (b f s k n : ℕ) → leb b f ≡ ltb n 1 → leb b s ≡ ltb n 2 → leb b (min s (max f k)) ≡ ltb (n + one (ltb k b)) 2
-second-step b f s k n first second =
+second_step : (b f s k n : ℕ) → leb b f ≡ ltb n 1 → leb b s ≡ ltb n 2 → leb b (min s (max f k)) ≡ ltb (n + one (ltb k b)) 2
+second_step b f s k n first second =
     by_test (ltb k b)
     (λ e.
     let low = ltb-true k b e in
@@ -75,23 +75,23 @@ least_step {ranks} {set} {first} {second} {e} so_far more {high} {low} {lowest} 
           record {
             upto = λ b small.
                 ap (leb b) is-lowest
-                ∙ lower-step b first key (keys_below ranks (take e set) b) (so_far.one_below.upto b small)
+                ∙ lower_step b first key (keys_below ranks (take e set) b) (so_far.one_below.upto b small)
                 ∙ ap (λ (n : ℕ). ltb n 1) (sym (count-take (λ x. ltb (key_of ranks x) b) 0 set e more));
           };
       two-below =
           record {
             upto = λ b small.
                 ap (leb b) (is-low ∙ ap (min second) is-high)
-                ∙ second-step b first second key (keys_below ranks (take e set) b) (so_far.one_below.upto b small)
+                ∙ second_step b first second key (keys_below ranks (take e set) b) (so_far.one_below.upto b small)
                 (so_far.two-below.upto b small)
                 ∙ ap (λ (n : ℕ). ltb n 2) (sym (count-take (λ x. ltb (key_of ranks x) b) 0 set e more));
           };
       within = omega arith;
     }
 
-least-end : {ranks set : List ℕ} {first second e : ℕ} → LeastSoFar ranks set first second e → length set ≤ e
+least_end : {ranks set : List ℕ} {first second e : ℕ} → LeastSoFar ranks set first second e → length set ≤ e
     → LeastTwo ranks set (record { first = first; second = second })
-least-end {ranks} {set} {first} {second} {e} so_far past =
+least_end {ranks} {set} {first} {second} {e} so_far past =
     let whole : take e set ≡ set = take_all e set past in
     record {
       first = subst (λ (l : List ℕ). FewerBelow ranks l 1 first) whole so_far.one_below;
@@ -142,4 +142,4 @@ loop-e-preserved c =
     c.higher.ensures c.lower-second.ensures c.lower-first.ensures
 
 pub returns : goal.returns
-returns c = least-end c.loop-e.invariant c.loop-e-test.false
+returns c = least_end c.loop-e.invariant c.loop-e-test.false

@@ -48,8 +48,8 @@ marked_step {ranks} {set} {was} {is} {e} so_far more {next} one =
       within = omega arith;
     }
 
-marked-end : {ranks set was is : List ℕ} {e : ℕ} → MarkedSoFar ranks set was is e → length set ≤ e → RanksMarked ranks set was is
-marked-end {ranks} {set} {was} {is} {e} so_far past =
+marked_end : {ranks set was is : List ℕ} {e : ℕ} → MarkedSoFar ranks set was is e → length set ≤ e → RanksMarked ranks set was is
+marked_end {ranks} {set} {was} {is} {e} so_far past =
     subst (λ (l : List ℕ). RanksMarked ranks l was is) (take_all e set past) so_far.marked
 
 -- the item and its rank
@@ -85,4 +85,4 @@ pub shape_of-words : goal.shape_of-words
 shape_of-words c = c.loop-e.invariant.marked.size
 
 pub returns : goal.returns
-returns c = marked-end c.loop-e.invariant c.loop-e-test.false
+returns c = marked_end c.loop-e.invariant c.loop-e-test.false

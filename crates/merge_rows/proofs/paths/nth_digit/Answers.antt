@@ -25,8 +25,8 @@ use Rattle.merge_rows.proofs.RankCounts.{rising_index}
 use Rattle.merge_rows.proofs.paths.nth_digit.Invariants.{DigitsLeft}
 use Rattle.merge_rows.proofs.paths.nth_digit.Goals as goal
 
-digits-start : (word n : ℕ) → 0 < n → n ≤ count (bit_at word) (upto 64) → word < 2 ^ 64 → DigitsLeft word n word n
-digits-start word n some enough small =
+digits_start : (word n : ℕ) → 0 < n → n ≤ count (bit_at word) (upto 64) → word < 2 ^ 64 → DigitsLeft word n word n
+digits_start word n some enough small =
     let none : 0 ≡ n - n = omega arith in
     record {
       some = some;
@@ -103,14 +103,14 @@ digit_at word i r below here =
     small : r < 64
     small = ltb-true r 64 (sym (memb-upto 64 r) ∙ and_left (memb r (upto 64)) (bit_at word r) both)
 
-digits-end : {word n rest left : ℕ} → DigitsLeft word n rest left → left ≤ 1 → NthDigit word n (count_trailing_zeros 64 rest)
-digits-end {word} {n} {rest} {left} d last =
+digits_end : {word n rest left : ℕ} → DigitsLeft word n rest left → left ≤ 1 → NthDigit word n (count_trailing_zeros 64 rest)
+digits_end {word} {n} {rest} {left} d last =
     let whole : n - left + 1 ≡ n = omega (arith, d.some, d.within) in
     subst (λ (m : ℕ). NthDigit word m (count_trailing_zeros 64 rest)) whole
     (digit_at word (n - left) (count_trailing_zeros 64 rest) (omega (arith, d.some, d.within, d.enough)) (place d))
 
 pub loop-left-init : goal.loop-left-init
-loop-left-init c = digits-start c.args.word c.args.n c.requires.some c.requires.enough c.ranges.word.fits
+loop-left-init c = digits_start c.args.word c.args.n c.requires.some c.requires.enough c.ranges.word.fits
 
 pub overflow_sub-rest : goal.overflow_sub-rest
 overflow_sub-rest c = rest_some c.loop-left.invariant
@@ -122,4 +122,4 @@ pub overflow_cast-result : goal.overflow_cast-result
 overflow_cast-result c = omega (arith, trailing_le 64 c.loop-left.rest)
 
 pub returns : goal.returns
-returns c = digits-end c.loop-left.invariant c.loop-left-test.false
+returns c = digits_end c.loop-left.invariant c.loop-left-test.false

@@ -12,14 +12,14 @@ use Rattle.merge_rows.specs.FirstRanks.{NthDigit, NthMember}
 use Rattle.merge_rows.proofs.paths.nth_member.Invariants.{MembersLeft}
 use Rattle.merge_rows.proofs.paths.nth_member.Goals as goal
 
-members-start : (words : List ℕ) (n : ℕ) → 0 < n → MembersLeft words n n 0
+members_start : (words : List ℕ) (n : ℕ) → 0 < n → MembersLeft words n n 0
 unfolding count range
-members-start words n some = record { some = some; total = omega arith; within = omega arith }
+members_start words n some = record { some = some; total = omega arith; within = omega arith }
 
 -- the members up to digit d of word w
-count-upto-digit : (words : List ℕ) (w d : ℕ) → d ≤ 64
+count_upto_digit : (words : List ℕ) (w d : ℕ) → d ≤ 64
     → count (member words) (upto (64 * w + d)) ≡ count (member words) (upto (64 * w)) + count (bit_at (get_or words w 0)) (upto d)
-count-upto-digit words w d small =
+count_upto_digit words w d small =
     let from : 0 + 64 * w ≡ 64 * w = omega arith in
     ap (count (member words)) (range_append 0 (64 * w) d ∙ ap (λ (k : ℕ). upto (64 * w) ++ range k d) from)
     ∙ count_append (member words) (upto (64 * w)) (range (64 * w) d)
@@ -37,7 +37,7 @@ module _ {words : List ℕ} {n left w : ℕ} (m : MembersLeft words n left w) wh
               arith,
               m.total,
               is,
-              count-upto-digit words w 64 (omega arith),
+              count_upto_digit words w 64 (omega arith),
               ap (λ (k : ℕ). count (member words) (upto k)) next,
             );
         within = omega arith;
@@ -51,7 +51,7 @@ module _ {words : List ℕ} {n left w : ℕ} (m : MembersLeft words n left w) wh
       record {
         below = omega arith;
         is = ap₂ (λ (a b : ℕ). bit_at (get_or words a 0) b) word place ∙ digit.is;
-        before = omega (arith, count-upto-digit words w r (omega arith), digit.before, m.total);
+        before = omega (arith, count_upto_digit words w r (omega arith), digit.before, m.total);
       }
 
   members-none : {r : ℕ} → length words ≤ w → n ≤ count (member words) (upto (64 * length words)) → NthMember words n r
@@ -60,7 +60,7 @@ module _ {words : List ℕ} {n left w : ℕ} (m : MembersLeft words n left w) wh
       absurd (omega (arith, m.some, m.total, ap (λ (k : ℕ). count (member words) (upto (64 * k))) all_of))
 
 pub loop-w-init : goal.loop-w-init
-loop-w-init c = members-start c.args.words.now c.args.n c.requires.some
+loop-w-init c = members_start c.args.words.now c.args.n c.requires.some
 
 pub ones_of-ones-requires : goal.ones_of-ones-requires
 ones_of-ones-requires c = tt

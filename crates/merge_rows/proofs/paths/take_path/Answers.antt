@@ -16,10 +16,10 @@ use Rattle.lists.proofs.Throughout.{any_elim}
 use Rattle.merge_rows.specs.FirstRanks.{on_path, path_of, PathRoom, PathTaken, Border, UpToTaken}
 use Rattle.merge_rows.proofs.paths.take_path.Goals as goal
 
-path-taken : {limit : ℕ} {ranks set was is : List ℕ} {last n : ℕ} → PathRoom limit ranks set was → Border limit ranks set last
+path_taken : {limit : ℕ} {ranks set was is : List ℕ} {last n : ℕ} → PathRoom limit ranks set was → Border limit ranks set last
     → UpToTaken ranks set last is n → length is ≡ length was → PathTaken limit ranks set is n
 unfolding path_of
-path-taken {limit} {ranks} {set} {was} {is} {last} {n} room border taken same =
+path_taken {limit} {ranks} {set} {was} {is} {last} {n} room border taken same =
     record {
       some =
           any_elim (λ (x : ℕ). eqb (get_or ranks x 0) last) set border.some
@@ -38,5 +38,5 @@ path-taken {limit} {ranks} {set} {was} {is} {last} {n} room border taken same =
 
 pub returns : goal.returns
 returns c =
-    path-taken c.requires c.border_rank-last.ensures c.take_up_to.ensures
+    path_taken c.requires c.border_rank-last.ensures c.take_up_to.ensures
     c.take_up_to.auto.path

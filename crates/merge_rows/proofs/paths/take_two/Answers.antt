@@ -12,14 +12,14 @@ use Rattle.merge_rows.proofs.LeastKeys.{one_path, two_path}
 use Rattle.merge_rows.proofs.paths.take_two.Goals as goal
 
 -- two numbers in front of a list
-front-one : (l : List ℕ) (a b : ℕ) → 1 < length l → take 1 (set (set l 0 a) 1 b) ≡ a ∷ []
-front-one [] a b more = absurd (omega arith)
-front-one (x ∷ xs) a b more = refl
+front_one : (l : List ℕ) (a b : ℕ) → 1 < length l → take 1 (set (set l 0 a) 1 b) ≡ a ∷ []
+front_one [] a b more = absurd (omega arith)
+front_one (x ∷ xs) a b more = refl
 
-front-two : (l : List ℕ) (a b : ℕ) → 1 < length l → take 2 (set (set l 0 a) 1 b) ≡ a ∷ b ∷ []
-front-two [] a b more = absurd (omega arith)
-front-two (x ∷ []) a b more = absurd (omega arith)
-front-two (x ∷ y ∷ l) a b more = refl
+front_two : (l : List ℕ) (a b : ℕ) → 1 < length l → take 2 (set (set l 0 a) 1 b) ≡ a ∷ b ∷ []
+front_two [] a b more = absurd (omega arith)
+front_two (x ∷ []) a b more = absurd (omega arith)
+front_two (x ∷ y ∷ l) a b more = refl
 
 abbrev after : Two → List ℕ → List ℕ
 after r path = set (set path 0 (r.first % half_words)) 1 (r.second % half_words)
@@ -29,10 +29,10 @@ module _ {ranks items path : List ℕ} (r : Two) (least : LeastTwo ranks items r
       → (x : ℕ) → memb x (take limit (after r path)) ≡ memb x (path_of limit ranks items)
   two-members zero room few x = absurd (omega (arith, room.some))
   two-members (suc zero) room few x =
-      ap (memb x) (front-one path (r.first % half_words) (r.second % half_words) (omega (arith, room.longer, room.room)))
+      ap (memb x) (front_one path (r.first % half_words) (r.second % half_words) (omega (arith, room.longer, room.room)))
       ∙ one_path room.ranked r least room.longer x
   two-members (suc (suc zero)) room few x =
-      ap (memb x) (front-two path (r.first % half_words) (r.second % half_words) (omega (arith, room.longer, room.room)))
+      ap (memb x) (front_two path (r.first % half_words) (r.second % half_words) (omega (arith, room.longer, room.room)))
       ∙ two_path room.ranked r least room.longer x
   two-members (suc (suc (suc limit))) room few x = absurd (omega arith)
 

@@ -16,11 +16,11 @@ use Rattle.merge_rows.proofs.paths.take_up_to.Goals as goal
 use Rattle.merge_rows.proofs.paths.take_up_to.Goals.{In-loop-e}
 
 -- one number more in front of the rest, where it passes
-take-onto : (l : List ℕ) (n x : ℕ) (rest : List ℕ) → n < length l → (b : Bool)
+take_onto : (l : List ℕ) (n x : ℕ) (rest : List ℕ) → n < length l → (b : Bool)
     → take (n + one b) (set l n x) ++ rest ≡ take n l ++ onto b x rest
-take-onto l n x rest below true =
+take_onto l n x rest below true =
     rw (add-one n, take-suc-set l n x below) (append_assoc (take n l) (x ∷ []) rest)
-take-onto l n x rest below false = rw (add-zero n, take-set-le n l n x (omega arith))
+take_onto l n x rest below false = rw (add-zero n, take-set-le n l n x (omega arith))
 
 module _ {ranks items : List ℕ} {last : ℕ} {was is : List ℕ} {n e : ℕ} (t : TakingUpTo ranks items last was is n e) where
   taking_step : e < length items → n < length is → {r : ℕ} → r ≡ one (passes ranks last (get_or items e 0))
@@ -31,7 +31,7 @@ module _ {ranks items : List ℕ} {last : ℕ} {was is : List ℕ} {n e : ℕ} (
       let rest = keep (passes ranks last) (drop (e + 1) items) in
       record {
         taken =
-            ap (λ (k : ℕ). take (n + k) (set is n x) ++ rest) number ∙ take-onto is n x rest room (passes ranks last x)
+            ap (λ (k : ℕ). take (n + k) (set is n x) ++ rest) number ∙ take_onto is n x rest room (passes ranks last x)
             ∙ ap (λ (l : List ℕ). take n is ++ l)
             (ap (λ (k : ℕ). onto (passes ranks last x) x (keep (passes ranks last) (drop k items))) (add-one e)
             ∙ sym (ap (keep (passes ranks last)) (drop-cons items e 0 more)))
@@ -53,8 +53,8 @@ module _ {ranks items : List ℕ} {last : ℕ} {was is : List ℕ} {n e : ℕ} (
             ∙ t.taken;
       }
 
-taking-start : (ranks items : List ℕ) (last : ℕ) (was : List ℕ) → TakingUpTo ranks items last was was 0 0
-taking-start ranks items last was =
+taking_start : (ranks items : List ℕ) (last : ℕ) (was : List ℕ) → TakingUpTo ranks items last was was 0 0
+taking_start ranks items last was =
     record { taken = refl; total = omega arith; low = omega arith; within = omega arith; same = refl }
 
 -- the item and its rank
@@ -64,19 +64,19 @@ here : (c : In-loop-e)
 here c = rank_at c.requires.ranked c.loop-e.e c.loop-e-test.true
 
 -- the path has room for it
-room-here : (c : In-loop-e) → c.loop-e.n < length c.loop-e.path
-room-here c =
+room_here : (c : In-loop-e) → c.loop-e.n < length c.loop-e.path
+room_here c =
     let i = c.loop-e.invariant in
     omega (arith, i.low, i.same, c.loop-e-test.true, c.requires.room)
 
 pub loop-e-init : goal.loop-e-init
-loop-e-init c = let a = c.args in taking-start a.ranks.now a.set.now a.last a.path.now
+loop-e-init c = let a = c.args in taking_start a.ranks.now a.set.now a.last a.path.now
 
 pub offset_bounds-path-n : goal.offset_bounds-path-n
-offset_bounds-path-n c = omega (arith, room-here (goal.at.offset_bounds-path-n c).In-loop-e)
+offset_bounds-path-n c = omega (arith, room_here (goal.at.offset_bounds-path-n c).In-loop-e)
 
 pub bounds-path-n : goal.bounds-path-n
-bounds-path-n c = room-here (goal.at.bounds-path-n c).In-loop-e
+bounds-path-n c = room_here (goal.at.bounds-path-n c).In-loop-e
 
 pub overflow_cast-x : goal.overflow_cast-x
 overflow_cast-x c = omega (arith, here (goal.at.overflow_cast-x c).In-loop-e)
@@ -94,11 +94,11 @@ pub number-n-requires : goal.number-n-requires
 number-n-requires c = tt
 
 pub overflow_add-n : goal.overflow_add-n
-overflow_add-n c = omega (arith, c.number-n.ensures.small, room-here (goal.at.overflow_add-n c).In-loop-e)
+overflow_add-n c = omega (arith, c.number-n.ensures.small, room_here (goal.at.overflow_add-n c).In-loop-e)
 
 pub loop-e-preserved : goal.loop-e-preserved
 loop-e-preserved c =
-    taking_step c.loop-e.invariant c.loop-e-test.true (room-here (goal.at.loop-e-preserved c).In-loop-e)
+    taking_step c.loop-e.invariant c.loop-e-test.true (room_here (goal.at.loop-e-preserved c).In-loop-e)
     c.number-n.ensures.is
 
 pub shape_of-path : goal.shape_of-path

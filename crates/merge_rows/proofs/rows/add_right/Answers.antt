@@ -16,9 +16,9 @@ use Rattle.merge_rows.proofs.rows.add_right.Goals.{In-loop-e, Start}
 row_fits : (c : Start) → c.args.t * (c.args.s / 64 + 1) ≤ 266240
 row_fits c = row_small c.args.t (c.args.s / 64 + 1) c.requires.block.few (omega (arith, c.requires.block.place))
 
-item-low : (c : In-loop-e)
+item_low : (c : In-loop-e)
     → get_or c.args.set.now c.loop-e.e 0 < c.args.t
-item-low c =
+item_low c =
     let a = c.args in
     ltb-true (get_or a.set.now c.loop-e.e 0) a.t
     (all_at (λ x. ltb x a.t) 0 a.set.now c.requires.items c.loop-e.e (omega arith))
@@ -34,20 +34,20 @@ overflow_cast-x c = omega (arith, c.type_inv.set c.loop-e.e)
 
 pub overflow_add-row-in-loop-e : goal.overflow_add-row-in-loop-e
 overflow_add-row-in-loop-e c =
-    omega (arith, row_fits (goal.at.overflow_add-row-in-loop-e c).Start, item-low (goal.at.overflow_add-row-in-loop-e c).In-loop-e, c.requires.block.few)
+    omega (arith, row_fits (goal.at.overflow_add-row-in-loop-e c).Start, item_low (goal.at.overflow_add-row-in-loop-e c).In-loop-e, c.requires.block.few)
 
 pub set_digit-requires : goal.set_digit-requires
 set_digit-requires c =
     let room = c.requires.block.room in
     let size = c.loop-e.invariant.2.size in
-    record { within = omega (arith, item-low (goal.at.set_digit-requires c).In-loop-e); below = omega arith }
+    record { within = omega (arith, item_low (goal.at.set_digit-requires c).In-loop-e); below = omega arith }
 
 pub set_digit-requires-in-loop-e : goal.set_digit-requires-in-loop-e
 set_digit-requires-in-loop-e c =
     let block = c.requires.block in
     let size = c.loop-e.invariant.2.size in
     let long = c.set_digit.ensures.size in
-    record { within = omega (arith, item-low (goal.at.set_digit-requires-in-loop-e c).In-loop-e, block.room); below = omega (arith, block.place) }
+    record { within = omega (arith, item_low (goal.at.set_digit-requires-in-loop-e c).In-loop-e, block.room); below = omega (arith, block.place) }
 
 pub loop-e-preserved : goal.loop-e-preserved
 loop-e-preserved c =

@@ -11,9 +11,9 @@ use Rattle.merge_rows.proofs.rows.fill_rows.Goals as goal
 use Rattle.merge_rows.proofs.rows.fill_rows.Goals.{At-loop-s, In-loop-s}
 
 -- after the sums are cleared there is still room
-room-there : (c : At-loop-s)
+room_there : (c : At-loop-s)
     → 2 * row_words c.args.t (length c.args.ends.now) ≤ length c.clear.new.work
-room-there c = omega (arith, c.requires.room, c.clear.ensures.changed.size)
+room_there c = omega (arith, c.requires.room, c.clear.ensures.changed.size)
 
 -- the right set at hand, and room for its block
 set_here : (c : In-loop-s)
@@ -21,11 +21,11 @@ set_here : (c : In-loop-s)
     let l = c.loop-s in
     SetAt a.t l.s l.start (get_or a.ends.now l.s 0) (get_or (sets_of a.ends.now a.items.now) l.s []) a.items.now
 set_here c =
-    set_next c.loop-s.invariant.1 c.requires.few c.requires.good (room-there (goal.at.In-loop-s c).At-loop-s) (omega arith)
+    set_next c.loop-s.invariant.1 c.requires.few c.requires.good (room_there (goal.at.In-loop-s c).At-loop-s) (omega arith)
 
 block_here : (c : In-loop-s) → BlockRoom c.args.t c.loop-s.s c.loop-s.work
 block_here c =
-    block_room c.loop-s.invariant.1 c.requires.few c.requires.good (room-there (goal.at.In-loop-s c).At-loop-s) (omega arith)
+    block_room c.loop-s.invariant.1 c.requires.few c.requires.good (room_there (goal.at.In-loop-s c).At-loop-s) (omega arith)
 
 pub loop-s-init : goal.loop-s-init
 loop-s-init c = (
@@ -71,7 +71,7 @@ add_right-requires c =
 pub loop-s-preserved : goal.loop-s-preserved
 loop-s-preserved c = (
   refl,
-  filling_step c.loop-s.invariant.1 c.requires.few c.requires.good (room-there (goal.at.loop-s-preserved c).At-loop-s) (omega arith) c.open_block.ensures
+  filling_step c.loop-s.invariant.1 c.requires.few c.requires.good (room_there (goal.at.loop-s-preserved c).At-loop-s) (omega arith) c.open_block.ensures
       c.add_right.ensures,
 )
 

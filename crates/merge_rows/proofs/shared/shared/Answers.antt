@@ -13,13 +13,13 @@ use Rattle.bit_sets.proofs.Digits.{bit_of_zero}
 use Rattle.bit_sets.proofs.Lowest.{bit_and_lem}
 use Rattle.signatures.specs.Signing.{double}
 use Rattle.merge_rows.specs.Words.{digit}
-use Rattle.merge_rows.proofs.shared.shared.Invariants.{sharedFrom}
+use Rattle.merge_rows.proofs.shared.shared.Invariants.{shared_from}
 use Rattle.merge_rows.proofs.shared.shared.Goals as goal
 use Rattle.merge_rows.proofs.shared.shared.Goals.{After-shared_slice_known-in-loop-e-1}
 
 module _ (w : List ℕ) (from : ℕ) (list : List ℕ) (e rest j : ℕ) where
   step : e < length list
-      → sharedFrom w from list (e + 1) (bit_and rest (double w (2 * (from + get_or list e 0)))) j ≡ sharedFrom w from list e rest j
+      → shared_from w from list (e + 1) (bit_and rest (double w (2 * (from + get_or list e 0)))) j ≡ shared_from w from list e rest j
   unfolding all
   step below =
       let here = digit w (from + get_or list e 0) j in
@@ -27,11 +27,11 @@ module _ (w : List ℕ) (from : ℕ) (list : List ℕ) (e rest j : ℕ) where
       ap (λ (b : Bool). b && later) (bit_and_lem rest (double w (2 * (from + get_or list e 0))) j) ∙ and_assoc (bit_at rest j) here later
       ∙ sym (rw (drop-cons list e 0 below, add-one e))
 
-  end : length list ≤ e → bit_at rest j ≡ sharedFrom w from list e rest j
+  end : length list ≤ e → bit_at rest j ≡ shared_from w from list e rest j
   unfolding all
   end past = sym (rw (drop_of_length-le list {i = e} past, and-true (bit_at rest j)))
 
-  none : rest ≡ 0 → bit_at 0 j ≡ sharedFrom w from list e rest j
+  none : rest ≡ 0 → bit_at 0 j ≡ shared_from w from list e rest j
   none is = bit_of_zero j ∙ sym (rw (is, bit_of_zero j))
 
 pub loop-e-init : goal.loop-e-init
@@ -47,20 +47,20 @@ pub overflow_cast-x : goal.overflow_cast-x
 overflow_cast-x c = omega (arith, c.type_inv.list c.loop-e.e)
 
 -- the word of the item at hand is there
-word-there : (c : After-shared_slice_known-in-loop-e-1)
+word_there : (c : After-shared_slice_known-in-loop-e-1)
     → let a = c.args in
     2 * (a.from + get_or a.list.now c.loop-e.e 0) + 2 ≤ length a.work.now
-word-there c =
+word_there c =
     c.requires c.loop-e.e (omega arith)
 
 pub overflow_add-from : goal.overflow_add-from
-overflow_add-from c = omega (arith, word-there (goal.at.overflow_add-from c).After-shared_slice_known-in-loop-e-1)
+overflow_add-from c = omega (arith, word_there (goal.at.overflow_add-from c).After-shared_slice_known-in-loop-e-1)
 
 pub overflow_mul-from : goal.overflow_mul-from
-overflow_mul-from c = omega (arith, word-there (goal.at.overflow_mul-from c).After-shared_slice_known-in-loop-e-1)
+overflow_mul-from c = omega (arith, word_there (goal.at.overflow_mul-from c).After-shared_slice_known-in-loop-e-1)
 
 pub double_at-rest-requires : goal.double_at-rest-requires
-double_at-rest-requires c = word-there (goal.at.double_at-rest-requires c).After-shared_slice_known-in-loop-e-1
+double_at-rest-requires c = word_there (goal.at.double_at-rest-requires c).After-shared_slice_known-in-loop-e-1
 
 pub loop-e-preserved : goal.loop-e-preserved
 loop-e-preserved c =
@@ -68,7 +68,7 @@ loop-e-preserved c =
     let l = c.loop-e in (
       omega arith,
       λ j.
-          ap (λ (d : ℕ). sharedFrom a.work.now a.from a.list.now (l.e + 1) (bit_and l.rest d) j) c.double_at-rest.ensures
+          ap (λ (d : ℕ). shared_from a.work.now a.from a.list.now (l.e + 1) (bit_and l.rest d) j) c.double_at-rest.ensures
           ∙ step a.work.now a.from a.list.now l.e l.rest j (omega arith) ∙ l.invariant.1 j,
     )
 

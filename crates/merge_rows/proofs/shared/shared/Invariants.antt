@@ -11,11 +11,11 @@ use Rattle.merge_rows.specs.Words.{digit}
 use Rattle.merge_rows.proofs.shared.shared.Given as goal
 
 -- the digits of a word that the items from e on have
-abbrev pub sharedFrom : List ℕ → ℕ → List ℕ → ℕ → ℕ → ℕ → Bool
-sharedFrom w from list e word j = bit_at word j && all (λ x. digit w (from + x) j) (drop e list)
+abbrev pub shared_from : List ℕ → ℕ → List ℕ → ℕ → ℕ → ℕ → Bool
+shared_from w from list e word j = bit_at word j && all (λ x. digit w (from + x) j) (drop e list)
 
 abbrev pub invariant-loop-e : goal.invariant-loop-e
-invariant-loop-e l = (l.e ≤ length l.list) × ((j : ℕ) → sharedFrom l.work l.from l.list l.e l.rest j ≡ sharedFrom l.work l.from l.list 0 l.word j)
+invariant-loop-e l = (l.e ≤ length l.list) × ((j : ℕ) → shared_from l.work l.from l.list l.e l.rest j ≡ shared_from l.work l.from l.list 0 l.word j)
 
 abbrev pub decreases-loop-e : goal.decreases-loop-e
 decreases-loop-e l = length l.list - l.e

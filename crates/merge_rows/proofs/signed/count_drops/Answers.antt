@@ -49,11 +49,11 @@ pub number-dropped-requires : goal.number-dropped-requires
 number-dropped-requires c = tt
 
 -- whether the signature of the right set at hand drops
-dropped-here : (c : After-number-dropped)
+dropped_here : (c : After-number-dropped)
     → let a = c.args in
     c.number-dropped.result
     ≡ one (drops_at a.mark (sets_of a.ends.now a.items.now) (a.base + count_trailing_zeros 64 c.loop-rest.rest))
-dropped-here c =
+dropped_here c =
     let a = c.args in
     c.number-dropped.ensures.is
     ∙ ap (λ (right : ℕ). one (drops a.mark right))
@@ -62,7 +62,7 @@ dropped-here c =
 
 pub overflow_add-dropped : goal.overflow_add-dropped
 overflow_add-dropped c =
-    omega (arith, dropped-here (goal.at.overflow_add-dropped c).After-number-dropped, drops_room c.loop-rest.invariant c.loop-rest-test.true)
+    omega (arith, dropped_here (goal.at.overflow_add-dropped c).After-number-dropped, drops_room c.loop-rest.invariant c.loop-rest-test.true)
 
 pub loop-rest-smaller : goal.loop-rest-smaller
 loop-rest-smaller c =
@@ -70,7 +70,7 @@ loop-rest-smaller c =
 
 pub loop-rest-preserved : goal.loop-rest-preserved
 loop-rest-preserved c =
-    rw (dropped-here (goal.at.loop-rest-preserved c).After-number-dropped) (drops_step c.loop-rest.invariant c.loop-rest-test.true c.signature_of-right.ensures.signs)
+    rw (dropped_here (goal.at.loop-rest-preserved c).After-number-dropped) (drops_step c.loop-rest.invariant c.loop-rest-test.true c.signature_of-right.ensures.signs)
 
 pub shape_of-work : goal.shape_of-work
 shape_of-work c = c.loop-rest.invariant.signs.size

@@ -25,11 +25,11 @@ known a =
     subst (λ (k : ℕ). KnownRecordAt s.first.now (get_or s.slots.now k 0) (table_of s.heads.now s.tails.now s.n s.ids.now))
     (sym a.number_slot-slot.ensures) (a.requires.there (met a))
 
-there-at : (a : After-number_slot-slot) {count start : ℕ}
+there_at : (a : After-number_slot-slot) {count start : ℕ}
     → let s = a.args in
     WholeRecordAt s.first.now (get_or s.slots.now (number_slot s.used.now s.number) 0) count start
     → WholeRecordAt s.first.now (get_or s.slots.now a.number_slot-slot.result 0) count start
-there-at a {count} {start} there =
+there_at a {count} {start} there =
     let s = a.args in
     subst (λ (k : ℕ). WholeRecordAt s.first.now (get_or s.slots.now k 0) count start) (sym a.number_slot-slot.ensures) there
 
@@ -78,6 +78,6 @@ returns c =
       told = c.add_both-united.ensures.told ∙ sym (met (goal.at.returns c).After-number_slot-slot);
       alone = λ e. true-false (met (goal.at.returns c).After-number_slot-slot) e;
       kept = λ e. true-false (met (goal.at.returns c).After-number_slot-slot) e;
-      met = λ e count start there. c.add_both-united.ensures.taken count start (there-at (goal.at.returns c).After-number_slot-slot there);
+      met = λ e count start there. c.add_both-united.ensures.taken count start (there_at (goal.at.returns c).After-number_slot-slot there);
       noted = λ e. ap (λ (k : ℕ). set c.args.slots.now k (pooled_mark + c.add_both-united.result.all)) c.number_slot-slot.ensures;
     }

@@ -12,20 +12,20 @@ returns-then-room-total c =
     rw (lt-leb (tag_length * a.total.tag_count) a.room.tags c.if-room-total.true)
 
 -- the left lists are too short, or the right ones decide
-left-short : {a left b : Bool} (right : Bool) → a ≡ true → b ≡ left → not b ≡ true → false ≡ (a && (left && right))
-left-short {a} {left} {b} right e is short = rw (e, sym is ∙ not-true b short)
+left_short : {a left b : Bool} (right : Bool) → a ≡ true → b ≡ left → not b ≡ true → false ≡ (a && (left && right))
+left_short {a} {left} {b} right e is short = rw (e, sym is ∙ not-true b short)
 
-left-fits : {a left b right r : Bool} → a ≡ true → b ≡ left → not b ≡ false → r ≡ right → r ≡ (a && (left && right))
-left-fits {a} {left} {b} e is fits same = rw (e, sym is ∙ not-false b fits) same
+left_fits : {a left b right r : Bool} → a ≡ true → b ≡ left → not b ≡ false → r ≡ right → r ≡ (a && (left && right))
+left_fits {a} {left} {b} e is fits same = rw (e, sym is ∙ not-false b fits) same
 
 pub returns-then-not-left : goal.returns-then-not-left
 returns-then-not-left c =
     let a = c.args in
-    left-short _ (le-leb (tag_length * a.total.tag_count) a.room.tags c.if-room-total.false)
+    left_short _ (le-leb (tag_length * a.total.tag_count) a.room.tags c.if-room-total.false)
     c.side_fits-left.ensures c.if-not-left.true-raw
 
 pub returns : goal.returns
 returns c =
     let a = c.args in
-    left-fits (le-leb (tag_length * a.total.tag_count) a.room.tags c.if-room-total.false)
+    left_fits (le-leb (tag_length * a.total.tag_count) a.room.tags c.if-room-total.false)
     c.side_fits-left.ensures c.if-not-left.false-raw c.side_fits.ensures

@@ -12,8 +12,8 @@ use Rattle.tag_loader.proofs.tag_table.fill_tags.Goals as goal
 use Rattle.tag_loader.proofs.tag_table.fill_tags.Goals.{In-loop-i}
 
 -- the id here lies within the index
-id-low : (t : In-loop-i) → get_or t.args.ids.now t.loop-i.i 0 < index_room
-id-low t =
+id_low : (t : In-loop-i) → get_or t.args.ids.now t.loop-i.i 0 < index_room
+id_low t =
     let listed = t.requires.sorted.listed in
     omega (arith, listed.small t.loop-i.i t.loop-i-test.true, listed.room)
 
@@ -32,19 +32,19 @@ bounds-ids-i c =
     omega (arith, c.requires.sorted.listed.room)
 
 pub overflow_cast-id : goal.overflow_cast-id
-overflow_cast-id c = omega (arith, id-low (goal.at.overflow_cast-id c).In-loop-i)
+overflow_cast-id c = omega (arith, id_low (goal.at.overflow_cast-id c).In-loop-i)
 
 pub offset_bounds-heads-id : goal.offset_bounds-heads-id
-offset_bounds-heads-id c = omega (arith, id-low (goal.at.offset_bounds-heads-id c).In-loop-i)
+offset_bounds-heads-id c = omega (arith, id_low (goal.at.offset_bounds-heads-id c).In-loop-i)
 
 pub bounds-heads-id : goal.bounds-heads-id
-bounds-heads-id c = omega (arith, id-low (goal.at.bounds-heads-id c).In-loop-i)
+bounds-heads-id c = omega (arith, id_low (goal.at.bounds-heads-id c).In-loop-i)
 
 pub offset_bounds-tails-id : goal.offset_bounds-tails-id
-offset_bounds-tails-id c = omega (arith, id-low (goal.at.offset_bounds-tails-id c).In-loop-i)
+offset_bounds-tails-id c = omega (arith, id_low (goal.at.offset_bounds-tails-id c).In-loop-i)
 
 pub bounds-tails-id : goal.bounds-tails-id
-bounds-tails-id c = omega (arith, id-low (goal.at.bounds-tails-id c).In-loop-i)
+bounds-tails-id c = omega (arith, id_low (goal.at.bounds-tails-id c).In-loop-i)
 
 pub put_tag-at-requires : goal.put_tag-at-requires
 put_tag-at-requires c =

@@ -13,11 +13,11 @@ stores : (file : List ℕ) (at a b c d : ℕ)
     → set (set (set (set file at a) (at + 1) b) (at + 2) c) (at + 3) d ≡ sets file at (a ∷ b ∷ c ∷ d ∷ [])
 stores file at a b c d = simp towards_suc
 
-four-stores : (tags : List ℕ) (from : ℕ) (file : List ℕ) (at : ℕ) → from + 4 ≤ length tags
+four_stores : (tags : List ℕ) (from : ℕ) (file : List ℕ) (at : ℕ) → from + 4 ≤ length tags
     → set (set (set (set file at (get_or tags from 0)) (at + 1) (get_or tags (from + 1) 0)) (at + 2) (get_or tags (from + 2) 0))
     (at + 3) (get_or tags (from + 3) 0)
     ≡ sets file at (take 4 (drop from tags))
-four-stores tags from file at whole =
+four_stores tags from file at whole =
     stores file at (get_or tags from 0) (get_or tags (from + 1) 0) (get_or tags (from + 2) 0) (get_or tags (from + 3) 0)
     ∙ ap (sets file at) (sym (four_bytes tags from whole))
 
@@ -32,4 +32,4 @@ bounds-file-at-4 c = simp length-set (omega arith)
 
 pub returns : goal.returns
 returns c =
-    four-stores c.args.tags.now c.args.from c.args.file.now c.args.at c.requires.0
+    four_stores c.args.tags.now c.args.from c.args.file.now c.args.at c.requires.0

@@ -11,11 +11,11 @@ use Rattle.tag_file.specs.Format.{mark, head_length, record_head}
 use Rattle.tag_writer_spec.proofs.Records.{mark_bytes}
 use Rattle.tag_writer.proofs.record_writer.put_head.Goals as goal
 
-head-stores : (side : Side) (file : List ℕ) (at number count first second : ℕ) → at + head_length ≤ length file
+head_stores : (side : Side) (file : List ℕ) (at number count first second : ℕ) → at + head_length ≤ length file
     → first ≡ get_or (mark side) 0 0 → second ≡ get_or (mark side) 1 0
     → set (set (set (set (set file at first) (at + 1) second) (at + 2) (number / 256)) (at + 3) (number % 256)) (at + 4) count
     ≡ sets file at (record_head side number count)
-head-stores side file at number count first second room e₁ e₂ =
+head_stores side file at number count first second room e₁ e₂ =
     rw (mark_bytes side, ← e₁, ← e₂)
     (simp towards_suc)
 
@@ -33,4 +33,4 @@ bounds-file-at-5 c = simp length-set (omega arith)
 
 pub returns : goal.returns
 returns c =
-    head-stores c.args.side _ _ _ _ _ _ c.requires c.first_mark-first.ensures c.second_mark-second.ensures
+    head_stores c.args.side _ _ _ _ _ _ c.requires c.first_mark-first.ensures c.second_mark-second.ensures

@@ -15,12 +15,12 @@ use Rattle.sets.proofs.Between.{length-between}
 use Rattle.tag_writer_spec.proofs.Records.{length_head, length-item_tags}
 use Rattle.tag_writer.proofs.record_writer.put_record.Goals as goal
 
-record-put : (side : Side) (number : ℕ) (tags items : List ℕ) (start end : ℕ) (file : List ℕ) (at : ℕ) (file' file'' : List ℕ)
+record_put : (side : Side) (number : ℕ) (tags items : List ℕ) (start end : ℕ) (file : List ℕ) (at : ℕ) (file' file'' : List ℕ)
     → ItemsFit tags items start end → at + record_length (end - start) ≤ length file
     → file' ≡ sets file at (record_head side number (end - start))
     → file'' ≡ sets file' (at + head_length) (tag_bytes (item_tags tags (between start end items)))
     → file'' ≡ sets file at (record_bytes side number (item_tags tags (between start end items)))
-record-put side number tags items start end file at file' file'' fit room e₁ e₂ =
+record_put side number tags items start end file at file' file'' fit room e₁ e₂ =
     let n : length (item_tags tags (between start end items)) ≡ end - start =
     length-item_tags tags (between start end items) ∙ length-between start end items fit.inside in
     e₂ ∙ rw (e₁, n) (sym (sets_then file at (record_head side number (end - start)) _ head_length (length_head side _ _)))
@@ -41,5 +41,5 @@ shape_of-file c =
 
 pub returns : goal.returns
 returns c =
-    record-put c.args.side c.args.number _ _ _ _ _ _ _ _ c.requires.items_fit c.requires.start_bound.1
+    record_put c.args.side c.args.number _ _ _ _ _ _ _ _ c.requires.items_fit c.requires.start_bound.1
     c.put_head.ensures c.put_tags.ensures

@@ -17,9 +17,9 @@ use Rattle.tag_writer.proofs.record_writer.put_side.Invariants.{PuttingRecords, 
 use Rattle.tag_writer.proofs.record_writer.put_side.Goals as goal
 use Rattle.tag_writer.proofs.record_writer.put_side.Goals.{In-loop-k}
 
-putting-start : (side : Side) (tags numbers ends items file : List ℕ) (at : ℕ) → GoodSide tags numbers ends items
+putting_start : (side : Side) (tags numbers ends items file : List ℕ) (at : ℕ) → GoodSide tags numbers ends items
     → PuttingRecords side tags numbers ends items file at file 0 0 at
-putting-start side tags numbers ends items file at so =
+putting_start side tags numbers ends items file at so =
     record { within = omega arith; long = refl; good = so.good; place = refl; together = refl }
 
 -- what a turn has: the set at place k is not bad, its tags are in the table, and its record has room
@@ -75,42 +75,42 @@ module _ (side : Side) (tags numbers ends items file₀ : List ℕ) (at : ℕ) (
             ∙ ap (sets file to) (sym (records_next side tags numbers ends items k start more whole.numbered)) ∙ so.together);
       }
 
-putting-end : (side : Side) (tags numbers ends items file₀ : List ℕ) (at : ℕ) (file : List ℕ) (k start to : ℕ)
+putting_end : (side : Side) (tags numbers ends items file₀ : List ℕ) (at : ℕ) (file : List ℕ) (k start to : ℕ)
     → GoodSide tags numbers ends items → length ends ≤ k → PuttingRecords side tags numbers ends items file₀ at file k start to
     → file ≡ sets file₀ at (rest side tags numbers ends items 0 0)
 unfolding records_of sets_from
-putting-end side tags numbers ends items file₀ at file k start to whole done so =
+putting_end side tags numbers ends items file₀ at file k start to whole done so =
     let none : drop k numbers ≡ [] = drop_of_length-le numbers {i = k} (omega (arith, whole.numbered)) in
     ap (λ (l : List ℕ). sets file to (records_of side tags l (sets_from start (drop k ends) items))) (sym none) ∙ so.together
 
-now-turn : (p : In-loop-k)
+now_turn : (p : In-loop-k)
     → Turn p.args.tags.now p.args.items.now p.loop-k.file p.loop-k.k
     p.loop-k.start (get_or p.args.ends.now p.loop-k.k 0) p.loop-k.to
-now-turn p = turn _ _ _ _ _ _ _ _ _ _ _ p.requires.good_side p.requires.in_bounds p.loop-k-test.true p.loop-k.invariant
+now_turn p = turn _ _ _ _ _ _ _ _ _ _ _ p.requires.good_side p.requires.in_bounds p.loop-k-test.true p.loop-k.invariant
 
 pub loop-k-init : goal.loop-k-init
-loop-k-init c = putting-start _ _ _ _ _ _ _ c.requires.good_side
+loop-k-init c = putting_start _ _ _ _ _ _ _ c.requires.good_side
 
 pub overflow_cast-end : goal.overflow_cast-end
 overflow_cast-end c = omega (arith, c.type_inv.ends c.loop-k.k)
 
 pub put_record-requires : goal.put_record-requires
 put_record-requires c =
-    let now = now-turn (goal.at.put_record-requires c).In-loop-k in
+    let now = now_turn (goal.at.put_record-requires c).In-loop-k in
     record {
       items_fit = now.fit;
       start_bound = (now.set.short, now.room);
     }
 
 pub overflow_sub-end : goal.overflow_sub-end
-overflow_sub-end c = omega (arith, (now-turn (goal.at.overflow_sub-end c).In-loop-k).set.ordered)
+overflow_sub-end c = omega (arith, (now_turn (goal.at.overflow_sub-end c).In-loop-k).set.ordered)
 
 pub record_length-to-requires : goal.record_length-to-requires
-record_length-to-requires c = (now-turn (goal.at.record_length-to-requires c).In-loop-k).set.short
+record_length-to-requires c = (now_turn (goal.at.record_length-to-requires c).In-loop-k).set.short
 
 pub overflow_add-to : goal.overflow_add-to
 overflow_add-to c =
-    omega (arith, c.record_length-to.ensures, (now-turn (goal.at.overflow_add-to c).In-loop-k).room, c.well_formed)
+    omega (arith, c.record_length-to.ensures, (now_turn (goal.at.overflow_add-to c).In-loop-k).room, c.well_formed)
 
 pub loop-k-preserved : goal.loop-k-preserved
 loop-k-preserved c =
@@ -122,4 +122,4 @@ shape_of-file c = c.loop-k.invariant.long
 
 pub returns : goal.returns
 returns c =
-    putting-end _ _ _ _ _ _ _ _ _ _ _ c.requires.good_side c.loop-k-test.false c.loop-k.invariant
+    putting_end _ _ _ _ _ _ _ _ _ _ _ c.requires.good_side c.loop-k-test.false c.loop-k.invariant

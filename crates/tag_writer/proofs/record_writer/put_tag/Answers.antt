@@ -11,19 +11,19 @@ use lib.Seq.{sets}
 use Rattle.lists.proofs.Filling.{sets_then}
 use Rattle.tag_writer.proofs.record_writer.put_tag.Goals as goal
 
-length-four : (tags : List ℕ) (from : ℕ) → from + 4 ≤ length tags → length (take 4 (drop from tags)) ≡ 4
-length-four tags from whole = simp (length-take, length-drop) (omega arith)
+length_four : (tags : List ℕ) (from : ℕ) → from + 4 ≤ length tags → length (take 4 (drop from tags)) ≡ 4
+length_four tags from whole = simp (length-take, length-drop) (omega arith)
 
-put-fours : (tags : List ℕ) (from : ℕ) (file : List ℕ) (at : ℕ) → from + tag_length ≤ length tags → at + tag_length ≤ length file
+put_fours : (tags : List ℕ) (from : ℕ) (file : List ℕ) (at : ℕ) → from + tag_length ≤ length tags → at + tag_length ≤ length file
     → sets (sets (sets file at (take 4 (drop from tags))) (at + 4) (take 4 (drop (from + 4) tags))) (at + 8)
     (take 4 (drop (from + 8) tags))
     ≡ sets file at (take tag_length (drop from tags))
-put-fours tags from file at whole room =
+put_fours tags from file at whole room =
     let a = take 4 (drop from tags) in
     let b = take 4 (drop (from + 4) tags) in
     let c = take 4 (drop (from + 8) tags) in
-    let first : length a ≡ 4 = length-four tags from (omega arith) in
-    let second : length b ≡ 4 = length-four tags (from + 4) (omega arith) in
+    let first : length a ≡ 4 = length_four tags from (omega arith) in
+    let second : length b ≡ 4 = length_four tags (from + 4) (omega arith) in
     sym
     (ap (sets file at) (tag_bytes_lem tags from)
     ∙ sets_then file at a (b ++ c) 4 first
@@ -37,4 +37,4 @@ returns c =
     c.put_four-3.ensures
     ∙ ap (λ (l : List ℕ). sets l (a.at + 8) (four 8))
     (c.put_four-2.ensures ∙ ap (λ (l : List ℕ). sets l (a.at + 4) (four 4)) c.put_four.ensures)
-    ∙ put-fours a.tags.now a.from a.file.now a.at c.requires.0 c.requires.1
+    ∙ put_fours a.tags.now a.from a.file.now a.at c.requires.0 c.requires.1

@@ -12,17 +12,17 @@ use Rattle.tag_writer_spec.proofs.Records.{tags_run}
 use Rattle.tag_writer.proofs.record_writer.put_tags.Invariants.{PuttingTags, run}
 use Rattle.tag_writer.proofs.record_writer.put_tags.Goals as goal
 
-putting-start : (tags items : List ℕ) (start end : ℕ) (file : List ℕ) (at : ℕ) → start ≤ end
+putting_start : (tags items : List ℕ) (start end : ℕ) (file : List ℕ) (at : ℕ) → start ≤ end
     → PuttingTags tags items start end file at file start at
-putting-start tags items start end file at h =
+putting_start tags items start end file at h =
     record { above = omega arith; within = h; long = refl; place = refl; together = refl }
 
-putting-step : (tags items : List ℕ) (start end : ℕ) (file₀ : List ℕ) (at : ℕ) (file : List ℕ) (i to : ℕ) (file' : List ℕ)
+putting_step : (tags items : List ℕ) (start end : ℕ) (file₀ : List ℕ) (at : ℕ) (file : List ℕ) (i to : ℕ) (file' : List ℕ)
     → ItemsFit tags items start end → at + tag_length * (end - start) ≤ length file₀ → ((k : ℕ) → get_or tags k 0 < 256)
     → i < end → PuttingTags tags items start end file₀ at file i to
     → file' ≡ sets file to (take tag_length (drop (tag_length * get_or items i 0) tags))
     → PuttingTags tags items start end file₀ at file' (i + 1) (to + tag_length)
-putting-step tags items start end file₀ at file i to file' fit room low more so e =
+putting_step tags items start end file₀ at file i to file' fit room low more so e =
     let known : tag_length * get_or items i 0 + tag_length ≤ length tags = fit.known i so.above more in
     let tag = take tag_length (drop (tag_length * get_or items i 0) tags) in
     let n : length tag ≡ tag_length =
@@ -38,15 +38,15 @@ putting-step tags items start end file₀ at file i to file' fit room low more s
           ∙ ap (sets file to) (sym (tags_run tags items i end more fit.inside known low)) ∙ so.together);
     }
 
-putting-end : (tags items : List ℕ) (start end : ℕ) (file₀ : List ℕ) (at : ℕ) (file : List ℕ) (i to : ℕ)
+putting_end : (tags items : List ℕ) (start end : ℕ) (file₀ : List ℕ) (at : ℕ) (file : List ℕ) (i to : ℕ)
     → end ≤ i → PuttingTags tags items start end file₀ at file i to → file ≡ sets file₀ at (run tags items start end)
 unfolding tag_bytes
-putting-end tags items start end file₀ at file i to done so =
+putting_end tags items start end file₀ at file i to done so =
     let none : end - i ≡ 0 = omega arith in
     ap (λ (k : ℕ). sets file to (tag_bytes (item_tags tags (take k (drop i items))))) (sym none) ∙ so.together
 
 pub loop-i-init : goal.loop-i-init
-loop-i-init c = putting-start _ _ _ _ _ _ c.requires.items_fit.rise
+loop-i-init c = putting_start _ _ _ _ _ _ c.requires.items_fit.rise
 
 pub overflow_cast-from : goal.overflow_cast-from
 overflow_cast-from c = omega (arith, c.type_inv.items c.loop-i.i)
@@ -62,11 +62,11 @@ put_tag-requires c =
 
 pub loop-i-preserved : goal.loop-i-preserved
 loop-i-preserved c =
-    putting-step _ _ _ _ _ _ _ _ _ _ c.requires.items_fit c.requires.start_in_bounds (λ k. (c.type_inv.tags k).fits)
+    putting_step _ _ _ _ _ _ _ _ _ _ c.requires.items_fit c.requires.start_in_bounds (λ k. (c.type_inv.tags k).fits)
     c.loop-i-test.true c.loop-i.invariant c.put_tag.ensures
 
 pub shape_of-file : goal.shape_of-file
 shape_of-file c = c.loop-i.invariant.long
 
 pub returns : goal.returns
-returns c = putting-end _ _ _ _ _ _ _ _ _ c.loop-i-test.false c.loop-i.invariant
+returns c = putting_end _ _ _ _ _ _ _ _ _ c.loop-i-test.false c.loop-i.invariant

@@ -30,10 +30,10 @@ word_low c =
     keeping_small c.loop-j.invariant c.requires.behind c.loop-j-test.true c.requires.below
 
 -- which is 1 at the most
-flag-low : (c : After-slice_known-1)
+flag_low : (c : After-slice_known-1)
     → get_or c.args.flags.now
     (get_or c.loop-j.work c.loop-j.j 0) 0 ≤ 1
-flag-low c = flag_small c.requires.flagged _ (word_low c)
+flag_low c = flag_small c.requires.flagged _ (word_low c)
 
 pub overflow_cast-n : goal.overflow_cast-n
 overflow_cast-n c = omega (arith, word_low (goal.at.overflow_cast-n c).After-slice_known-1)
@@ -42,11 +42,11 @@ pub bounds-flags-x : goal.bounds-flags-x
 bounds-flags-x c = word_low (goal.at.bounds-flags-x c).After-slice_known-1
 
 pub overflow_cast-n-in-loop-j : goal.overflow_cast-n-in-loop-j
-overflow_cast-n-in-loop-j c = omega (arith, flag-low (goal.at.overflow_cast-n-in-loop-j c).After-slice_known-1)
+overflow_cast-n-in-loop-j c = omega (arith, flag_low (goal.at.overflow_cast-n-in-loop-j c).After-slice_known-1)
 
 pub overflow_add-n : goal.overflow_add-n
 overflow_add-n c =
-    omega (arith, flag-low (goal.at.overflow_add-n c).After-slice_known-1, c.loop-j.invariant.high, c.requires.behind.room)
+    omega (arith, flag_low (goal.at.overflow_add-n c).After-slice_known-1, c.loop-j.invariant.high, c.requires.behind.room)
 
 pub overflow_add-j : goal.overflow_add-j
 overflow_add-j c = omega (arith, c.loop-j-test.true)

@@ -10,17 +10,17 @@ use Rattle.words.proofs.found.keep_found.Goals as goal
 use Rattle.words.proofs.found.keep_found.Goals.{At-loop-j}
 
 -- the first part as it was
-same-part : (l : At-loop-j)
+same_part : (l : At-loop-j)
     → slice l.args.a l.args.b l.loop-j.work ≡ slice l.args.a l.args.b l.args.work.now
-same-part l =
+same_part l =
     let a = l.args in
     frame-slice a.a a.b a.out a.work.now l.loop-j.work l.requires.b_le_out l.loop-j.invariant.changed.low
 
-part-rises : (l : At-loop-j) → Rising l.args.a l.args.b l.loop-j.work
-part-rises l =
+part_rises : (l : At-loop-j) → Rising l.args.a l.args.b l.loop-j.work
+part_rises l =
     record {
       within = omega (arith, l.requires.rising.within, l.loop-j.invariant.changed.size);
-      rise = ap rising (same-part l) ∙ l.requires.rising.rise;
+      rise = ap rising (same_part l) ∙ l.requires.rising.rise;
     }
 
 pub loop-j-init : goal.loop-j-init
@@ -34,7 +34,7 @@ pub is_among-found-requires : goal.is_among-found-requires
 is_among-found-requires c =
     record {
       a_le_b = c.requires.a_le_b;
-      rising = part-rises (goal.at.is_among-found-requires c).At-loop-j;
+      rising = part_rises (goal.at.is_among-found-requires c).At-loop-j;
     }
 
 pub overflow_cast-work : goal.overflow_cast-work
@@ -64,7 +64,7 @@ loop-j-preserved c =
     let word = c.word_at-x.ensures.is in
     let told : c.number-n.result ≡ one (memb (get_or c.loop-j.work c.loop-j.j 0) (slice a.a a.b a.work.now)) =
     c.number-n.ensures.is
-    ∙ ap one (c.is_among-found.ensures ∙ ap (memb c.word_at-x.result) (same-part (goal.at.loop-j-preserved c).At-loop-j)
+    ∙ ap one (c.is_among-found.ensures ∙ ap (memb c.word_at-x.result) (same_part (goal.at.loop-j-preserved c).At-loop-j)
     ∙ ap (λ (x : ℕ). memb x (slice a.a a.b a.work.now)) word) in
     rw word (keeping_step c.loop-j.invariant c.requires.behind c.loop-j-test.true told)
 

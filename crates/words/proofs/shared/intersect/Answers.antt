@@ -41,13 +41,13 @@ flag_words-requires c =
     }
 
 -- the table is as long after the flagging
-flags-size : (c : After-flag_words) → length {A = ℕ} c.flag_words.new.flags ≡ flag_room
-flags-size c = c.flag_words.auto.flags ∙ c.requires.clear_2.size
+flags_size : (c : After-flag_words) → length {A = ℕ} c.flag_words.new.flags ≡ flag_room
+flags_size c = c.flag_words.auto.flags ∙ c.requires.clear_2.size
 
 pub keep_flagged-r-requires : goal.keep_flagged-r-requires
 keep_flagged-r-requires c =
     record {
-      below = below_length c.flag_words.new.flags (flags-size (goal.at.keep_flagged-r-requires c).After-flag_words) c.requires.below_2;
+      below = below_length c.flag_words.new.flags (flags_size (goal.at.keep_flagged-r-requires c).After-flag_words) c.requires.below_2;
       behind = record { low = c.requires.apart.second; room = c.requires.apart.room };
       flagged = flagged_own c.flag_words.ensures;
     }
@@ -56,7 +56,7 @@ pub unflag_words-requires : goal.unflag_words-requires
 unflag_words-requires c =
     let changed = c.keep_flagged-r.ensures.changed in
     record {
-      below = below_length c.flag_words.new.flags (flags-size (goal.at.unflag_words-requires c).After-flag_words)
+      below = below_length c.flag_words.new.flags (flags_size (goal.at.unflag_words-requires c).After-flag_words)
           (below_changed c.args.a c.requires.apart.first changed c.requires.below);
       flagged = flagged_changed c.args.a c.requires.apart.first changed c.flag_words.ensures;
     }
@@ -65,10 +65,10 @@ pub returns : goal.returns
 returns c =
     let flags = c.flag_words.new.flags in
     record {
-      shared = kept_shared c.requires.rising c.requires.rising_2 (below_length flags (flags-size (goal.at.returns c).After-flag_words) c.requires.below_2)
+      shared = kept_shared c.requires.rising c.requires.rising_2 (below_length flags (flags_size (goal.at.returns c).After-flag_words) c.requires.below_2)
           c.flag_words.ensures c.keep_flagged-r.ensures;
       clear = record {
-        size = c.unflag_words.auto.flags ∙ flags-size (goal.at.returns c).After-flag_words;
+        size = c.unflag_words.auto.flags ∙ flags_size (goal.at.returns c).After-flag_words;
         none = c.unflag_words.ensures;
       };
     }
