@@ -3,9 +3,9 @@ use Prim.Native.Nat.{ℕ, ◌*◌}
 use mathlib.Core.Path.{◌≡◌, sym, ap₂, ◌∙◌}
 use mathlib.Core.List.{List}
 use lib.ListN.{take}
+use Rattle.std.specs.Prelude.{Ok}
 use Rattle.inputs.specs.Input.{Input, left_sets, right_sets}
 use Rattle.join_spec.specs.declared.Counts.{Counts}
-use Rattle.join_spec.specs.declared.JoinAnswer.TheVariants.{Joined}
 use Rattle.join_spec.specs.PairList.{pair_list, pair_count}
 use Rattle.join_spec.specs.Query.{Settings}
 use Rattle.join_spec.specs.Answer.{room_of, RunCall}
@@ -14,7 +14,7 @@ use Rattle.join_spec.proofs.Calls.{call_filled}
 
 module _ (i i' : Input) (lefts : left_sets i ≡ left_sets i') (rights : right_sets i ≡ right_sets i') (s s' : Settings)
     {counts counts' : Counts} {work before v after work' before' v' after' : List ℕ}
-    (a : RunCall i s work before v after (Joined counts)) (b : RunCall i' s' work' before' v' after' (Joined counts')) where
+    (a : RunCall i s work before v after (Ok counts)) (b : RunCall i' s' work' before' v' after' (Ok counts')) where
   pub alike_count : counts.pairs ≡ counts'.pairs
   alike_count =
       pairs_counted i s (room_of work before) counts (sym a.answer) ∙ ap₂ pair_count lefts rights

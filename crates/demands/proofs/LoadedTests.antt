@@ -5,19 +5,17 @@ use Prim.Native.Nat.{ℕ, ◌<◌}
 use mathlib.Core.List.{List, ◌++◌}
 use borrow.Author.Tests.{le-ltb}
 use lib.ListN.{length, get_or, take, drop, take-append-drop}
+use Rattle.std.specs.Prelude.{None, Ok}
 use Rattle.sets.specs.Limits.{max_items}
 use Rattle.sets.specs.Collections.{first_bad}
 use Rattle.sets.specs.declared.Side.{Side}
 use Rattle.sets.specs.declared.Side.TheVariants.{Left, Right}
-use Rattle.sets.specs.declared.Verdict.TheVariants.{Good}
-use Rattle.sets.specs.declared.Tested.TheVariants.{Passed}
 use Rattle.demands.proofs.Good.{good_past}
 use Rattle.inputs.specs.Input.{Input}
 use Rattle.inputs.specs.Tests.{items_test, sets_test}
 use Rattle.inputs.proofs.TestLaws.{good_sets}
 use Rattle.tag_file.specs.declared.Loaded.{Loaded}
 use Rattle.tag_file.specs.declared.Repeats.{Repeats}
-use Rattle.tag_file.specs.declared.LoadAnswer.TheVariants as load
 use Rattle.tag_file.specs.Records.{TagRecord, tag_table}
 use Rattle.tag_file.specs.Loading.{Lists, ends_of, flat_items, LoadCall}
 use Rattle.tag_file.proofs.AnswerLaws.{accepted}
@@ -34,7 +32,7 @@ module _ {rs : List TagRecord} {loaded : Loaded} {got : Lists} (fills : Fills rs
 
   -- the filled ends over items that begin with those filled
   side_good : (side : Side) (ends items : List ℕ) (n : ℕ) → ends ≡ ends_of side rs → take n items ≡ flat_items side rs
-      → first_bad i.T ends items ≡ Good
+      → first_bad i.T ends items ≡ None
   side_good side ends items n ended begins =
       ap (λ (T : ℕ). first_bad T ends items) items_are
       ∙ ap₂ (first_bad (length (tag_table rs))) ended
@@ -42,7 +40,7 @@ module _ {rs : List TagRecord} {loaded : Loaded} {got : Lists} (fills : Fills rs
       ∙ good_past (length (tag_table rs)) (ends_of side rs) (flat_items side rs) (drop n items)
       (sets_unbad rs side so.few (so.free.places side) (so.free.entries side))
 
-  pub fills_tests : (items_test i.T ≡ Passed) × (sets_test i ≡ Passed)
+  pub fills_tests : (items_test i.T ≡ Ok tt) × (sets_test i ≡ Ok tt)
   fills_tests = (
     ap items_test items_are ∙ rw (le-ltb max_items (length (tag_table rs)) so.free.tags),
     good_sets i
@@ -60,8 +58,8 @@ module _ {rs : List TagRecord} {loaded : Loaded} {got : Lists} (fills : Fills rs
 
 -- of a load that is accepted
 pub load_tests : (file : List ℕ) → ((k : ℕ) → get_or file k 0 < 256) → {lent got : Lists} {loaded : Loaded} {repeats : Repeats}
-    → LoadCall file lent got (load.Loaded loaded repeats) → (i : Input) → OverLoaded loaded got i → i.T ≡ loaded.tag_count
-    → (items_test i.T ≡ Passed) × (sets_test i ≡ Passed)
+    → LoadCall file lent got (Ok (loaded, repeats)) → (i : Input) → OverLoaded loaded got i → i.T ≡ loaded.tag_count
+    → (items_test i.T ≡ Ok tt) × (sets_test i ≡ Ok tt)
 load_tests file low {lent} {got} {loaded} {repeats} loads =
     fills_tests (load_fills file loads)
     (file_loadable file low (accepted file lent loaded repeats (sym loads.answered)).clear)

@@ -7,26 +7,24 @@ use mathlib.Core.Bool.{Bool, true, false, cond}
 use native.Mathlib.Omega.{arith}
 use borrow.Author.Tests.{ltb-true, ltb-false}
 use lib.Dec.{ltb}
+use Rattle.std.specs.Prelude.{Result, Err, Ok, ⊤}
 use Rattle.sets.specs.Refusals.{row_of, clears, unless}
 use Rattle.sets.specs.declared.Refusal.{Refusal}
 use Rattle.sets.specs.declared.Refusal.TheVariants.{Spent, ShortPairs}
-use Rattle.sets.specs.declared.Tested.{Tested}
-use Rattle.sets.specs.declared.Tested.TheVariants.{Passed, Failed}
 use Rattle.demands.proofs.Words.{number_some}
 use Rattle.inputs.specs.Input.{Input, left_sets, right_sets}
-use Rattle.join_spec.specs.declared.JoinAnswer.{JoinAnswer}
-use Rattle.join_spec.specs.declared.JoinAnswer.TheVariants.{Joined, Refused}
 use Rattle.join_spec.specs.PairList.{pair_count}
 use Rattle.join_spec.specs.Query.{Settings, query_of}
 use Rattle.join_spec.specs.Counting.{counts_of, checks_of}
 use Rattle.join_spec.specs.Answer.{Room, join_tests, walk_answer, join_answer, join_words}
 use Rattle.join_spec.proofs.Accepted.{tests_passed, early_keeps, answer_tested}
 use Rattle.demands.specs.Finding.{Settled, number_told, counts_told}
+use Rattle.join_spec.specs.declared.Counts.{Counts}
 
 -- an answer with the number 0 is accepted, with the counts among its words
-pub joined_told : (r : JoinAnswer) → number_told (join_words r) ≡ 0 → r ≡ Joined (counts_told (join_words r))
-joined_told (Joined counts) e = refl
-joined_told (Refused why) e = absurd (omega (arith, number_some why))
+pub joined_told : (r : Result Counts Refusal) → number_told (join_words r) ≡ 0 → r ≡ Ok (counts_told (join_words r))
+joined_told (Ok counts) e = refl
+joined_told (Err why) e = absurd (omega (arith, number_some why))
 
 -- the number by two tests: whether the checks are above the budget, whether the pairs are above the places
 module _ (budget checks places needed : ℕ) where
@@ -58,23 +56,23 @@ module _ (i : Input) (s : Settings) (room : Room) where
   needed = 2 * pair_count (left_sets i) (right_sets i)
 
   -- the number of an answer that passed the tests before the walk
-  number_is : join_tests i s.limit s.ranks room.words ≡ Passed
+  number_is : join_tests i s.limit s.ranks room.words ≡ Ok tt
       → number_told (join_words (join_answer i s room))
       ≡ number s.budget sum room.places needed (ltb s.budget sum) (ltb room.places needed)
   unfolding walk_answer
   number_is passed =
-      ap (λ (r : JoinAnswer). number_told (join_words r))
+      ap (λ (r : Result Counts Refusal). number_told (join_words r))
       (answer_tested i s room (tests_passed i s.limit s.ranks room.words passed))
       ∙ by (ltb s.budget sum) (ltb room.places needed)
     where
       by : (above short : Bool)
-          → number_told (join_words (cond above (Refused Spent) (cond short (Refused ShortPairs) (Joined (counts_of (query_of i s))))))
+          → number_told (join_words (cond above (Err Spent) (cond short (Err ShortPairs) (Ok (counts_of (query_of i s))))))
           ≡ number s.budget sum room.places needed above short
       by true short = refl
       by false true = refl
       by false false = refl
 
-  pub answer_settled : join_tests i s.limit s.ranks room.words ≡ Passed
+  pub answer_settled : join_tests i s.limit s.ranks room.words ≡ Ok tt
       → Settled i s room.places (number_told (join_words (join_answer i s room)))
   answer_settled passed =
       subst (Settled i s room.places) (sym (number_is passed))
@@ -85,20 +83,20 @@ module _ (i : Input) (s : Settings) (room : Room) where
       })
 
   -- a refusal with another number than 8 and 9 came before the walk, and leaves every list as it was
-  pub refused_early : {why : Refusal} → join_answer i s room ≡ Refused why → ((row_of why).number ≡ 8 → ⊥)
+  pub refused_early : {why : Refusal} → join_answer i s room ≡ Err why → ((row_of why).number ≡ 8 → ⊥)
       → ((row_of why).number ≡ 9 → ⊥) → clears why ≡ false
   unfolding join_answer walk_answer
   refused_early {why} e not_spent not_short = go (join_tests i s.limit s.ranks room.words) refl e
     where
       walked : (above short : Bool)
-          → cond above (Refused Spent) (cond short (Refused ShortPairs) (Joined (counts_of (query_of i s)))) ≡ Refused why → ⊥
+          → cond above (Err Spent) (cond short (Err ShortPairs) (Ok (counts_of (query_of i s)))) ≡ Err why → ⊥
       walked true short h = let same : why ≡ Spent = cc in not_spent (ap (λ (w : Refusal). (row_of w).number) same)
       walked false true h = let same : why ≡ ShortPairs = cc in not_short (ap (λ (w : Refusal). (row_of w).number) same)
       walked false false h = let z : ◌≡◌ {A = ℕ} 0 1 = cc in absurd (omega arith)
 
-      go : (t : Tested) → join_tests i s.limit s.ranks room.words ≡ t
-          → unless Refused t (walk_answer (query_of i s) s.budget room.places) ≡ Refused why → clears why ≡ false
-      go Passed is h = absurd (walked (ltb s.budget sum) (ltb room.places needed) h)
-      go (Failed w) is h =
+      go : (t : Result ⊤ Refusal) → join_tests i s.limit s.ranks room.words ≡ t
+          → unless Err t (walk_answer (query_of i s) s.budget room.places) ≡ Err why → clears why ≡ false
+      go (Ok _) is h = absurd (walked (ltb s.budget sum) (ltb room.places needed) h)
+      go (Err w) is h =
           let same : w ≡ why = cc in
-          early_keeps i s.limit s.ranks room.words (is ∙ ap Failed same)
+          early_keeps i s.limit s.ranks room.words (is ∙ ap Err same)

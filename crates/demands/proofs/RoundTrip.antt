@@ -5,16 +5,14 @@ use Prim.Native.Nat.{ℕ, zero, suc, ◌<◌, ◌≤◌}
 use mathlib.Core.List.{List, [], ◌∷◌}
 use native.Mathlib.Omega.{arith}
 use lib.ListN.{length, get_or}
-use Rattle.sets.specs.declared.Tested.TheVariants.{Passed}
+use Rattle.std.specs.Prelude.{Result, Ok}
 use Rattle.inputs.specs.Input.{Input}
 use Rattle.inputs.specs.Tests.{items_test, sets_test}
 use Rattle.tag_file.specs.declared.Loaded.{Loaded}
 use Rattle.tag_file.specs.declared.Repeats.{Repeats}
-use Rattle.tag_file.specs.declared.LoadAnswer.TheVariants as load
 use Rattle.tag_file.specs.Records.{TagRecord, records}
 use Rattle.tag_file.specs.Loading.{Lists, LoadCall}
 use Rattle.tag_file.proofs.AnswerLaws.{accepted}
-use Rattle.tag_writer_spec.specs.declared.WriteAnswer.{WriteAnswer}
 use Rattle.tag_writer_spec.specs.Writer.{file_bytes, WriteCall}
 use Rattle.tag_round_trip.specs.Trips.{parts_of, Fills}
 use Rattle.tag_round_trip.proofs.FileRecords.{Loadable, file_loadable}
@@ -25,6 +23,7 @@ use Rattle.tag_containment.proofs.LoadedLists.{OverLoaded, load_fills}
 use Rattle.pool_loader_laws.proofs.AcceptedPair.{pair_fills, pair_loadable}
 use Rattle.demands.specs.Trips.{TripCalls}
 use Rattle.demands.proofs.LoadedTests.{fills_tests}
+use Rattle.sets.specs.declared.Refusal.{Refusal}
 
 next_bytes : (b : ℕ) (bs : List ℕ) → AreBytes (b ∷ bs) → AreBytes bs
 next_bytes b bs low i h = low (suc i) (omega arith)
@@ -37,12 +36,12 @@ bytes_low (b ∷ bs) low (suc i) = bytes_low bs (next_bytes b bs low) i
 
 -- of any lists that hold what records give
 module _ (rs : List TagRecord) (so : Loadable rs) (counts : Loaded) (got : Lists) (fills : Fills rs counts got) where
-  pub fills_calls : (out wrote : List ℕ) (answer : WriteAnswer)
+  pub fills_calls : (out wrote : List ℕ) (answer : Result ℕ Refusal)
       → WriteCall counts.tag_count (parts_of counts got) out wrote answer
       → length (file_bytes (parts_of counts got)) ≤ length out → TripCalls counts (parts_of counts got) wrote answer
   fills_calls out wrote answer writes enough =
       let written = writes.answered ∙ (fills_trip rs so counts got fills out enough).written in
-      let accepted = subst (λ (a : WriteAnswer). WriteCall counts.tag_count (parts_of counts got) out wrote a) written writes in
+      let accepted = subst (λ (a : Result ℕ Refusal). WriteCall counts.tag_count (parts_of counts got) out wrote a) written writes in
       record {
         written = written;
         again = λ lent more next loads room. fills_again rs so counts got fills out wrote _ lent more next accepted loads room;
@@ -50,7 +49,7 @@ module _ (rs : List TagRecord) (so : Loadable rs) (counts : Loaded) (got : Lists
 
 -- of a load that is accepted
 pub calls_trip : (file : List ℕ) {lent got : Lists} {counts : Loaded} {repeats : Repeats} → ((i : ℕ) → get_or file i 0 < 256)
-    → LoadCall file lent got (load.Loaded counts repeats) → (out wrote : List ℕ) (answer : WriteAnswer)
+    → LoadCall file lent got (Ok (counts, repeats)) → (out wrote : List ℕ) (answer : Result ℕ Refusal)
     → WriteCall counts.tag_count (parts_of counts got) out wrote answer
     → length (file_bytes (parts_of counts got)) ≤ length out → TripCalls counts (parts_of counts got) wrote answer
 calls_trip file {lent} {got} {counts} {repeats} low loads out wrote answer writes enough =
@@ -59,8 +58,8 @@ calls_trip file {lent} {got} {counts} {repeats} low loads out wrote answer write
 
 -- of a pooled load that is accepted: the round trip, and the tests that an input made of what it filled passes
 module _ (first second : List ℕ) {lent got : Lists} {counts : Loaded} {repeats : Repeats} (low : (i : ℕ) → get_or first i 0 < 256)
-    (low_second : (i : ℕ) → get_or second i 0 < 256) (pools : PooledCall first second lent got (load.Loaded counts repeats)) where
-  pub pooled_calls_trip : (out wrote : List ℕ) (answer : WriteAnswer)
+    (low_second : (i : ℕ) → get_or second i 0 < 256) (pools : PooledCall first second lent got (Ok (counts, repeats))) where
+  pub pooled_calls_trip : (out wrote : List ℕ) (answer : Result ℕ Refusal)
       → WriteCall counts.tag_count (parts_of counts got) out wrote answer
       → length (file_bytes (parts_of counts got)) ≤ length out → TripCalls counts (parts_of counts got) wrote answer
   pooled_calls_trip out wrote answer writes enough =
@@ -68,5 +67,5 @@ module _ (first second : List ℕ) {lent got : Lists} {counts : Loaded} {repeats
       (pair_fills first second pools) out wrote answer writes enough
 
   pub pooled_filled_tests : (i : Input) → OverLoaded counts got i → i.T ≡ counts.tag_count
-      → (items_test i.T ≡ Passed) × (sets_test i ≡ Passed)
+      → (items_test i.T ≡ Ok tt) × (sets_test i ≡ Ok tt)
   pooled_filled_tests = fills_tests (pair_fills first second pools) (pair_loadable first second pools low low_second)

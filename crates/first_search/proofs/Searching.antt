@@ -11,6 +11,7 @@ use borrow.Author.Tests.{ltb-true, lt-ltb}
 use lib.Dec.{ltb, leb}
 use lib.ListN.{length, get_or, drop, drop_of_length-le, replicate}
 use lib.Seq.{drop-cons, take-length}
+use Rattle.std.specs.Prelude.{None, Some}
 use Rattle.lists.specs.Lists.{all, memb, rising, slice}
 use Rattle.lists.proofs.Bools.{and_left, and_right}
 use Rattle.lists.proofs.Slices.{slice_from, slice_past, length-slice}
@@ -18,8 +19,7 @@ use Rattle.lists.proofs.Throughout.{all_at}
 use Rattle.bit_sets.specs.BitSets.{member, PartFits, InsertedAll}
 use Rattle.bit_sets.proofs.Members.{no_member}
 use Rattle.sets.specs.Limits.{max_set_length}
-use Rattle.sets.specs.Collections.{between, sets_from, good_items, first_bad_from, first_bad, contained}
-use Rattle.sets.specs.declared.Verdict.TheVariants.{Good}
+use Rattle.sets.specs.Collections.{Collection, between, sets_from, good_items, first_bad_from, first_bad_in, contained}
 use Rattle.sets.proofs.Good.{good_step, good_next, set_item}
 use Rattle.sets.proofs.Containment.{contained_none, contained-subset}
 use Rattle.first_search_spec.specs.First.{found_at, none_of, first_from, first_contained}
@@ -59,42 +59,41 @@ module _ (test : List ℕ → Bool) (ends items : List ℕ) (k start : ℕ) wher
   first_set_next below fails = first_set_step below ∙ rw fails
 
 -- at place k, whose set begins at start: what is left decides, and is good
-pub record Searching (ends items marks : List ℕ) (k start : ℕ) : Type 0 where
-  pub same : first_from (is_marked marks) k (sets_from start (drop k ends) items) ≡ first_marked ends items marks
-  pub good : (T : ℕ) → first_bad T ends items ≡ Good → first_bad_from T k start (drop k ends) items ≡ Good
+pub record Searching (left : Collection) (marks : List ℕ) (k start : ℕ) : Type 0 where
+  pub same : first_from (is_marked marks) k (sets_from start (drop k left.ends) left.items) ≡ first_marked left marks
+  pub good : (T : ℕ) → first_bad_in T left ≡ None → first_bad_from T k start (drop k left.ends) left.items ≡ None
 
-pub searching_start : (ends items marks : List ℕ) → Searching ends items marks 0 0
-searching_start ends items marks = record { same = refl; good = λ T e. e }
+module _ {left : Collection} {marks : List ℕ} {k start : ℕ} (s : Searching left marks k start) where
+  pub searching_end : length left.ends ≤ k → none_of k ≡ first_marked left marks
+  searching_end over = sym (first_set_end (is_marked marks) left.ends left.items k start over) ∙ s.same
 
-module _ {ends items marks : List ℕ} {k start : ℕ} (s : Searching ends items marks k start) where
-  pub searching_end : length ends ≤ k → none_of k ≡ first_marked ends items marks
-  searching_end over = sym (first_set_end (is_marked marks) ends items k start over) ∙ s.same
-
-  module _ (more : k < length ends) where
+  module _ (more : k < length left.ends) where
     -- the set at k can be probed
-    pub searching_part : CanSearch ends items marks → PartFits marks items start (get_or ends k 0)
+    pub searching_part : CanSearch left marks → PartFits marks left.items start (get_or left.ends k 0)
     searching_part can =
-        let set = good_step can.T ends items k start more (s.good can.T can.good) in
+        let set = good_step can.T left.ends left.items k start more (s.good can.T can.good) in
         record {
           order = set.ordered;
           within = set.within;
-          small = λ e low high. omega (arith, set_item can.T start (get_or ends k 0) items k set e low high, can.wide);
+          small = λ e low high. omega (arith, set_item can.T start (get_or left.ends k 0) left.items k set e low high, can.wide);
         }
 
-    probed : is_marked marks (slice start (get_or ends k 0) items) ≡ is_marked marks (between start (get_or ends k 0) items)
-    probed = ap (is_marked marks) (slice_from start (get_or ends k 0) items)
+    probed : is_marked marks (slice start (get_or left.ends k 0) left.items)
+        ≡ is_marked marks (between start (get_or left.ends k 0) left.items)
+    probed = ap (is_marked marks) (slice_from start (get_or left.ends k 0) left.items)
 
-    pub searching_stop : true ≡ is_marked marks (slice start (get_or ends k 0) items)
-        → record { found = true; place = k; compared = k + 1 } ≡ first_marked ends items marks
+    pub searching_stop : true ≡ is_marked marks (slice start (get_or left.ends k 0) left.items)
+        → record { place = Some k; compared = k + 1 } ≡ first_marked left marks
     searching_stop All-there =
-        rw (add-one k) (sym (first_set-stop (is_marked marks) ends items k start more (sym probed ∙ sym All-there)) ∙ s.same)
+        rw (add-one k)
+        (sym (first_set-stop (is_marked marks) left.ends left.items k start more (sym probed ∙ sym All-there)) ∙ s.same)
 
-    pub searching_next : false ≡ is_marked marks (slice start (get_or ends k 0) items)
-        → Searching ends items marks (k + 1) (get_or ends k 0)
+    pub searching_next : false ≡ is_marked marks (slice start (get_or left.ends k 0) left.items)
+        → Searching left marks (k + 1) (get_or left.ends k 0)
     searching_next one_out =
         record {
-          same = sym (first_set_next (is_marked marks) ends items k start more (sym probed ∙ sym one_out)) ∙ s.same;
-          good = λ T e. good_next T ends items k start more (s.good T e);
+          same = sym (first_set_next (is_marked marks) left.ends left.items k start more (sym probed ∙ sym one_out)) ∙ s.same;
+          good = λ T e. good_next T left.ends left.items k start more (s.good T e);
         }
 
 -- the items of a good right set can be marked

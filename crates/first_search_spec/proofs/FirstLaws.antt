@@ -1,13 +1,15 @@
 -- Laws of `first_from`, the first element that passes a test, over elements of any kind: tests that agree, and what it finds: a place,
 -- the first whose element passes, with all up to it compared, or that none does.
 use Prim.Native.Nat.{ℕ, zero, suc, ◌+◌, ◌<◌, ◌≤◌}
-use mathlib.Core.Path.{◌≡◌, refl, ap, ◌∙◌}
+use mathlib.Core.Path.{◌≡◌, refl, sym, ap, subst, ◌∙◌}
 use mathlib.Core.List.{List, [], ◌∷◌}
 use mathlib.Core.Bool.{Bool, true, false, cond}
 use native.Mathlib.Nat.{add-zero, zero-add}
 use native.Mathlib.Omega.{arith}
 use lib.ListN.{length, get_or}
-use Rattle.lists.proofs.Bools.{by_test, true-false}
+use Rattle.std.specs.Prelude.{None, Some}
+use Rattle.std.proofs.lemmas.Option.{none-some, same_Some}
+use Rattle.lists.proofs.Bools.{by_test}
 use Rattle.first_search_spec.specs.declared.Search.{Search}
 use Rattle.first_search_spec.specs.First.{found_at, none_of, first_from}
 
@@ -37,9 +39,9 @@ module _ {A : Type 0} (test : A → Bool) where
     none_cons x xs n fails later zero below = fails
     none_cons x xs n fails later (suc i) below = later i (omega arith)
 
-    pub found_from : (k : ℕ) (xs : List A) → (first_from test k xs).found ≡ true → FoundFrom test past k xs
+    pub found_from : (k : ℕ) (xs : List A) → {place : ℕ} → (first_from test k xs).place ≡ Some place → FoundFrom test past k xs
     unfolding first_from
-    found_from k [] e = true-false e refl
+    found_from k [] {place} e = absurd (none-some place e)
     found_from k (x ∷ xs) e = by_test (test x) here (λ fails. further fails (found_from (suc k) xs (rw fails at e)))
       where
         here : test x ≡ true → FoundFrom test past k (x ∷ xs)
@@ -62,11 +64,11 @@ module _ {A : Type 0} (test : A → Bool) where
               before = none_cons x xs f.at fails f.before;
             }
 
-    pub none_from : (k : ℕ) (xs : List A) → (first_from test k xs).found ≡ false → NoneFrom test past k xs
+    pub none_from : (k : ℕ) (xs : List A) → (first_from test k xs).place ≡ None → NoneFrom test past k xs
     unfolding first_from
     none_from k [] e = record { is = rw (add-zero k); none = λ i below. absurd (omega arith) }
     none_from k (x ∷ xs) e =
-        by_test (test x) (λ passes. true-false refl (rw passes at e)) (λ fails. further fails (none_from (suc k) xs (rw fails at e)))
+        by_test (test x) (λ passes. absurd (none-some k (sym (rw passes at e)))) (λ fails. further fails (none_from (suc k) xs (rw fails at e)))
       where
         further : test x ≡ false → NoneFrom test past (suc k) xs → NoneFrom test past k (x ∷ xs)
         further fails f =
@@ -98,27 +100,28 @@ module _ {A : Type 0} (test : A → Bool) where
       by_first false e = omega arith
 
 -- the same of a whole list: where one was found, and where none was
-pub record FoundIn {A : Type 0} (test : A → Bool) (past : A) (xs : List A) (s : Search) : Type 0 where
-  pub within : s.place < length xs
-  pub passes : test (get_or xs s.place past) ≡ true
-  pub before : (i : ℕ) → i < s.place → test (get_or xs i past) ≡ false
-  pub compared : s.compared ≡ suc s.place
+pub record FoundIn {A : Type 0} (test : A → Bool) (past : A) (xs : List A) (place : ℕ) (s : Search) : Type 0 where
+  pub within : place < length xs
+  pub passes : test (get_or xs place past) ≡ true
+  pub before : (i : ℕ) → i < place → test (get_or xs i past) ≡ false
+  pub compared : s.compared ≡ suc place
 
 pub record NoneIn {A : Type 0} (test : A → Bool) (past : A) (xs : List A) (s : Search) : Type 0 where
   pub none : (i : ℕ) → i < length xs → test (get_or xs i past) ≡ false
-  pub place : s.place ≡ 0
   pub compared : s.compared ≡ length xs
 
 module _ {A : Type 0} (test : A → Bool) (past : A) (xs : List A) where
-  pub found_in : (first_from test 0 xs).found ≡ true → FoundIn test past xs (first_from test 0 xs)
-  found_in e =
+  pub found_in : {place : ℕ} → (first_from test 0 xs).place ≡ Some place → FoundIn test past xs place (first_from test 0 xs)
+  found_in {place} e =
       let f = found_from test past 0 xs e in
-      rw (f.is, zero-add f.at) (record { within = f.within; passes = f.passes; before = f.before; compared = refl })
+      let same = same_Some (0 + f.at) place (sym (ap (λ (s : Search). s.place) f.is) ∙ e) in
+      subst (λ (n : ℕ). FoundIn test past xs n (first_from test 0 xs)) (sym (zero-add f.at) ∙ same)
+      (rw (f.is, zero-add f.at) (record { within = f.within; passes = f.passes; before = f.before; compared = refl }))
 
-  pub none_in : (first_from test 0 xs).found ≡ false → NoneIn test past xs (first_from test 0 xs)
+  pub none_in : (first_from test 0 xs).place ≡ None → NoneIn test past xs (first_from test 0 xs)
   none_in e =
       let f = none_from test past 0 xs e in
-      rw (f.is, zero-add (length xs)) (record { none = f.none; place = refl; compared = refl })
+      rw (f.is, zero-add (length xs)) (record { none = f.none; compared = refl })
 
   pub compared_bound : (first_from test 0 xs).compared ≤ length xs
   compared_bound = omega (arith, first_bound test 0 xs)

@@ -1,7 +1,7 @@
 -- What goes into an operation over both collections, as it is lent. Document 01, "Sets and settings".
 use Rattle.std.specs.Prelude.{ℕ, List}
-use Rattle.lists.specs.Lent.{Lent, at_call}
-use Rattle.sets.specs.Collections.{Collection, sets_in}
+use Rattle.sets.specs.Collections.{Collection, lent_sets, sets_in}
+use Rattle.inputs.specs.declared.Input as declared
 
 -- the count of items and both collections
 pub record Input : Type 0 where
@@ -18,10 +18,9 @@ input_of T left_ends left_items right_ends right_items =
       right = record { ends = right_ends; items = right_items };
     }
 
--- the input that a call finds in the lists lent to it
-abbrev pub lent_input : ℕ → Lent → Lent → Lent → Lent → Input
-lent_input T left_ends left_items right_ends right_items =
-    input_of T (at_call left_ends) (at_call left_items) (at_call right_ends) (at_call right_items)
+-- the input that is lent
+abbrev pub lent_input : declared.Input → Input
+lent_input input = record { T = input.t; left = lent_sets input.left; right = lent_sets input.right }
 
 -- the sets of each side, by place
 abbrev pub left_sets : Input → List (List ℕ)

@@ -2,66 +2,29 @@
 // A line says the case, the answer's number with its detail (0 where it is accepted), and the rank list afterwards.
 #![tactic(auto)]
 
-use item_order_spec::OrderAnswer;
-use sets::Refusal;
+use case_lines::{show_number, show_numbers, show_refusal};
+use inputs::Input;
+use sets::{Refusal, Sets};
 
 const STDOUT_FILENO: i32 = 1;
 
-fn show_number(n: u64) {
-    io::write_all(STDOUT_FILENO, b" ");
-    io::print_decimal(STDOUT_FILENO, n);
-}
-
-fn show_ranks(ranks: &[u16]) {
-    for i in 0..ranks.len() {
-        show_number(ranks[i] as u64);
-    }
-}
-
 fn show_list(ranks: &[u16]) {
     io::write_all(STDOUT_FILENO, b" :");
-    show_ranks(ranks);
+    show_numbers(ranks);
     io::write_all(STDOUT_FILENO, b"\n");
 }
 
-// The number of a refusal and what returns with it: two numbers for a bad set, else one.
-fn show_refusal(why: Refusal) {
-    let head = sets::head_of(why);
-    show_number(head.number);
-    show_number(head.first);
-    if let Refusal::BadSet(_side, _place) = why {
-        show_number(head.second);
-    }
-}
-
-fn show_answer(answer: OrderAnswer) {
+fn show_answer(answer: Result<(), Refusal>) {
     match answer {
-        OrderAnswer::Ordered => show_number(0),
-        OrderAnswer::Refused(why) => show_refusal(why),
+        Ok(()) => show_number(0),
+        Err(why) => show_refusal(why),
     }
 }
 
 // One case: its name, the answer, and the rank list after it.
-fn run_case(
-    name: &[u8],
-    t: u32,
-    left_ends: &[u32],
-    left_items: &[u16],
-    right_ends: &[u32],
-    right_items: &[u16],
-    falling: bool,
-    ranks: &mut [u16],
-) {
+fn run_case(name: &[u8], input: &Input, falling: bool, ranks: &mut [u16]) {
     io::write_all(STDOUT_FILENO, name);
-    let answer = item_order::order(
-        t,
-        left_ends,
-        left_items,
-        right_ends,
-        right_items,
-        falling,
-        ranks,
-    );
+    let answer = item_order::order(input, falling, ranks);
     show_answer(answer);
     show_list(ranks);
 }
@@ -72,16 +35,18 @@ fn run_shelf(name: &[u8], t: u32, falling: bool, ranks: &mut [u16]) {
     let left_items = [0u16, 1, 1, 0, 2, 3];
     let right_ends = [3u32, 5, 8];
     let right_items = [0u16, 1, 2, 1, 3, 0, 2, 3];
-    run_case(
-        name,
+    let input = Input {
         t,
-        &left_ends,
-        &left_items,
-        &right_ends,
-        &right_items,
-        falling,
-        ranks,
-    );
+        left: Sets {
+            ends: &left_ends,
+            items: &left_items,
+        },
+        right: Sets {
+            ends: &right_ends,
+            items: &right_items,
+        },
+    };
+    run_case(name, &input, falling, ranks);
 }
 
 // An empty kit and two empty stacks; the item past the last end doesn't count.
@@ -90,16 +55,18 @@ fn run_empty(name: &[u8], t: u32, ranks: &mut [u16]) {
     let left_items = [1u16];
     let right_ends = [0u32, 0];
     let right_items = [0u16; 0];
-    run_case(
-        name,
+    let input = Input {
         t,
-        &left_ends,
-        &left_items,
-        &right_ends,
-        &right_items,
-        false,
-        ranks,
-    );
+        left: Sets {
+            ends: &left_ends,
+            items: &left_items,
+        },
+        right: Sets {
+            ends: &right_ends,
+            items: &right_items,
+        },
+    };
+    run_case(name, &input, false, ranks);
 }
 
 // Kits {0} and {1,1}, the second bad; a stack whose end is past its items.
@@ -108,16 +75,18 @@ fn run_bad_left(name: &[u8], t: u32, ranks: &mut [u16]) {
     let left_items = [0u16, 1, 1];
     let right_ends = [3u32];
     let right_items = [0u16, 2];
-    run_case(
-        name,
+    let input = Input {
         t,
-        &left_ends,
-        &left_items,
-        &right_ends,
-        &right_items,
-        false,
-        ranks,
-    );
+        left: Sets {
+            ends: &left_ends,
+            items: &left_items,
+        },
+        right: Sets {
+            ends: &right_ends,
+            items: &right_items,
+        },
+    };
+    run_case(name, &input, false, ranks);
 }
 
 // A good kit {0}; stacks {2} and {4}, where 4 is no item below 4.
@@ -126,16 +95,18 @@ fn run_bad_right(name: &[u8], t: u32, ranks: &mut [u16]) {
     let left_items = [0u16];
     let right_ends = [1u32, 2];
     let right_items = [2u16, 4];
-    run_case(
-        name,
+    let input = Input {
         t,
-        &left_ends,
-        &left_items,
-        &right_ends,
-        &right_items,
-        false,
-        ranks,
-    );
+        left: Sets {
+            ends: &left_ends,
+            items: &left_items,
+        },
+        right: Sets {
+            ends: &right_ends,
+            items: &right_items,
+        },
+    };
+    run_case(name, &input, false, ranks);
 }
 
 // Kit {299} alone, with more items than the small tables take: it is last by rising and first by falling frequency.
@@ -146,15 +117,18 @@ fn run_large(name: &[u8], falling: bool) {
     let right_items = [0u16; 0];
     let mut ranks = [0u16; 300];
     io::write_all(STDOUT_FILENO, name);
-    let answer = item_order::order(
-        300,
-        &left_ends,
-        &left_items,
-        &right_ends,
-        &right_items,
-        falling,
-        &mut ranks,
-    );
+    let input = Input {
+        t: 300,
+        left: Sets {
+            ends: &left_ends,
+            items: &left_items,
+        },
+        right: Sets {
+            ends: &right_ends,
+            items: &right_items,
+        },
+    };
+    let answer = item_order::order(&input, falling, &mut ranks);
     show_answer(answer);
     show_list(&ranks[297..300]);
 }

@@ -6,43 +6,40 @@ use Prim.Native.Nat.{ℕ}
 use borrow.Author.Tests.{eq-eqb, ne_eqb}
 use lib.Dec.{eqb, ltb}
 use lib.ListN.{length}
+use Rattle.std.specs.Prelude.{Result, Err, Ok, ⊤}
 use Rattle.sets.specs.Limits.{max_items}
 use Rattle.sets.specs.Refusals.{clears, refuse_if, unless}
 use Rattle.sets.specs.Lent.{after_refusal}
 use Rattle.sets.specs.declared.Refusal.{Refusal}
 use Rattle.sets.specs.declared.Refusal.TheVariants.{BadSettings}
-use Rattle.sets.specs.declared.Tested.{Tested}
-use Rattle.sets.specs.declared.Tested.TheVariants.{Passed, Failed}
 use Rattle.inputs.specs.Input.{Input, left_sets, right_sets}
 use Rattle.inputs.specs.Tests.{items_test, sets_test}
 use Rattle.sets.proofs.Testing.{failed_same}
 use Rattle.inputs.proofs.TestLaws.{sets-keep}
-use Rattle.item_order_spec.specs.declared.OrderAnswer.{OrderAnswer}
-use Rattle.item_order_spec.specs.declared.OrderAnswer.TheVariants.{Ordered, Refused}
 use Rattle.item_order_spec.specs.Order.{order_test, order_answer, order_ranks, ranks_after, rank_table, OrderCall}
 
 module _ (i : Input) (places : ℕ) where
   -- the case of each return
-  pub test_items : {why : Refusal} → items_test i.T ≡ Failed why → Failed why ≡ order_test i places
+  pub test_items : {why : Refusal} → items_test i.T ≡ Err why → Err why ≡ order_test i places
   unfolding order_test
   test_items failed = rw failed
 
-  module _ (few : items_test i.T ≡ Passed) where
-    pub test_length : (places ≡ i.T → ⊥) → Failed BadSettings ≡ order_test i places
+  module _ (few : items_test i.T ≡ Ok tt) where
+    pub test_length : (places ≡ i.T → ⊥) → Err BadSettings ≡ order_test i places
     unfolding order_test
     test_length other = rw (few, ne_eqb places i.T other)
 
-    pub test_sets : {r : Tested} → places ≡ i.T → r ≡ sets_test i → r ≡ order_test i places
+    pub test_sets : {r : Result ⊤ Refusal} → places ≡ i.T → r ≡ sets_test i → r ≡ order_test i places
     unfolding order_test
     test_sets long e = rw (few, eq-eqb places i.T long) e
 
   -- its refusals change nothing
-  test_keep : (why : Refusal) → order_test i places ≡ Failed why → clears why ≡ false
+  test_keep : (why : Refusal) → order_test i places ≡ Err why → clears why ≡ false
   unfolding order_test
   test_keep why e = go (ltb max_items i.T) (not (eqb places i.T)) e
     where
       go : (large other : Bool)
-          → unless Failed (refuse_if large BadSettings) (unless Failed (refuse_if other BadSettings) (sets_test i)) ≡ Failed why
+          → unless Err (refuse_if large BadSettings) (unless Err (refuse_if other BadSettings) (sets_test i)) ≡ Err why
           → clears why ≡ false
       go true other e = ap clears (sym (failed_same BadSettings why e))
       go false true e = ap clears (sym (failed_same BadSettings why e))
@@ -54,24 +51,24 @@ module _ (i : Input) (falling : Bool) (ranks : List ℕ) where
   kept_after why keeps = rw keeps
 
   -- the rank list by the answer
-  ranks_by : (answer : OrderAnswer) → order_answer i (length ranks) ≡ answer
+  ranks_by : (answer : Result ⊤ Refusal) → order_answer i (length ranks) ≡ answer
       → order_ranks i falling ranks ≡ ranks_after answer (rank_table falling i.T (left_sets i) (right_sets i)) ranks
   unfolding order_ranks
   ranks_by answer e =
-      ap (λ (a : OrderAnswer). ranks_after a (rank_table falling i.T (left_sets i) (right_sets i)) ranks) e
+      ap (λ (a : Result ⊤ Refusal). ranks_after a (rank_table falling i.T (left_sets i) (right_sets i)) ranks) e
 
-  pub call_refused : (why : Refusal) → order_test i (length ranks) ≡ Failed why → OrderCall i falling ranks ranks (Refused why)
+  pub call_refused : (why : Refusal) → order_test i (length ranks) ≡ Err why → OrderCall i falling ranks ranks (Err why)
   unfolding order_answer
   call_refused why failed =
-      let answer : order_answer i (length ranks) ≡ Refused why = rw failed in
+      let answer : order_answer i (length ranks) ≡ Err why = rw failed in
       record {
         answered = sym answer;
-        ranks = kept_after why (test_keep i (length ranks) why failed) ∙ sym (ranks_by (Refused why) answer);
+        ranks = kept_after why (test_keep i (length ranks) why failed) ∙ sym (ranks_by (Err why) answer);
       }
 
-  pub call_ordered : (ranks' : List ℕ) → order_test i (length ranks) ≡ Passed
-      → ranks' ≡ rank_table falling i.T (left_sets i) (right_sets i) → OrderCall i falling ranks ranks' Ordered
+  pub call_ordered : (ranks' : List ℕ) → order_test i (length ranks) ≡ Ok tt
+      → ranks' ≡ rank_table falling i.T (left_sets i) (right_sets i) → OrderCall i falling ranks ranks' (Ok tt)
   unfolding order_answer
   call_ordered ranks' passed e =
-      let answer : order_answer i (length ranks) ≡ Ordered = rw passed in
-      record { answered = sym answer; ranks = e ∙ sym (ranks_by Ordered answer) }
+      let answer : order_answer i (length ranks) ≡ Ok tt = rw passed in
+      record { answered = sym answer; ranks = e ∙ sym (ranks_by (Ok tt) answer) }

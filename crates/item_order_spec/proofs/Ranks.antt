@@ -8,18 +8,18 @@ use native.Mathlib.Omega.{arith}
 use borrow.Author.Tests.{lt-ltb, eq-eqb}
 use lib.Dec.{ltb}
 use lib.ListN.{length, get_or}
+use Rattle.std.specs.Prelude.{Result, Ok, ⊤}
 use Rattle.lists.specs.Lists.{count, memb, upto}
 use Rattle.lists.proofs.Counting.{count_same, count_bound}
 use Rattle.lists.proofs.Ranges.{length_table, get_d_table}
 use Rattle.lists.proofs.CountingSort.{key_before, rank_below, rank_less, rank_apart}
 use Rattle.sets.specs.Ordered.{is_permutation}
 use Rattle.inputs.specs.Input.{Input, left_sets, right_sets}
-use Rattle.item_order_spec.specs.declared.OrderAnswer.{OrderAnswer}
-use Rattle.item_order_spec.specs.declared.OrderAnswer.TheVariants.{Ordered}
 use Rattle.sets.proofs.Permutation.{permutation_make}
 use Rattle.item_order_spec.specs.Order.{frequency, comes_before, rank_of, rank_table, order_ranks, ranks_after, OrderCall}
 use Rattle.item_order_spec.specs.Keys.{sort_key}
 use Rattle.item_order_spec.proofs.Keys.{key_before_lem}
+use Rattle.sets.specs.declared.Refusal.{Refusal}
 
 module _ (falling : Bool) (T : ℕ) (left right : List (List ℕ)) where
   -- the rank of an item is its rank by key
@@ -86,11 +86,11 @@ module _ (T : ℕ) (left right : List (List ℕ)) (i j : ℕ) (here : i < T) (th
       (rw (eq-eqb a b same, lt-ltb j i less) (or-true (cond falling (ltb b a) (ltb a b))))
 
 -- so an accepted order gives a rank table that the join accepts
-pub order_permutation : {i : Input} {falling : Bool} {before after : List ℕ} → OrderCall i falling before after Ordered
+pub order_permutation : {i : Input} {falling : Bool} {before after : List ℕ} → OrderCall i falling before after (Ok tt)
     → is_permutation i.T after ≡ true
 unfolding order_ranks
 order_permutation {i} {falling} {before} {after} call =
     subst (λ (l : List ℕ). is_permutation i.T l ≡ true)
-    (ap (λ (a : OrderAnswer). ranks_after a (rank_table falling i.T (left_sets i) (right_sets i)) before) call.answered
+    (ap (λ (a : Result ⊤ Refusal). ranks_after a (rank_table falling i.T (left_sets i) (right_sets i)) before) call.answered
     ∙ sym call.ranks)
     (ranks_permutation falling i.T (left_sets i) (right_sets i))

@@ -2,25 +2,18 @@
 // need no code. The code that meets it is in `item_order`.
 #![tactic(auto)]
 
-use sets::{Refusal, head_of};
-
-// What the order of items answers.
-#[derive(Clone, Copy)]
-pub enum OrderAnswer {
-    Ordered,
-    Refused(Refusal),
-}
-
 ghost use Rattle.std.specs.Prelude.{◌≡◌};
 ghost use Rattle.item_order_spec.specs.Order.{order_words};
 
+use sets::{Refusal, head_of};
+
 // The words of the answer at the C boundary.
-pub fn order_words(answer: OrderAnswer) -> [u64; 3]
+pub fn order_words(answer: Result<(), Refusal>) -> [u64; 3]
     ensures { result ≡ order_words answer }
 {
     match answer {
-        OrderAnswer::Ordered => [0, 0, 0],
-        OrderAnswer::Refused(why) => {
+        Ok(()) => [0, 0, 0],
+        Err(why) => {
             let head = head_of(why);
             [head.number, head.first, head.second]
         }

@@ -3,12 +3,13 @@ use Rattle.std.specs.Prelude.{ℕ, List, Bool, false, leb, length}
 use Rattle.inputs.specs.Input.{Input}
 use Rattle.join_spec.specs.declared.Rule.{Rule}
 use Rattle.join_spec.specs.declared.Rule.TheVariants.{Merge, Check, Weighed}
+use Rattle.join_spec.specs.Query.{Settings}
 use Rattle.join_spec.proofs.Accepted.{Tests}
 use Rattle.merge_rows.specs.Merging.{words_for}
 
 -- with the work list that is lent
-abbrev pub Accepted : Input → ℕ → List ℕ → List ℕ → Type 0
-Accepted i limit ranks work = Tests i limit ranks (length work)
+abbrev pub Accepted : Input → Settings → List ℕ → Type 0
+Accepted i s work = Tests i s.limit s.ranks (length work)
 
 -- under Merge, where the rows of so many items and sets fit so many words
 abbrev pub takes_rows : Rule → ℕ → ℕ → ℕ → ℕ → Bool

@@ -9,8 +9,8 @@ ghost use Rattle.join.specs.output.Output.{AnswerRoom};
 
 use join_index::Layout;
 use join_pairs::write_pairs;
-use join_spec::JoinAnswer;
-use lists::zero_u16;
+use join_spec::Counts;
+use sets::Refusal;
 
 // Writes the pair list of a join that answers with counts, and zeros after a refusal.
 pub fn write_answer(
@@ -18,7 +18,7 @@ pub fn write_answer(
     flags: &mut [u8],
     lay: Layout,
     lefts: usize,
-    answer: JoinAnswer,
+    answer: Result<Counts, Refusal>,
     pairs: &mut [u16],
 )
     requires some_query { SomeQuery (λ q. AnswerRoom lay q work.old lefts answer pairs.old) }
@@ -27,7 +27,7 @@ pub fn write_answer(
         → pairs.new ≡ pairs_after answer (pair_list q.lefts q.rights) pairs.old }
 {
     match answer {
-        JoinAnswer::Joined(_) => write_pairs(work, flags, lay, lefts, pairs),
-        JoinAnswer::Refused(_) => zero_u16(pairs),
+        Ok(_) => write_pairs(work, flags, lay, lefts, pairs),
+        Err(_) => pairs.fill(0),
     }
 }

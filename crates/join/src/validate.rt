@@ -5,8 +5,9 @@ ghost use Rattle.sets.specs.declared.Refusal.TheVariants.{BadSettings};
 ghost use Rattle.inputs.specs.Input.{lent_input};
 ghost use Rattle.join_spec.specs.Answer.{bad_settings, join_tests};
 
-use inputs::{test_sets, test_work};
-use sets::{MAX_ITEMS, MAX_LIMIT, Refusal, Tested};
+use inputs::{Input, test_sets, test_work};
+use join_spec::Settings;
+use sets::{MAX_ITEMS, MAX_LIMIT, Refusal};
 use validation::permutations::is_permutation;
 
 // Whether T, a limit or a rank table is refused.
@@ -26,35 +27,22 @@ fn bad_settings(t: u32, limit: u32, ranks: &[u16]) -> bool
 }
 
 // The tests before the walk, in the table's order.
-pub fn test_join(
-    t: u32,
-    left_ends: &[u32],
-    left_items: &[u16],
-    right_ends: &[u32],
-    right_items: &[u16],
-    limit: u32,
-    ranks: &[u16],
-    words: usize,
-) -> Tested
-    ensures { result ≡ join_tests (lent_input t left_ends left_items right_ends right_items) limit
-        ranks.now words }
+pub fn test_join(input: &Input, settings: &Settings, words: usize) -> Result<(), Refusal>
+    ensures { result ≡ join_tests (lent_input input.now) settings.now.limit settings.now.ranks.now words }
 {
-    if bad_settings(t, limit, ranks) {
-        return Tested::Failed(Refusal::BadSettings);
+    if bad_settings(input.t, settings.limit, settings.ranks) {
+        return Err(Refusal::BadSettings);
     }
-    let sets = test_sets(t, left_ends, left_items, right_ends, right_items);
-    match sets {
-        Tested::Failed(why) => Tested::Failed(why),
-        Tested::Passed => test_work(t, left_ends, left_items, right_ends, right_items, words),
-    }
+    test_sets(input)?;
+    test_work(input, words)
 }
 
 // The test of a rule's number: one above 2 is a bad setting.
-pub fn test_rule(number: u32) -> Tested
+pub fn test_rule(number: u32) -> Result<(), Refusal>
     ensures { result ≡ refuse_if (ltb 2 number) BadSettings }
 {
     if 2 < number {
-        return Tested::Failed(Refusal::BadSettings);
+        return Err(Refusal::BadSettings);
     }
-    Tested::Passed
+    Ok(())
 }

@@ -28,11 +28,9 @@ pub fn check_range(
 {
     let order = lay.left_order;
     let mut r = tally;
-    let mut i = lo;
-    while i < hi {
+    for i in lo..hi {
         let k = word_at(work, order + i);
         r = check_row(work, lay, k, e, from, to, r);
-        i += 1;
     }
     r
 }

@@ -12,7 +12,7 @@ ghost use Rattle.join_spec.specs.Node.{seen};
 ghost use Rattle.join_check.specs.keys.Borders.{RangeFound};
 
 use join_index::Layout;
-use words::{number, word_at};
+use words::word_at;
 
 // Whether a right set holds the rank r.
 pub fn is_held(work: &[u32], lay: Layout, r: usize) -> bool
@@ -46,15 +46,13 @@ pub fn range_end(work: &[u32], lay: Layout, d: usize, i: usize, hi: usize) -> us
     let order = lay.left_order;
     let first = word_at(work, order + i);
     let key = key_at(work, lay, first, d);
-    let mut j = i + 1;
-    while j < hi {
+    for j in i + 1..hi {
         let k = word_at(work, order + j);
         if key_at(work, lay, k, d) != key {
             return j;
         }
-        j += 1;
     }
-    j
+    hi
 }
 
 // Whether the right set s is seen.
@@ -80,11 +78,9 @@ pub fn count_seen(work: &[u32], lay: Layout, from: usize, to: usize, r: usize) -
         → result ≡ count (λ s. seen r (right_at q s)) (slice from to work.now) }
 {
     let mut n: usize = 0;
-    let mut i = from;
-    while i < to {
+    for i in from..to {
         let s = word_at(work, i);
-        n += number(is_seen(work, lay, s, r));
-        i += 1;
+        n += usize::from(is_seen(work, lay, s, r));
     }
     n
 }

@@ -53,10 +53,7 @@ pub enum Checked {
 // Whether a left set with so many ranks is compared from the lowest up, after its first e. A right set that is known to hold the first
 // ranks, which fewest hold, mostly holds the next too; then the highest tell sooner.
 fn is_upward(e: usize, ranks: usize) -> bool {
-    if e == 0 {
-        return MANY_RANKS <= ranks;
-    }
-    false
+    e == 0 && MANY_RANKS <= ranks
 }
 
 // What remains of the left set k after its first e ranks; no rank if it has fewer.
@@ -157,11 +154,9 @@ pub fn check_row(
 {
     let p = probe_left(work, lay, k, e);
     let mut r = tally;
-    let mut i = from;
-    while i < to {
+    for i in from..to {
         let s = word_at(work, i);
         r = check_one(work, lay, p, s, r);
-        i += 1;
     }
     r
 }

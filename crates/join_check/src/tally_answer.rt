@@ -4,22 +4,22 @@ ghost use Rattle.std.specs.Prelude.{◌≡◌};
 ghost use Rattle.join_check.specs.tally_answer.Answering.{SumsFit, tally_answer};
 
 use crate::Tally;
-use join_spec::{Counts, JoinAnswer};
+use join_spec::Counts;
 use sets::Refusal;
 
-// The answer of a walk that was spent or has these counters, with so many places in the pair list.
-pub fn answer_tally(spent: bool, tally: Tally, places: usize) -> JoinAnswer
-    requires { SumsFit spent tally }
-    ensures { result ≡ tally_answer spent tally places }
+// The answer of a walk that has these counters, or none where it was spent, with so many places in the pair list.
+pub fn answer_tally(made: Option<Tally>, places: usize) -> Result<Counts, Refusal>
+    requires { SumsFit made }
+    ensures { result ≡ tally_answer made places }
 {
-    if spent {
-        return JoinAnswer::Refused(Refusal::Spent);
-    }
+    let Some(tally) = made else {
+        return Err(Refusal::Spent);
+    };
     let count = tally.by_path + tally.confirmed;
     if places < 2 * (count as usize) {
-        return JoinAnswer::Refused(Refusal::ShortPairs);
+        return Err(Refusal::ShortPairs);
     }
-    JoinAnswer::Joined(Counts {
+    Ok(Counts {
         pairs: count,
         by_path: tally.by_path,
         confirmed: tally.confirmed,

@@ -1,21 +1,11 @@
 // Where the regions of a join's index lie in the work list, one above the other, by the sizes of its input.
 
-ghost use Rattle.join_index.specs.regions.Regions.{LaidOut, PlacedWords, Sizes};
+ghost use Rattle.join_index.specs.regions.Regions.{LaidOut, Sizes};
 
 use crate::Layout;
 
-// The most words of a list whose places all fit a word.
-fn placed_words(words: usize) -> usize
-    ensures { PlacedWords words result }
-{
-    let most = 4294967295;
-    if most < words {
-        return most;
-    }
-    words
-}
-
-// Where the regions lie, for t items, the sets and item entries of both sides, and the words of the work list.
+// Where the regions lie, for t items, the sets and item entries of both sides, and the words of the work list. The rows end where the
+// places no longer fit a word.
 pub fn lay_out(
     t: usize,
     lefts: usize,
@@ -41,7 +31,7 @@ pub fn lay_out(
     let row_starts = slots + right_entries;
     let row_ends = row_starts + lefts;
     let rows = row_ends + lefts;
-    let end = placed_words(words);
+    let end = words.min(u32::MAX as usize);
     Layout {
         offsets: 0,
         index: index,

@@ -8,6 +8,7 @@ use native.Mathlib.Omega.{arith}
 use borrow.Author.Tests.{lt-ltb}
 use lib.Dec.{ltb}
 use lib.ListN.{length, get_or, take}
+use Rattle.std.specs.Prelude.{Ok}
 use Rattle.lists.specs.Lists.{count, keep, prefix}
 use Rattle.lists.proofs.Counting.{count_none, count_same, count_map}
 use Rattle.lists.proofs.Filtering.{count-keep, sum-keep}
@@ -17,7 +18,6 @@ use Rattle.sets.proofs.Ordered.{ordered_nil}
 use Rattle.sets.proofs.Containment.{contained_none}
 use Rattle.inputs.specs.Input.{Input, left_sets, right_sets}
 use Rattle.join_spec.specs.declared.Counts.{Counts}
-use Rattle.join_spec.specs.declared.JoinAnswer.TheVariants.{Joined}
 use Rattle.join_spec.specs.PairList.{count_pairs, pair_count}
 use Rattle.join_spec.specs.Query.{Settings, Query, query_of, in_order}
 use Rattle.join_spec.specs.Node.{goes_on, goes_on_at, candidates, holders, beginning}
@@ -128,7 +128,7 @@ counts_without q =
 
 -- over what `run` promises of a call
 module _ (i : Input) (s : Settings) {counts : Counts} {work before work' after : List ℕ}
-    (call : RunCall i s work before work' after (Joined counts)) where
+    (call : RunCall i s work before work' after (Ok counts)) where
   -- an empty left set is in no pair
   pub empty_unpaired : (l r : ℕ) → get_or (left_sets i) l [] ≡ [] → pair_occurs l r (take (2 * counts.pairs) after) ≡ 0
   empty_unpaired l r empty =

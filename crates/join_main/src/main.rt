@@ -7,10 +7,12 @@
 // - the two lists.
 #![tactic(auto)]
 
-ghost use Rattle.std.specs.Prelude.{◌≤◌, length};
+ghost use Rattle.std.specs.Prelude.{◌≤◌};
 
-use join_spec::{Counts, JoinAnswer, Rule, Weights};
-use sets::Refusal;
+use case_lines::{show_number, show_numbers, show_refusal};
+use inputs::Input;
+use join_spec::{Counts, Rule, Settings, Weights};
+use sets::{Refusal, Sets};
 
 const STDIN_FILENO: i32 = 0;
 
@@ -29,62 +31,34 @@ const WORDS: usize = 4240;
 
 const PLACES: usize = 10;
 
-fn show_number(n: u64) {
-    io::write_all(STDOUT_FILENO, b" ");
-    io::print_decimal(STDOUT_FILENO, n);
-}
-
-fn show_pair(a: u64, b: u64) {
-    show_number(a);
-    show_number(b);
-}
-
-// The number of a refusal and what returns with it: two numbers for a bad set, else one.
-fn show_refusal(why: Refusal) {
-    let head = sets::head_of(why);
-    show_pair(head.number, head.first);
-    if let Refusal::BadSet(_side, _place) = why {
-        show_number(head.second);
-    }
-}
-
 fn show_counts(counts: Counts) {
-    show_pair(counts.pairs as u64, counts.by_path as u64);
-    show_pair(counts.confirmed as u64, counts.checks as u64);
-    show_pair(counts.dropped as u64, counts.false_drops as u64);
+    show_number(u64::from(counts.pairs));
+    show_number(u64::from(counts.by_path));
+    show_number(u64::from(counts.confirmed));
+    show_number(u64::from(counts.checks));
+    show_number(u64::from(counts.dropped));
+    show_number(u64::from(counts.false_drops));
 }
 
-fn show_answer(answer: JoinAnswer) {
+fn show_answer(answer: Result<Counts, Refusal>) {
     match answer {
-        JoinAnswer::Joined(counts) => {
+        Ok(counts) => {
             io::write_all(STDOUT_FILENO, b" 0 0 counts");
             show_counts(counts);
         }
-        JoinAnswer::Refused(why) => show_refusal(why),
-    }
-}
-
-fn wide(x: u16) -> u64 {
-    x as u64
-}
-
-fn show_list(pairs: &[u16]) {
-    for i in 0..pairs.len() {
-        show_number(wide(pairs[i]));
+        Err(why) => show_refusal(why),
     }
 }
 
 // A weight by its code.
 fn weight(code: u32) -> f64 {
-    let big: f64 = 1.0e300;
-    let infinite = big * big;
     match code {
         0 => 0.0,
         1 => 1.0,
         2 => 1.5,
-        3 => infinite,
-        4 => -infinite,
-        5 => infinite - infinite,
+        3 => f64::INFINITY,
+        4 => f64::NEG_INFINITY,
+        5 => f64::NAN,
         6 => 9007199254740992.0,
         _ => 9007199254740994.0,
     }
@@ -92,18 +66,16 @@ fn weight(code: u32) -> f64 {
 
 // A rule by its number, with the codes of its weights.
 fn rule_of(rule: u32, a: u32, b: u32, g: u32, h: u32) -> Rule {
-    if rule == 0 {
-        return Rule::Merge;
+    match rule {
+        0 => Rule::Merge,
+        1 => Rule::Check,
+        _ => Rule::Weighed(Weights {
+            a: weight(a),
+            b: weight(b),
+            g: weight(g),
+            h: weight(h),
+        }),
     }
-    if rule == 1 {
-        return Rule::Check;
-    }
-    Rule::Weighed(Weights {
-        a: weight(a),
-        b: weight(b),
-        g: weight(g),
-        h: weight(h),
-    })
 }
 
 // The numbers before a case's bounds.
@@ -132,67 +104,31 @@ fn read_setting(h: &[u32; NUMBERS]) -> Setting {
 fn at_most(n: u32, most: usize) -> usize
     ensures { result ≤ most }
 {
-    let m = n as usize;
-    if most < m {
-        return most;
-    }
-    m
+    most.min(n as usize)
 }
 
 // A case over its lists.
-fn run_into(
-    set: Setting,
-    left_ends: &[u32],
-    left_items: &[u16],
-    right_ends: &[u32],
-    right_items: &[u16],
-    ranks: &[u16],
-    work: &mut [u32],
-    pairs: &mut [u16],
-) {
-    let rule = set.rule;
-    let answer = join::run(
-        set.t,
-        left_ends,
-        left_items,
-        right_ends,
-        right_items,
-        set.limit,
+fn run_into(set: Setting, input: &Input, ranks: &[u16], work: &mut [u32], pairs: &mut [u16]) {
+    let settings = Settings {
+        limit: set.limit,
         ranks,
-        set.budget,
-        rule,
-        work,
-        pairs,
-    );
+        budget: set.budget,
+        rule: set.rule,
+    };
+    let answer = join::run(input, &settings, work, pairs);
     show_answer(answer);
     io::write_all(STDOUT_FILENO, b" list");
-    show_list(pairs);
+    show_numbers(pairs);
     io::write_all(STDOUT_FILENO, b"\n");
 }
 
 // A case with the work list and the pair list of its lengths.
-fn run_case(
-    set: Setting,
-    left_ends: &[u32],
-    left_items: &[u16],
-    right_ends: &[u32],
-    right_items: &[u16],
-    ranks: &[u16],
-) {
+fn run_case(set: Setting, input: &Input, ranks: &[u16]) {
     let words = at_most(set.words, WORDS);
     let places = at_most(set.places, PLACES);
     let mut work = [9u32; WORDS];
     let mut pairs = [9u16; PLACES];
-    run_into(
-        set,
-        left_ends,
-        left_items,
-        right_ends,
-        right_items,
-        ranks,
-        &mut work[..words],
-        &mut pairs[..places],
-    );
+    run_into(set, input, ranks, &mut work[..words], &mut pairs[..places]);
 }
 
 // A case by its fifteen numbers, the parts of the two lists being those that its bounds say.
@@ -203,14 +139,20 @@ fn run_parts(h: &[u32; NUMBERS], ends: &[u32], halves: &[u16]) {
     let rank_end = at_most(h[14], halves.len());
     let right_stop = at_most(h[13], rank_end);
     let left_stop = at_most(h[12], right_stop);
-    run_case(
-        set,
-        &ends[..left_end],
-        &halves[..left_stop],
-        &ends[left_end..right_end],
-        &halves[left_stop..right_stop],
-        &halves[right_stop..rank_end],
-    );
+    let left = Sets {
+        ends: &ends[..left_end],
+        items: &halves[..left_stop],
+    };
+    let right = Sets {
+        ends: &ends[left_end..right_end],
+        items: &halves[left_stop..right_stop],
+    };
+    let input = Input {
+        t: set.t,
+        left,
+        right,
+    };
+    run_case(set, &input, &halves[right_stop..rank_end]);
 }
 
 // A number of the table and the place after the byte that follows it.
@@ -220,17 +162,10 @@ struct Step {
     next: usize,
 }
 
-fn byte_number(b: u8) -> u64
-    ensures { result ≤ 255 }
-{
-    b as u64
-}
-
 fn read_number(text: &[u8], at: usize) -> Step {
-    let mut i = at;
     let mut v: u64 = 0;
-    while i < text.len() {
-        let b = byte_number(text[i]);
+    for i in at..text.len() {
+        let b = u64::from(text[i]);
         if b < 48 {
             return Step {
                 value: v as u32,
@@ -238,67 +173,53 @@ fn read_number(text: &[u8], at: usize) -> Step {
             };
         }
         v = (v * 10 + (b - 48)) % 4294967296;
-        i += 1;
     }
     Step {
         value: v as u32,
-        next: i,
+        next: text.len(),
     }
 }
 
-// Reads so many numbers; the place after them.
-fn read_words(text: &[u8], at: usize, count: usize, out: &mut [u32]) -> usize
-    requires { count ≤ length out.old }
+// Reads a number into each place of a list, converted; the place after them.
+fn read_list<T: Drop, F: Fn(u32) -> T>(text: &[u8], at: usize, out: &mut [T], convert: F) -> usize
+    requires { F.IsAlwaysCallable convert }
 {
     let mut p = at;
-    let mut i: usize = 0;
-    while i < count {
+    for place in out {
         let step = read_number(text, p);
-        out[i] = step.value;
+        *place = convert(step.value);
         p = step.next;
-        i += 1;
-    }
-    p
-}
-
-fn read_halves(text: &[u8], at: usize, count: usize, out: &mut [u16]) -> usize
-    requires { count ≤ length out.old }
-{
-    let mut p = at;
-    let mut i: usize = 0;
-    while i < count {
-        let step = read_number(text, p);
-        out[i] = (step.value % 65536) as u16;
-        p = step.next;
-        i += 1;
     }
     p
 }
 
 // Writes a name, and returns the place after its colon.
 fn show_name(text: &[u8], at: usize) -> usize {
-    let mut i = at;
-    while i < text.len() {
+    for i in at..text.len() {
         let b = text[i];
         if b == b':' {
             return i + 1;
         }
         let one = [b];
         io::write_all(STDOUT_FILENO, &one);
-        i += 1;
     }
-    i
+    text.len()
 }
 
 // The case of the line that begins at a place; the place of the next.
 fn run_line(text: &[u8], at: usize) -> usize {
     let start = show_name(text, at);
     let mut h = [0u32; NUMBERS];
-    let lists = read_words(text, start, NUMBERS, &mut h);
+    let lists = read_list(text, start, &mut h, |n| n);
     let mut ends = [0u32; ENDS];
-    let items = read_words(text, lists, at_most(h[11], ENDS), &mut ends);
+    let items = read_list(text, lists, &mut ends[..at_most(h[11], ENDS)], |n| n);
     let mut halves = [0u16; HALVES];
-    let next = read_halves(text, items, at_most(h[14], HALVES), &mut halves);
+    let next = read_list(
+        text,
+        items,
+        &mut halves[..at_most(h[14], HALVES)],
+        |n| (n % 65536) as u16,
+    );
     run_parts(&h, &ends, &halves);
     next
 }
@@ -307,10 +228,8 @@ fn run_lines(text: &[u8]) {
     let first = read_number(text, 0);
     let lines = at_most(first.value, LINES);
     let mut at = first.next;
-    let mut i: usize = 0;
-    while i < lines {
+    for _ in 0..lines {
         at = run_line(text, at);
-        i += 1;
     }
 }
 

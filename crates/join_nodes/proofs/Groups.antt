@@ -2,7 +2,7 @@
 use Prim.Native.Nat.{ℕ, zero, suc, ◌+◌, ◌-◌, ◌≤◌, ◌<◌}
 use mathlib.Core.Path.{◌≡◌, refl, sym, ap, ap₂, subst, ◌∙◌}
 use mathlib.Core.List.{List, [], ◌∷◌, ◌++◌, nil≢cons, head-eq_of_cons-eq}
-use mathlib.Core.Bool.{Bool, true, false, ◌&&◌, ◌||◌, and_comm, and-or_distrib_right}
+use mathlib.Core.Bool.{Bool, true, false, ◌&&◌, ◌||◌, and-or_distrib_right}
 use native.Mathlib.Omega.{arith}
 use borrow.Author.Tests.{eqb-true, eqb-false, le-leb, leb-true, lt-ltb, ltb-true}
 use lib.Dec.{eqb, leb, ltb}
@@ -10,7 +10,7 @@ use Rattle.lists.specs.Lists.{count, keep, all}
 use Rattle.lists.proofs.Bools.{by_test, and_left, and_right, and_both, same_test, refuted}
 use Rattle.lists.proofs.Throughout.{all_append, all_weaken}
 use Rattle.lists.proofs.Counting.{count_same, count_append, count_none, count_or}
-use Rattle.lists.proofs.Filtering.{keep_append, keep_same, keep-keep, count-keep, all_kept}
+use Rattle.lists.proofs.Filtering.{count-keep, all_kept}
 use Rattle.counting_sort.specs.Groups.{groups_from}
 
 -- what all have the first has

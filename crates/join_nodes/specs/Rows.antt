@@ -1,6 +1,6 @@
 -- Inner: what one left set adds to the counts from a depth on: one row of the sums over left and right sets. And what the left sets
 -- add that end at a node.
-use Rattle.std.specs.Prelude.{ℕ, ◌-◌, ◌*◌, List, [], Bool, cond, length, get_or}
+use Rattle.std.specs.Prelude.{ℕ, ◌-◌, ◌*◌, [], Bool, cond, length, get_or}
 use Rattle.lists.specs.Lists.{count, upto}
 use Rattle.join_spec.specs.Query.{Query}
 use Rattle.join_spec.specs.Walk.{Outcome, by_path, ending_from, check, goes, outcome_after}

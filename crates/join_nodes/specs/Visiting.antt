@@ -1,6 +1,6 @@
 -- Inner: what is known at a node when it is visited, and what a visit answers: the counters with the rows of its left sets added, and
 -- the kept rows; or that the checks would exceed the budget.
-use Rattle.std.specs.Prelude.{ℕ, suc, ◌+◌, ◌-◌, ◌*◌, ◌≤◌, ◌<◌, ◌≡◌, List, true, false, length, take}
+use Rattle.std.specs.Prelude.{ℕ, suc, ◌+◌, ◌-◌, ◌*◌, ◌≤◌, ◌<◌, ◌≡◌, List, true, length, take, Option, Some, None}
 use Rattle.lists.specs.Lists.{keep, prefix, sum, slice}
 use Rattle.sets.specs.Limits.{max_limit, max_pairs}
 use Rattle.join_spec.specs.Query.{Query}
@@ -18,7 +18,6 @@ use Rattle.join_nodes.specs.Rows.{row, path_pairs}
 use Rattle.join_nodes.specs.Narrowing.{Candidates, candidate_list, slot_of}
 use Rattle.join_nodes.specs.declared.Progress.{Progress}
 use Rattle.join_nodes.specs.declared.WalkSettings.{WalkSettings}
-use Rattle.join_nodes.specs.declared.Walked.{Walked}
 
 -- the settings are the query's, the checks so far are within the budget, and there is room to count n more left sets
 pub record Underway (st : WalkSettings) (q : Query) (tally : Tally) (n : ℕ) : Type 0 where
@@ -92,10 +91,10 @@ pub record Merged (m c : ℕ) (tally r : Tally) : Type 0 where
   pub tallied : Tallied (path_pairs m c) tally r
 
 -- the answer of a visit of these left sets: all their rows were added within the budget, or their checks exceed it
-pub record Visited (q : Query) (budget d : ℕ) (lefts : List ℕ) (tally : Tally) (r : Walked) : Type 0 where
-  pub added : r.spent ≡ false → Added q d lefts tally r.at.tally
-  pub within : r.spent ≡ false → checks_in r.at.tally ≤ budget
-  pub beyond : r.spent ≡ true → budget < checks_in tally + sum (row is_check q d) lefts
+pub record Visited (q : Query) (budget d : ℕ) (lefts : List ℕ) (tally : Tally) (r : Option Progress) : Type 0 where
+  pub added : (at : Progress) → r ≡ Some at → Added q d lefts tally at.tally
+  pub within : (at : Progress) → r ≡ Some at → checks_in at.tally ≤ budget
+  pub beyond : r ≡ None → budget < checks_in tally + sum (row is_check q d) lefts
 
 -- w became w': only words from a slot on may differ
 pub record Framed (slot : ℕ) (w w' : List ℕ) : Type 0 where
@@ -105,16 +104,18 @@ pub record Framed (slot : ℕ) (w w' : List ℕ) : Type 0 where
 -- the left sets in left_order[lo..hi] were visited at depth d: only words from a slot on changed, their rows were added, and the kept
 -- rows end at the new top
 pub record RangeVisited (lay : Layout) (q : Query) (budget slot d : ℕ) (w w' : List ℕ) (lo hi : ℕ) (tally : Tally)
-    (r : Walked) : Type 0 where
+    (r : Option Progress) : Type 0 where
   pub framed : Framed slot w w'
   pub visited : Visited q budget d (lefts_in lay w lo hi) tally r
-  pub rows : r.spent ≡ false → RowsKept lay q w' r.at.top
+  pub rows : (at : Progress) → r ≡ Some at → RowsKept lay q w' at.top
 
 -- a node was visited: only slots of its last rank and beyond changed
-abbrev pub NodeVisited : Layout → WalkSettings → Query → List ℕ → List ℕ → List ℕ → ℕ → ℕ → ℕ → Tally → Walked → Type 0
+abbrev pub NodeVisited : Layout → WalkSettings → Query → List ℕ → List ℕ → List ℕ → ℕ → ℕ → ℕ → Tally → Option Progress
+    → Type 0
 NodeVisited lay st q path w w' d lo hi tally r = RangeVisited lay q st.budget (slot_of lay w (last_of path)) d w w' lo hi tally r
 
 -- the children of a node were visited: only slots beyond its last rank changed
-abbrev pub ChildrenVisited : Layout → WalkSettings → Query → List ℕ → List ℕ → List ℕ → ℕ → ℕ → ℕ → Tally → Walked → Type 0
+abbrev pub ChildrenVisited : Layout → WalkSettings → Query → List ℕ → List ℕ → List ℕ → ℕ → ℕ → ℕ → Tally → Option Progress
+    → Type 0
 ChildrenVisited lay st q path w w' d lo hi tally r =
     RangeVisited lay q st.budget (slot_of lay w (suc (last_of path))) (suc d) w w' lo hi tally r

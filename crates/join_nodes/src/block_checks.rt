@@ -5,7 +5,7 @@ ghost use Rattle.join_check.specs.Checks.{RangesThere};
 ghost use Rattle.join_check.specs.Counters.{checks_in};
 ghost use Rattle.join_nodes.specs.block_checks.BlockChecks.{Covered, Small, Blocked};
 
-use crate::{Progress, WalkSettings, Walked};
+use crate::{Progress, Scope, WalkSettings};
 use join_check::Tally;
 use join_check::gather::gather;
 use join_index::Layout;
@@ -20,36 +20,31 @@ pub fn covers(budget: u32, tally: Tally, checks: usize) -> bool
     checks <= (spare as usize)
 }
 
-// Checks the left sets in left_order[lo..hi], which share their first d ranks, after e ranks against every candidate. No check is made
-// if all of them together exceed the budget.
+// Checks the left sets of a node, which share its ranks, after e ranks against every candidate. No check is made if all of them
+// together exceed the budget.
 pub fn check_block(
     work: &[u32],
     lay: Layout,
     st: WalkSettings,
-    d: usize,
+    node: &Scope,
     e: usize,
-    lo: usize,
-    hi: usize,
-    from: usize,
-    to: usize,
     p: Progress,
-) -> Walked
-    requires some_query { SomeQuery (λ q. RangesThere lay q work.now e lo hi from to) }
-    requires small { Small st.budget lo hi from to p.tally }
-    ensures { Blocked lay work.now st.budget e lo hi from to p result }
+) -> Option<Progress>
+    requires some_query { let n = node.now in SomeQuery (λ q. RangesThere lay q work.now e n.lo n.hi n.from n.to) }
+    requires small { let n = node.now in Small st.budget n.lo n.hi n.from n.to p.tally }
+    ensures { let n = node.now in Blocked lay work.now st.budget e n.lo n.hi n.from n.to p result }
 {
     let limit = st.limit;
     let tally = p.tally;
-    let checks = (hi - lo) * (to - from);
+    let checks = (node.hi - node.lo) * (node.to - node.from);
     if !covers(st.budget, tally, checks) {
-        return Walked { at: p, spent: true };
+        return None;
     }
-    let r = gather(work, lay, limit, d, e, lo, hi, from, to, tally);
-    Walked {
-        at: Progress {
-            tally: r,
-            top: p.top,
-        },
-        spent: false,
-    }
+    let r = gather(
+        work, lay, limit, node.depth, e, node.lo, node.hi, node.from, node.to, tally,
+    );
+    Some(Progress {
+        tally: r,
+        top: p.top,
+    })
 }

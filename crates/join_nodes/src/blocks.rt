@@ -13,7 +13,7 @@ ghost use Rattle.join_nodes.specs.Visiting.{RangeVisited, Merged};
 ghost use Rattle.join_nodes.specs.blocks.Blocks.{MergedEnd, PairsKept, RowFinished, Going, AtLimit, Settles};
 
 use crate::block_checks::{check_block, covers};
-use crate::{Progress, WalkSettings, Walked};
+use crate::{Progress, Scope, WalkSettings};
 use join_check::Tally;
 use join_check::keys::{key_at, range_end};
 use join_index::Layout;
@@ -55,23 +55,15 @@ pub fn add_paths(tally: Tally, m: usize, c: usize) -> Tally
     }
 }
 
-// Pairs the left sets in left_order[lo..hi] by path with the right sets listed in work[from..to], which become their row.
-fn pair_ended(
-    work: &mut [u32],
-    lay: Layout,
-    lo: usize,
-    hi: usize,
-    from: usize,
-    to: usize,
-    p: Progress,
-) -> Progress
-    requires some_query { SomeQuery (λ q. ListThere lay q work.old lo hi from to p.top) }
-    requires lo_le_hi { lo ≤ hi }
-    requires is_by_path_bound { p.tally.by_path + path_pairs (hi - lo) (to - from) is_by_path ≤ max_pairs }
-    ensures { PairsKept lay work.old lo hi from to p work.new result }
+// Pairs the left sets of a node by path with the right sets listed for it, which become their row.
+fn pair_ended(work: &mut [u32], lay: Layout, node: &Scope, p: Progress) -> Progress
+    requires some_query { let n = node.now in SomeQuery (λ q. ListThere lay q work.old n.lo n.hi n.from n.to p.top) }
+    requires lo_le_hi { node.now.lo ≤ node.now.hi }
+    requires is_by_path_bound { let n = node.now in p.tally.by_path + path_pairs (n.hi - n.lo) (n.to - n.from) is_by_path ≤ max_pairs }
+    ensures { let n = node.now in PairsKept lay work.old n.lo n.hi n.from n.to p work.new result }
 {
-    let merged = add_paths(p.tally, hi - lo, to - from);
-    let top = keep_list(work, lay, lo, hi, from, to, p.top);
+    let merged = add_paths(p.tally, node.hi - node.lo, node.to - node.from);
+    let top = keep_list(work, lay, node.lo, node.hi, node.from, node.to, p.top);
     Progress {
         tally: merged,
         top: top,
@@ -79,85 +71,75 @@ fn pair_ended(
 }
 
 // Pairs the left sets that end at a node; they come first.
-pub fn settle(
-    work: &mut [u32],
-    lay: Layout,
-    st: WalkSettings,
-    d: usize,
-    lo: usize,
-    hi: usize,
-    from: usize,
-    to: usize,
-    p: Progress,
-) -> Settled
-    requires some_path { SomePath (λ q path. Going lay st q path work.old d lo hi from to p) }
-    requires lo_lt_hi { lo < hi }
-    ensures { Settles lay st work.old d lo hi from to p work.new result }
+pub fn settle(work: &mut [u32], lay: Layout, st: WalkSettings, node: &Scope, p: Progress) -> Settled
+    requires some_path { let n = node.now in SomePath (λ q path. Going lay st q path work.old n.depth n.lo n.hi n.from n.to p) }
+    requires lo_lt_hi { node.now.lo < node.now.hi }
+    ensures { let n = node.now in Settles lay st work.old n.depth n.lo n.hi n.from n.to p work.new result }
 {
-    let mid = merged_end(work, lay, d, lo, hi);
-    let at = pair_ended(work, lay, lo, mid, from, to, p);
+    let mid = merged_end(work, lay, node.depth, node.lo, node.hi);
+    let ended = Scope { hi: mid, ..*node };
+    let at = pair_ended(work, lay, &ended, p);
     Settled { mid: mid, at: at }
 }
 
-// Checks the left set k, after e ranks, against the right sets listed in work[from..to] and keeps its row. No check is made if all of
-// them together exceed the budget.
+// Checks the left set k, after the ranks of its node, against the right sets listed for it and keeps its row. No check is made if all
+// of them together exceed the budget.
 fn finish_row(
     work: &mut [u32],
     lay: Layout,
     st: WalkSettings,
+    node: &Scope,
     k: usize,
-    e: usize,
-    from: usize,
-    to: usize,
     p: Progress,
-) -> Walked
-    requires some_query { SomeQuery (λ q. RowRecordable lay q work.old k e from to p.top) }
-    requires from_le_to { from ≤ to }
+) -> Option<Progress>
+    requires some_query { let n = node.now in SomeQuery (λ q. RowRecordable lay q work.old k n.depth n.from n.to p.top) }
+    requires from_le_to { node.now.from ≤ node.now.to }
     requires tally_bound { checks_in p.tally ≤ st.budget }
-    ensures { RowFinished lay work.old st.budget k e from to p work.new result }
+    ensures { let n = node.now in RowFinished lay work.old st.budget k n.depth n.from n.to p work.new result }
 {
-    if !covers(st.budget, p.tally, to - from) {
-        return Walked { at: p, spent: true };
+    if !covers(st.budget, p.tally, node.to - node.from) {
+        return None;
     }
-    let r = record_row(work, lay, k, e, from, to, p.tally, p.top);
-    let tally = r.tally;
-    Walked {
-        at: Progress {
-            tally: tally,
-            top: r.top,
-        },
-        spent: false,
-    }
+    let r = record_row(work, lay, k, node.depth, node.from, node.to, p.tally, p.top);
+    Some(Progress {
+        tally: r.tally,
+        top: r.top,
+    })
 }
 
-// One left set at the limit: paired by path if it ends there, else checked; its row is kept if there is room.
+// One left set of a node at the limit, left_order[i]: paired by path if it ends there, else checked; its row is kept if there is room.
 fn finish_one(
     work: &mut [u32],
     lay: Layout,
     st: WalkSettings,
-    d: usize,
+    node: &Scope,
     i: usize,
-    from: usize,
-    to: usize,
     p: Progress,
-) -> Walked
-    requires { SomePath (λ q path. AtLimit lay st q path work.old d i (i + 1) from to p) }
-    ensures { (q : Query) (path : List ℕ) → AtLimit lay st q path work.old d i (i + 1) from to p
-        → RangeVisited lay q st.budget lay.row_starts d work.old work.new i (i + 1) p.tally result }
+) -> Option<Progress>
+    requires { let n = node.now in SomePath (λ q path. AtLimit lay st q path work.old n.depth i (i + 1) n.from n.to p) }
+    ensures { let n = node.now in (q : Query) (path : List ℕ) → AtLimit lay st q path work.old n.depth i (i + 1) n.from n.to p
+        → RangeVisited lay q st.budget lay.row_starts n.depth work.old work.new i (i + 1) p.tally result }
 {
     let order = lay.left_order;
     let k = word_at(work, order + i);
-    if key_at(work, lay, k, d) == 0 {
-        let at = pair_ended(work, lay, i, i + 1, from, to, p);
-        return Walked {
-            at: at,
-            spent: false,
+    if key_at(work, lay, k, node.depth) == 0 {
+        let one = Scope {
+            lo: i,
+            hi: i + 1,
+            ..*node
         };
+        let at = pair_ended(work, lay, &one, p);
+        return Some(at);
     }
-    if lay.end - p.top < to - from {
-        return check_block(work, lay, st, d, d, i, i + 1, from, to, p);
+    if lay.end - p.top < node.to - node.from {
+        let one = Scope {
+            lo: i,
+            hi: i + 1,
+            ..*node
+        };
+        return check_block(work, lay, st, &one, node.depth, p);
     }
-    finish_row(work, lay, st, k, d, from, to, p)
+    finish_row(work, lay, st, node, k, p)
 }
 
 // The left sets at the limit, one by one, up to the first whose checks would exceed the budget.
@@ -165,29 +147,16 @@ pub fn finish(
     work: &mut [u32],
     lay: Layout,
     st: WalkSettings,
-    d: usize,
-    lo: usize,
-    hi: usize,
-    from: usize,
-    to: usize,
+    node: &Scope,
     p: Progress,
-) -> Walked
-    requires { SomePath (λ q path. AtLimit lay st q path work.old d lo hi from to p) }
-    ensures { (q : Query) (path : List ℕ) → AtLimit lay st q path work.old d lo hi from to p
-        → RangeVisited lay q st.budget lay.row_starts d work.old work.new lo hi p.tally result }
+) -> Option<Progress>
+    requires { let n = node.now in SomePath (λ q path. AtLimit lay st q path work.old n.depth n.lo n.hi n.from n.to p) }
+    ensures { let n = node.now in (q : Query) (path : List ℕ) → AtLimit lay st q path work.old n.depth n.lo n.hi n.from n.to p
+        → RangeVisited lay q st.budget lay.row_starts n.depth work.old work.new n.lo n.hi p.tally result }
 {
     let mut r = p;
-    let mut i = lo;
-    while i < hi {
-        let one = finish_one(work, lay, st, d, i, from, to, r);
-        if one.spent {
-            return one;
-        }
-        r = one.at;
-        i += 1;
+    for i in node.lo..node.hi {
+        r = finish_one(work, lay, st, node, i, r)?;
     }
-    Walked {
-        at: r,
-        spent: false,
-    }
+    Some(r)
 }

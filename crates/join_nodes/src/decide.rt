@@ -8,6 +8,7 @@ ghost use Rattle.join_spec.specs.Walk.{goes};
 ghost use Rattle.join_nodes.specs.Narrowing.{SomePath};
 ghost use Rattle.join_nodes.specs.Visiting.{OnPath, NodeAt};
 
+use crate::Scope;
 use join_check::keys::{count_seen, key_at};
 use join_index::Layout;
 use join_spec::{Rule, Weights};
@@ -36,48 +37,35 @@ pub fn weigh(weights: Weights, c: u32, t: u32, m: u32) -> bool
 }
 
 // The weighed rule at a node; the holders of its last rank are counted in that rank's inverted list.
-fn weigh_node(
-    work: &[u32],
-    lay: Layout,
-    weights: Weights,
-    d: usize,
-    lo: usize,
-    hi: usize,
-    from: usize,
-    to: usize,
-) -> bool
-    requires { SomePath (λ q path. NodeAt lay q path work.now d lo hi from to) }
-    ensures { (q : Query) (path : List ℕ) → NodeAt lay q path work.now d lo hi from to
+fn weigh_node(work: &[u32], lay: Layout, weights: Weights, node: &Scope) -> bool
+    requires { let n = node.now in SomePath (λ q path. NodeAt lay q path work.now n.depth n.lo n.hi n.from n.to) }
+    ensures { let n = node.now in (q : Query) (path : List ℕ) → NodeAt lay q path work.now n.depth n.lo n.hi n.from n.to
         → q.rule ≡ Weighed weights → result ≡ goes q path }
 {
     let offsets = lay.offsets;
     let index = lay.index;
-    let root = rank_on(work, lay, lo, 0);
-    let rank = rank_on(work, lay, lo, d - 1);
+    let root = rank_on(work, lay, node.lo, 0);
+    let rank = rank_on(work, lay, node.lo, node.depth - 1);
     let first = word_at(work, offsets + rank);
     let last = word_at(work, offsets + rank + 1);
     let t = count_seen(work, lay, index + first, index + last, root);
-    weigh(weights, (to - from) as u32, t as u32, (hi - lo) as u32)
+    weigh(
+        weights,
+        (node.to - node.from) as u32,
+        t as u32,
+        (node.hi - node.lo) as u32,
+    )
 }
 
 // Whether the walk goes on at a node.
-pub fn decide(
-    work: &[u32],
-    lay: Layout,
-    rule: Rule,
-    d: usize,
-    lo: usize,
-    hi: usize,
-    from: usize,
-    to: usize,
-) -> bool
-    requires { SomePath (λ q path. NodeAt lay q path work.now d lo hi from to) }
-    ensures { (q : Query) (path : List ℕ) → NodeAt lay q path work.now d lo hi from to → q.rule ≡ rule
+pub fn decide(work: &[u32], lay: Layout, rule: Rule, node: &Scope) -> bool
+    requires { let n = node.now in SomePath (λ q path. NodeAt lay q path work.now n.depth n.lo n.hi n.from n.to) }
+    ensures { let n = node.now in (q : Query) (path : List ℕ) → NodeAt lay q path work.now n.depth n.lo n.hi n.from n.to → q.rule ≡ rule
         → result ≡ goes q path }
 {
     match rule {
         Rule::Merge => true,
         Rule::Check => false,
-        Rule::Weighed(weights) => weigh_node(work, lay, weights, d, lo, hi, from, to),
+        Rule::Weighed(weights) => weigh_node(work, lay, weights, node),
     }
 }

@@ -9,7 +9,7 @@ use crate::blocks::{finish, settle};
 use crate::decide::rank_on;
 use crate::lone::{is_lone, pair_lone};
 use crate::narrow::narrow;
-use crate::{Progress, WalkSettings};
+use crate::{Progress, Scope, WalkSettings};
 use join_index::Layout;
 use kept_rows::keep_list;
 
@@ -18,79 +18,73 @@ use kept_rows::keep_list;
 #[derive(Clone, Copy)]
 pub struct Entered {
     pub at: Progress,
-    pub spent: bool,
     pub mid: usize,
     pub from: usize,
     pub to: usize,
 }
 
 // Enters a node: narrows its candidates and settles the left sets that have no child to visit. Then no candidate is left, and nothing
-// pairs below; or the limit is reached; or the only left set is paired at once; or those that end here are paired by path.
+// pairs below; or the limit is reached; or the only left set is paired at once; or those that end here are paired by path. None where
+// the budget is spent at the limit.
 pub fn enter_node(
     work: &mut [u32],
     flags: &mut [u8],
     lay: Layout,
     st: WalkSettings,
-    d: usize,
-    lo: usize,
-    hi: usize,
-    from: usize,
-    to: usize,
+    node: &Scope,
     p: Progress,
-) -> Entered
-    requires some_path { SomePath (λ q path. GoesOn lay st q path work.old d lo hi from to p) }
+) -> Option<Entered>
+    requires some_path { let n = node.now in SomePath (λ q path. GoesOn lay st q path work.old n.depth n.lo n.hi n.from n.to p) }
     requires clear_2 { Clear flags.old }
-    ensures entered { (q : Query) (path : List ℕ) → GoesOn lay st q path work.old d lo hi from to p
-        → NodeEntered lay st q path work.old work.new d lo hi p result }
+    ensures entered { let n = node.now in (q : Query) (path : List ℕ) → GoesOn lay st q path work.old n.depth n.lo n.hi n.from n.to p
+        → NodeEntered lay st q path work.old work.new n.depth n.lo n.hi p result }
     ensures clear { Clear flags.new }
 {
     let limit = st.limit;
-    let rank = rank_on(work, lay, lo, d - 1);
-    let part = narrow(work, flags, lay, d, rank, from, to);
-    let first = part.from;
-    let last = part.to;
-    if last <= first {
+    let rank = rank_on(work, lay, node.lo, node.depth - 1);
+    let part = narrow(work, flags, lay, node, rank);
+    let after = Scope {
+        from: part.from,
+        to: part.to,
+        ..*node
+    };
+    if after.to <= after.from {
         let tally = p.tally;
-        let top = keep_list(work, lay, lo, hi, first, last, p.top);
-        return Entered {
+        let top = keep_list(work, lay, after.lo, after.hi, after.from, after.to, p.top);
+        return Some(Entered {
             at: Progress {
                 tally: tally,
                 top: top,
             },
-            spent: false,
-            mid: hi,
-            from: first,
-            to: last,
-        };
+            mid: after.hi,
+            from: after.from,
+            to: after.to,
+        });
     }
-    if limit <= d {
-        let done = finish(work, lay, st, d, lo, hi, first, last, p);
-        let at = done.at;
-        return Entered {
+    if limit <= after.depth {
+        let at = finish(work, lay, st, &after, p)?;
+        return Some(Entered {
             at: at,
-            spent: done.spent,
-            mid: hi,
-            from: first,
-            to: last,
-        };
+            mid: after.hi,
+            from: after.from,
+            to: after.to,
+        });
     }
-    if is_lone(work, lay, st, lo, hi, first, last, p.top) {
-        let paired = pair_lone(work, lay, st, d, lo, first, last, p);
-        return Entered {
+    if is_lone(work, lay, st, &after, p.top) {
+        let paired = pair_lone(work, lay, st, &after, p);
+        return Some(Entered {
             at: paired,
-            spent: false,
-            mid: hi,
-            from: first,
-            to: last,
-        };
+            mid: after.hi,
+            from: after.from,
+            to: after.to,
+        });
     }
-    let settled = settle(work, lay, st, d, lo, hi, first, last, p);
+    let settled = settle(work, lay, st, &after, p);
     let at = settled.at;
-    Entered {
+    Some(Entered {
         at: at,
-        spent: false,
         mid: settled.mid,
-        from: first,
-        to: last,
-    }
+        from: after.from,
+        to: after.to,
+    })
 }

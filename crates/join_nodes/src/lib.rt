@@ -14,18 +14,22 @@ pub struct WalkSettings {
     pub budget: u32,
 }
 
-// How far the walk has come: its counters, and where the kept rows end.
+// How far the walk has come: its counters, and where the kept rows end. A part of the walk answers it, or none where the next checks
+// would exceed the budget.
 #[derive(Clone, Copy)]
 pub struct Progress {
     pub tally: Tally,
     pub top: usize,
 }
 
-// How far the walk has come after a part of it, and whether it stopped because the next checks would exceed the budget.
+// What a node spans: its depth, its left sets in left_order[lo..hi], and its candidates in work[from..to].
 #[derive(Clone, Copy)]
-pub struct Walked {
-    pub at: Progress,
-    pub spent: bool,
+pub struct Scope {
+    pub depth: usize,
+    pub lo: usize,
+    pub hi: usize,
+    pub from: usize,
+    pub to: usize,
 }
 
 pub mod block_checks;

@@ -5,6 +5,7 @@ ghost use Rattle.join_spec.specs.Node.{last_of};
 ghost use Rattle.words.specs.flags.Flags.{Clear};
 ghost use Rattle.join_nodes.specs.Narrowing.{SomePath, Candidates, Narrowed};
 
+use crate::Scope;
 use join_index::Layout;
 use words::shared::intersect;
 use words::word_at;
@@ -18,19 +19,11 @@ pub struct Part {
 
 // The candidates that hold the last rank of the path too. At depth 1 they are that rank's inverted list; deeper they are put into the
 // rank's slot.
-pub fn narrow(
-    work: &mut [u32],
-    flags: &mut [u8],
-    lay: Layout,
-    d: usize,
-    rank: usize,
-    from: usize,
-    to: usize,
-) -> Part
-    requires some_path { SomePath (λ q path. Candidates lay q path work.old d from to × (rank ≡ last_of path)) }
+pub fn narrow(work: &mut [u32], flags: &mut [u8], lay: Layout, node: &Scope, rank: usize) -> Part
+    requires some_path { let n = node.now in SomePath (λ q path. Candidates lay q path work.old n.depth n.from n.to × (rank ≡ last_of path)) }
     requires clear_2 { Clear flags.old }
-    ensures narrowed { (q : Query) (path : List ℕ) → Candidates lay q path work.old d from to → rank ≡ last_of path
-        → Narrowed lay q path d work.old work.new result }
+    ensures narrowed { let n = node.now in (q : Query) (path : List ℕ) → Candidates lay q path work.old n.depth n.from n.to → rank ≡ last_of path
+        → Narrowed lay q path n.depth work.old work.new result }
     ensures clear { Clear flags.new }
 {
     let offsets = lay.offsets;
@@ -38,13 +31,21 @@ pub fn narrow(
     let slots = lay.slots;
     let first = word_at(work, offsets + rank);
     let last = word_at(work, offsets + rank + 1);
-    if d == 1 {
+    if node.depth == 1 {
         return Part {
             from: index + first,
             to: index + last,
         };
     }
     let out = slots + first;
-    let end = intersect(work, flags, from, to, index + first, index + last, out);
+    let end = intersect(
+        work,
+        flags,
+        node.from,
+        node.to,
+        index + first,
+        index + last,
+        out,
+    );
     Part { from: out, to: end }
 }

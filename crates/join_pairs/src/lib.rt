@@ -29,10 +29,8 @@ pub fn write_pairs(work: &mut [u32], flags: &mut [u8], lay: Layout, lefts: usize
         ≡ pair_list q.lefts q.rights ++ drop (length (pair_list q.lefts q.rights)) pairs.old }
 {
     let mut n: usize = 0;
-    let mut k: usize = 0;
-    while k < lefts {
+    for k in 0..lefts {
         n = write_left(work, flags, lay, k, pairs, n);
-        k += 1;
     }
 }
 

@@ -41,11 +41,8 @@ pub fn write_kept(
     ensures { Put pairs.old at (pairs_with k (slice from to work.now)) result pairs.new }
 {
     let mut n = at;
-    let mut place = from;
-    while place < to {
-        let s = word_at(work, place);
-        n = push(pairs, n, k, s, true);
-        place += 1;
+    for s in &work[from..to] {
+        n = push(pairs, n, k, *s as usize, true);
     }
     n
 }
@@ -67,12 +64,10 @@ pub fn write_row(
         → Put pairs.old at (row_among q k (slice from to work.now)) result pairs.new }
 {
     let mut n = at;
-    let mut i = from;
-    while i < to {
+    for i in from..to {
         let s = word_at(work, i);
         let paired = is_contained(work, lay, p, s);
         n = push(pairs, n, k, s, paired);
-        i += 1;
     }
     n
 }

@@ -25,15 +25,13 @@ pub fn pivot(work: &[u32], lay: Layout, from: usize, to: usize) -> usize
 {
     let mut rank = word_at(work, from);
     let mut least = count_holders(work, lay, rank);
-    let mut i = from + 1;
-    while i < to {
-        let next = word_at(work, i);
+    for word in &work[from + 1..to] {
+        let next = *word as usize;
         let n = count_holders(work, lay, next);
         if n < least {
             rank = next;
             least = n;
         }
-        i += 1;
     }
     rank
 }
@@ -129,8 +127,7 @@ pub fn find_candidates(
     let first = list_of(work, lay, pivot);
     let mut a = first.from;
     let mut b = first.to;
-    let mut i = from;
-    while i < to {
+    for i in from..to {
         let r = word_at(work, i);
         if stops(work, lay, r, pivot, b - a, to - from) {
             return Shortlist {
@@ -142,11 +139,10 @@ pub fn find_candidates(
         let s = meet(work, flags, lay, r, pivot, a, b);
         a = s.from;
         b = s.to;
-        i += 1;
     }
     Shortlist {
         from: a,
         to: b,
-        rest: i,
+        rest: to,
     }
 }

@@ -6,8 +6,8 @@ use mathlib.Core.Path.{◌≡◌, sym, ap, ap₂, subst, ◌∙◌}
 use mathlib.Core.List.{List}
 use lib.ListN.{length, take, drop}
 use lib.Seq.{take_at, drop_at}
+use Rattle.std.specs.Prelude.{Ok}
 use Rattle.join_spec.specs.declared.Counts.{Counts}
-use Rattle.join_spec.specs.declared.JoinAnswer.TheVariants.{Joined}
 use Rattle.inputs.specs.Input.{Input, left_sets, right_sets}
 use Rattle.sets.proofs.Between.{length-sets}
 use Rattle.sets.proofs.Ordered.{items_below}
@@ -26,7 +26,7 @@ pairs_of i = pair_list (left_sets i) (right_sets i)
 abbrev pub exit_pairs : Input → Settings → Room → List ℕ → List ℕ
 exit_pairs i s room before = pairs_after (join_answer i s room) (pairs_of i) before
 
-module _ (i : Input) (s : Settings) (room : Room) (counts : Counts) (joins : join_answer i s room ≡ Joined counts) where
+module _ (i : Input) (s : Settings) (room : Room) (counts : Counts) (joins : join_answer i s room ≡ Ok counts) where
   pub pairs_counted : counts.pairs ≡ pair_count (left_sets i) (right_sets i)
   pairs_counted = ap (λ (n : Counts). n.pairs) (accepted i s room counts joins).counted
 
@@ -67,7 +67,7 @@ module _ (i : Input) (s : Settings) (room : Room) (counts : Counts) (joins : joi
       ∙ ap (λ (n : ℕ). drop n before) filled-length)
 
 -- two accepted joins of the same collections, whatever their limits, ranks, budgets, rules, weights and lists
-module _ (i : Input) (s s' : Settings) (room room' : Room) (counts counts' : Counts) (joins : join_answer i s room ≡ Joined counts)
-    (joins' : join_answer i s' room' ≡ Joined counts') where
+module _ (i : Input) (s s' : Settings) (room room' : Room) (counts counts' : Counts) (joins : join_answer i s room ≡ Ok counts)
+    (joins' : join_answer i s' room' ≡ Ok counts') where
   pub same_count : counts.pairs ≡ counts'.pairs
   same_count = pairs_counted i s room counts joins ∙ sym (pairs_counted i s' room' counts' joins')

@@ -5,13 +5,12 @@ use mathlib.Core.List.{List, []}
 use mathlib.Core.Bool.{true, ◌&&◌}
 use lib.Dec.{ltb}
 use lib.ListN.{length, get_or, take, drop}
+use Rattle.std.specs.Prelude.{Result, Err, Ok}
 use Rattle.lists.specs.Lists.{one}
 use Rattle.sets.specs.Collections.{contained}
 use Rattle.join_spec.specs.declared.Counts.{Counts}
 use Rattle.inputs.specs.Input.{Input, left_sets, right_sets}
 use Rattle.sets.specs.declared.Refusal.TheVariants.{Spent}
-use Rattle.join_spec.specs.declared.JoinAnswer.{JoinAnswer}
-use Rattle.join_spec.specs.declared.JoinAnswer.TheVariants.{Joined, Refused}
 use Rattle.join_spec.specs.Query.{Settings, query_of}
 use Rattle.join_spec.specs.Counting.{checks_of, counts_of}
 use Rattle.join_spec.specs.Answer.{room_of, join_answer, pairs_after, RunCall}
@@ -19,23 +18,24 @@ use Rattle.join_spec.proofs.PairListLaws.{pair_occurs, pairs_rising, pair_occurs
 use Rattle.join_spec.proofs.Accepted.{Accepted, Tests, accepted, joined, spent_only_above, spent_wherever_above}
 use Rattle.join_spec.proofs.AcceptedRuns as laws
 use Rattle.join_spec.proofs.AcceptedRuns.{pairs_of}
+use Rattle.sets.specs.declared.Refusal.{Refusal}
 
 module _ (i : Input) (s : Settings) {counts : Counts} {work before work' after : List ℕ}
-    (call : RunCall i s work before work' after (Joined counts)) where
-  joins : join_answer i s (room_of work before) ≡ Joined counts
+    (call : RunCall i s work before work' after (Ok counts)) where
+  joins : join_answer i s (room_of work before) ≡ Ok counts
   joins = sym call.answer
 
   -- the filled part is the pair list, and what lies beyond is as before
   pub call_filled : take (2 * counts.pairs) after ≡ pairs_of i
   call_filled =
       ap (take (2 * counts.pairs))
-      (call.pairs ∙ ap (λ (r : JoinAnswer). pairs_after r (pairs_of i) before) call.answer)
+      (call.pairs ∙ ap (λ (r : Result Counts Refusal). pairs_after r (pairs_of i) before) call.answer)
       ∙ laws.filled_part i s (room_of work before) counts joins before
 
   pub call_rest : drop (2 * counts.pairs) after ≡ drop (2 * counts.pairs) before
   call_rest =
       ap (drop (2 * counts.pairs))
-      (call.pairs ∙ ap (λ (r : JoinAnswer). pairs_after r (pairs_of i) before) call.answer)
+      (call.pairs ∙ ap (λ (r : Result Counts Refusal). pairs_after r (pairs_of i) before) call.answer)
       ∙ laws.rest_part i s (room_of work before) counts joins before
 
   -- it holds each contained pair of places once and nothing else, rising by left place and then right place
@@ -67,24 +67,24 @@ module _ (i : Input) (s : Settings) {counts : Counts} {work before work' after :
 
 -- a call that answers 8 had more checks than its budget
 pub call_spent : (i : Input) (s : Settings) {work before work' after : List ℕ}
-    → RunCall i s work before work' after (Refused Spent)
+    → RunCall i s work before work' after (Err Spent)
     → s.budget < checks_of (query_of i s)
 call_spent i s {work} {before} call = spent_only_above i s (room_of work before) (sym call.answer)
 
 -- and one whose checks are above it answers 8 where nothing before is at fault
-pub call_beyond : (i : Input) (s : Settings) {r : JoinAnswer} {work before work' after : List ℕ}
-    → RunCall i s work before work' after r → Tests i s.limit s.ranks (length work) → s.budget < checks_of (query_of i s) → r ≡ Refused Spent
+pub call_beyond : (i : Input) (s : Settings) {r : Result Counts Refusal} {work before work' after : List ℕ}
+    → RunCall i s work before work' after r → Tests i s.limit s.ranks (length work) → s.budget < checks_of (query_of i s) → r ≡ Err Spent
 call_beyond i s {r} {work} {before} call tests above =
     call.answer ∙ spent_wherever_above i s (room_of work before) tests above
 
 -- a call without a cause to refuse is accepted, with the counts of the definitions
-pub call_accepted : (i : Input) (s : Settings) {r : JoinAnswer} {work before work' after : List ℕ}
-    → RunCall i s work before work' after r → (counts : Counts) → Accepted i s (room_of work before) counts → r ≡ Joined counts
+pub call_accepted : (i : Input) (s : Settings) {r : Result Counts Refusal} {work before work' after : List ℕ}
+    → RunCall i s work before work' after r → (counts : Counts) → Accepted i s (room_of work before) counts → r ≡ Ok counts
 call_accepted i s {r} {work} {before} call counts ok = call.answer ∙ joined i s (room_of work before) counts ok
 
 -- two accepted calls over the same collections, whatever their settings, find the same pairs
 module _ (i : Input) (s s' : Settings) {counts counts' : Counts} {work before v after work' before' v' after' : List ℕ}
-    (one : RunCall i s work before v after (Joined counts)) (other : RunCall i s' work' before' v' after' (Joined counts')) where
+    (one : RunCall i s work before v after (Ok counts)) (other : RunCall i s' work' before' v' after' (Ok counts')) where
   pub calls_count : counts.pairs ≡ counts'.pairs
   calls_count = laws.same_count i s s' (room_of work before) (room_of work' before') counts counts' (joins i s one) (joins i s' other)
 

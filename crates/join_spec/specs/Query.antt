@@ -5,6 +5,7 @@ use Rattle.sets.specs.Collections.{sets_of}
 use Rattle.inputs.specs.Input.{Input}
 use Rattle.sets.specs.Ordered.{ordered}
 use Rattle.join_spec.specs.declared.Rule.{Rule}
+use Rattle.join_spec.specs.declared.Settings as declared
 
 pub record Settings : Type 0 where
   pub limit : ℕ
@@ -15,6 +16,10 @@ pub record Settings : Type 0 where
 -- the settings as they are lent, by their names
 abbrev pub settings_of : ℕ → List ℕ → ℕ → Rule → Settings
 settings_of limit ranks budget rule = record { limit = limit; ranks = ranks; budget = budget; rule = rule }
+
+-- the settings that are lent
+abbrev pub lent_settings : declared.Settings → Settings
+lent_settings s = settings_of s.limit s.ranks.now s.budget s.rule
 
 pub record Query : Type 0 where
   pub T : ℕ

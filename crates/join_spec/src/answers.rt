@@ -2,15 +2,15 @@
 ghost use Rattle.std.specs.Prelude.{◌≡◌};
 ghost use Rattle.join_spec.specs.Answer.{join_words};
 
-use crate::JoinAnswer;
-use sets::head_of;
+use crate::Counts;
+use sets::{Refusal, head_of};
 
 // The words of a join's answer at the C boundary.
-pub fn join_words(answer: JoinAnswer) -> [u64; 9]
+pub fn join_words(answer: Result<Counts, Refusal>) -> [u64; 9]
     ensures { result ≡ join_words answer }
 {
     match answer {
-        JoinAnswer::Joined(counts) => [
+        Ok(counts) => [
             0,
             0,
             0,
@@ -21,7 +21,7 @@ pub fn join_words(answer: JoinAnswer) -> [u64; 9]
             counts.dropped as u64,
             counts.false_drops as u64,
         ],
-        JoinAnswer::Refused(why) => {
+        Err(why) => {
             let head = head_of(why);
             [head.number, head.first, head.second, 0, 0, 0, 0, 0, 0]
         }

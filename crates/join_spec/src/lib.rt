@@ -2,8 +2,6 @@
 // answer as words at the C boundary. The code that meets all this is in the crates above.
 #![tactic(auto)]
 
-use sets::Refusal;
-
 pub mod answers;
 
 // The four weights of the weighed merge rule.
@@ -23,6 +21,15 @@ pub enum Rule {
     Weighed(Weights),
 }
 
+// The settings of a join: the depth limit, the rank of each item, how many checks it may make, and the merge rule.
+#[derive(Clone, Copy)]
+pub struct Settings<'a> {
+    pub limit: u32,
+    pub ranks: &'a [u16],
+    pub budget: u32,
+    pub rule: Rule,
+}
+
 // The six counts of a join.
 #[derive(Clone, Copy)]
 pub struct Counts {
@@ -32,11 +39,4 @@ pub struct Counts {
     pub checks: u32,
     pub dropped: u32,
     pub false_drops: u32,
-}
-
-// What a join answers.
-#[derive(Clone, Copy)]
-pub enum JoinAnswer {
-    Joined(Counts),
-    Refused(Refusal),
 }

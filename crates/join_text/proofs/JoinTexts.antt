@@ -5,9 +5,8 @@ use mathlib.Core.Path.{◌≡◌, refl, sym, ap, ap₂, ◌∙◌}
 use mathlib.Core.List.{List}
 use native.Mathlib.Omega.{arith}
 use lib.ListN.{length}
+use Rattle.std.specs.Prelude.{Result, Err, Ok}
 use Rattle.inputs.specs.Input.{Input, left_sets, right_sets}
-use Rattle.join_spec.specs.declared.JoinAnswer.{JoinAnswer}
-use Rattle.join_spec.specs.declared.JoinAnswer.TheVariants.{Joined, Refused}
 use Rattle.join_spec.specs.PairList.{pair_list}
 use Rattle.join_spec.specs.Query.{Settings}
 use Rattle.join_spec.specs.Answer.{join_answer, RunCall}
@@ -18,17 +17,19 @@ use Rattle.text.specs.answer_text.Inner.{found_pairs, AnswerFits}
 use Rattle.join_text.specs.JoinText.{work_words, pair_places, join_text}
 use Rattle.join_text.specs.Inner.{text_room}
 use Rattle.join_text.proofs.PairPlaces.{places_enough, places_within}
+use Rattle.join_spec.specs.declared.Counts.{Counts}
+use Rattle.sets.specs.declared.Refusal.{Refusal}
 
 module _ (i : Input) (s : Settings) {work before work' after : List ℕ} (repeats : Repeats) (left_numbers right_numbers : List ℕ) where
   -- the filled part of the pair list is the join's, where the answer has counts
-  found_text : (answer : JoinAnswer) → RunCall i s work before work' after answer
+  found_text : (answer : Result Counts Refusal) → RunCall i s work before work' after answer
       → answer_text repeats left_numbers right_numbers (found_pairs answer after) answer
       ≡ answer_text repeats left_numbers right_numbers (pair_list (left_sets i) (right_sets i)) answer
-  found_text (Joined counts) call =
-      ap (λ (pairs : List ℕ). answer_text repeats left_numbers right_numbers pairs (Joined counts)) (call_filled i s call)
-  found_text (Refused why) call = refl
+  found_text (Ok counts) call =
+      ap (λ (pairs : List ℕ). answer_text repeats left_numbers right_numbers pairs (Ok counts)) (call_filled i s call)
+  found_text (Err why) call = refl
 
-  module _ {answer : JoinAnswer} (call : RunCall i s work before work' after answer) (places : pair_places ≡ length before) where
+  module _ {answer : Result Counts Refusal} (call : RunCall i s work before work' after answer) (places : pair_places ≡ length before) where
     pub call_text : work_words ≡ length work
         → answer_text repeats left_numbers right_numbers (found_pairs answer after) answer ≡ join_text repeats left_numbers right_numbers i s
     unfolding join_text

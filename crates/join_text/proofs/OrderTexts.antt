@@ -8,19 +8,15 @@ use native.Mathlib.Omega.{arith}
 use borrow.Author.Tests.{eq-eqb}
 use lib.Dec.{ltb}
 use lib.ListN.{length}
+use Rattle.std.specs.Prelude.{Result, Err, Ok, ⊤}
 use Rattle.sets.specs.Limits.{max_items}
 use Rattle.sets.specs.Refusals.{refuse_if, unless}
 use Rattle.sets.specs.declared.Refusal.{Refusal}
 use Rattle.sets.specs.declared.Refusal.TheVariants.{BadSettings}
-use Rattle.sets.specs.declared.Tested.{Tested}
-use Rattle.sets.specs.declared.Tested.TheVariants.{Passed, Failed}
 use Rattle.inputs.specs.Input.{Input, left_sets, right_sets}
 use Rattle.inputs.specs.Tests.{sets_test, work_test}
-use Rattle.item_order_spec.specs.declared.OrderAnswer.{OrderAnswer}
-use Rattle.item_order_spec.specs.declared.OrderAnswer.TheVariants as order
 use Rattle.item_order_spec.specs.Order.{rank_table, order_test, order_answer, order_ranks, ranks_after, OrderCall}
 use Rattle.item_order_spec.proofs.Ranks.{ranks_permutation}
-use Rattle.join_spec.specs.declared.JoinAnswer.TheVariants.{Refused}
 use Rattle.join_spec.specs.PairList.{pair_list}
 use Rattle.join_spec.specs.Answer.{bad_settings, join_tests}
 use Rattle.join_spec.proofs.Accepted.{answer_refused}
@@ -30,9 +26,9 @@ use Rattle.text.specs.answer_text.AnswerText.{answer_text}
 use Rattle.join_text.specs.JoinText.{program_room, work_words, program_settings, join_text}
 
 -- a refused order failed its test
-failed_test : (t : Tested) (why : Refusal) → order.Refused why ≡ unless order.Refused t order.Ordered → t ≡ Failed why
-failed_test Passed why e = let z : ◌≡◌ {A = ℕ} 0 1 = cc in absurd (omega arith)
-failed_test (Failed w) why e = cc
+failed_test : (t : Result ⊤ Refusal) (why : Refusal) → ◌≡◌ {A = Result ⊤ Refusal} (Err why) (unless Err t (Ok tt)) → t ≡ Err why
+failed_test (Ok _) why e = let z : ◌≡◌ {A = ℕ} 0 1 = cc in absurd (omega arith)
+failed_test (Err w) why e = cc
 
 module _ (i : Input) where
   abbrev table : List ℕ
@@ -48,27 +44,27 @@ module _ (i : Input) where
       by_size false = refl
 
   -- what the order's test fails for the join's tests fail for, too
-  tests_same : (places words : ℕ) (why : Refusal) → places ≡ i.T → order_test i places ≡ Failed why
-      → join_tests i 2 table words ≡ Failed why
+  tests_same : (places words : ℕ) (why : Refusal) → places ≡ i.T → order_test i places ≡ Err why
+      → join_tests i 2 table words ≡ Err why
   unfolding order_test join_tests
   tests_same places words why long e =
       rw settings_bad (by_size (ltb max_items i.T) (rw (eq-eqb places i.T long) at e))
     where
-      later : (t : Tested) → t ≡ Failed why → unless Failed t (work_test i words) ≡ Failed why
+      later : (t : Result ⊤ Refusal) → t ≡ Err why → unless Err t (work_test i words) ≡ Err why
       later t e = rw e
 
-      by_size : (large : Bool) → unless Failed (refuse_if large BadSettings) (sets_test i) ≡ Failed why
-          → unless Failed (refuse_if large BadSettings) (unless Failed (sets_test i) (work_test i words)) ≡ Failed why
+      by_size : (large : Bool) → unless Err (refuse_if large BadSettings) (sets_test i) ≡ Err why
+          → unless Err (refuse_if large BadSettings) (unless Err (sets_test i) (work_test i words)) ≡ Err why
       by_size true e = e
       by_size false e = later (sets_test i) e
 
-  module _ {ranks after : List ℕ} {answer : OrderAnswer} (call : OrderCall i false ranks after answer) where
-    pub ordered_ranks : answer ≡ order.Ordered → after ≡ table
+  module _ {ranks after : List ℕ} {answer : Result ⊤ Refusal} (call : OrderCall i false ranks after answer) where
+    pub ordered_ranks : answer ≡ Ok tt → after ≡ table
     unfolding order_ranks
     ordered_ranks e =
-        call.ranks ∙ ap (λ (a : OrderAnswer). ranks_after a table ranks) (sym call.answered ∙ e)
+        call.ranks ∙ ap (λ (a : Result ⊤ Refusal). ranks_after a table ranks) (sym call.answered ∙ e)
 
-    pub refused_order : {why : Refusal} → answer ≡ order.Refused why → length ranks ≡ i.T
+    pub refused_order : {why : Refusal} → answer ≡ Err why → length ranks ≡ i.T
         → (repeats : Repeats) (left_numbers right_numbers : List ℕ)
         → refusal_line why ≡ join_text repeats left_numbers right_numbers i (program_settings i)
     unfolding order_answer join_text

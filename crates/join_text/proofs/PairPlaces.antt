@@ -6,13 +6,12 @@ use mathlib.Core.Bool.{Bool, true, false}
 use native.Mathlib.Omega.{arith}
 use lib.ListN.{length, take}
 use borrow.Author.Tests.{lt-ltb}
+use Rattle.std.specs.Prelude.{Result, Ok}
 use Rattle.lists.proofs.Bools.{and_both}
 use Rattle.sets.specs.Collections.{contained}
 use Rattle.inputs.specs.Input.{Input, left_sets, right_sets}
 use Rattle.sets.proofs.Between.{length-sets}
 use Rattle.join_spec.specs.declared.Counts.{Counts}
-use Rattle.join_spec.specs.declared.JoinAnswer.{JoinAnswer}
-use Rattle.join_spec.specs.declared.JoinAnswer.TheVariants.{Joined}
 use Rattle.join_spec.specs.PairList.{onto_pair, row_from, pairs_from}
 use Rattle.join_spec.specs.Query.{Settings}
 use Rattle.join_spec.specs.Answer.{room_of, RunCall}
@@ -20,6 +19,7 @@ use Rattle.join_spec.proofs.Accepted.{accepted}
 use Rattle.join_spec.proofs.AcceptedRuns.{pairs_counted}
 use Rattle.join_spec.proofs.Calls.{call_filled}
 use Rattle.text.specs.pair_lines.Room.{pairs_within}
+use Rattle.sets.specs.declared.Refusal.{Refusal}
 
 module _ (m n : ℕ) where
   row_within : (l r : ℕ) (test : List ℕ → Bool) (rights : List (List ℕ)) (rest : List ℕ) → l < m → r + length rights ≤ n
@@ -43,8 +43,8 @@ module _ (m n : ℕ) where
       (pairs_within_lem (suc l) lefts rights (omega arith) in-n)
 
 -- the filled part of an accepted call's pair list
-module _ (i : Input) (s : Settings) {work before work' after : List ℕ} {answer : JoinAnswer} {counts : Counts}
-    (call : RunCall i s work before work' after answer) (joins : answer ≡ Joined counts) where
+module _ (i : Input) (s : Settings) {work before work' after : List ℕ} {answer : Result Counts Refusal} {counts : Counts}
+    (call : RunCall i s work before work' after answer) (joins : answer ≡ Ok counts) where
   pub places_enough : 2 * counts.pairs ≤ length before
   places_enough =
       let room = room_of work before in
@@ -54,7 +54,7 @@ module _ (i : Input) (s : Settings) {work before work' after : List ℕ} {answer
   pub places_within : (m n : ℕ) → length i.left.ends ≡ m → length i.right.ends ≡ n
       → pairs_within m n (take (2 * counts.pairs) after) ≡ true
   places_within m n left right =
-      let joined = subst (λ (a : JoinAnswer). RunCall i s work before work' after a) joins call in
+      let joined = subst (λ (a : Result Counts Refusal). RunCall i s work before work' after a) joins call in
       subst (λ (l : List ℕ). pairs_within m n l ≡ true) (sym (call_filled i s joined))
       (pairs_within_lem m n 0 (left_sets i) (right_sets i)
       (omega (arith, length-sets 0 i.left.ends i.left.items))

@@ -3,14 +3,15 @@
 use Prim.Native.Nat.{ℕ, ◌+◌, ◌-◌, ◌≤◌, ◌<◌}
 use mathlib.Core.Path.{◌≡◌, refl, sym, ap, ap₂, ◌∙◌}
 use mathlib.Core.List.{List, [], ◌∷◌, ◌++◌}
-use mathlib.Core.Bool.{Bool, false, not}
+use mathlib.Core.Bool.{Bool, not}
 use native.Mathlib.Omega.{arith}
 use native.Mathlib.Nat.{mul-le-mul, zero-add}
 use borrow.Author.Tests.{not-true}
 use lib.Dec.{eqb}
 use lib.ListN.{length}
+use Rattle.std.specs.Prelude.{Option, Some}
+use Rattle.std.proofs.lemmas.Option.{none-some}
 use Rattle.lists.specs.Lists.{keep, prefix, range, slice, sum, upto}
-use Rattle.lists.proofs.Bools.{true-false}
 use Rattle.lists.proofs.Slices.{frame_less}
 use Rattle.lists.proofs.Summing.{sum_same, sum_append, sum_same_where}
 use Rattle.sets.specs.Limits.{max_sets}
@@ -30,11 +31,11 @@ use Rattle.kept_rows.specs.Keeping.{Cleared}
 use Rattle.kept_rows.proofs.RowLaws.{index_kept}
 use Rattle.join_nodes.specs.Rows.{row}
 use Rattle.join_nodes.specs.Visiting.{beginners}
+use Rattle.join_nodes.specs.declared.Progress.{Progress}
 use Rattle.join_nodes.specs.declared.WalkSettings.{WalkSettings}
-use Rattle.join_nodes.specs.declared.Walked.{Walked}
 use Rattle.join_nodes.proofs.RangeLaws.{Cut}
 use Rattle.join_nodes.proofs.RowLaws.{MetOnly}
-use Rattle.join_nodes.proofs.VisitLaws.{checks_added}
+use Rattle.join_nodes.proofs.VisitLaws.{for_some, kept_some, checks_added}
 use Rattle.join_nodes.proofs.FrameLaws.{framed_none}
 use Rattle.join_nodes.specs.blocks.Blocks.{MergedEnd}
 use Rattle.join_nodes.proofs.blocks.GroupSteps.{ended_at, going_on, ended_keys, going_keys, beginners-grouped, ended_cut}
@@ -52,17 +53,18 @@ keep_every q (x ∷ xs) = ap (λ (l : List ℕ). x ∷ l) (keep_every q xs)
 pub walk_none : {lay : Layout} {st : WalkSettings} {q : Query} {w : List ℕ} {lefts : ℕ} → WalkReady lay st q w lefts
     → lefts ≡ 0
     → {none : Tally} {top : ℕ} → ((kind : Kind) → counter kind none ≡ 0) → RowsKept lay q w top
-    → WalkDone lay q st.budget w w (record { at = record { tally = none; top = top }; spent = false })
+    → WalkDone lay q st.budget w w (Some (record { tally = none; top = top }))
 walk_none {lay} {st} {q} {w} ready gone zero kept =
     let nothing : (is : Outcome → Bool) → total is q ≡ 0 = λ is. total_nil is (ready.left_count ∙ gone) in
     record {
       framed = framed_none lay.slots w;
       counted = record {
-        counts = λ calm kind. zero kind ∙ sym (nothing (is_of kind));
-        within = λ calm. omega (arith, nothing is_check);
-        beyond = λ spent. true-false spent refl;
+        counts = for_some (λ (u : Progress). (kind : Kind) → counter kind u.tally ≡ total (is_of kind) q)
+            (λ kind. zero kind ∙ sym (nothing (is_of kind)));
+        within = λ u made. omega (arith, nothing is_check);
+        beyond = λ spent. absurd (none-some _ (sym spent));
       };
-      rows = λ calm. kept;
+      rows = kept_some kept;
     }
   where
     total_nil : (is : Outcome → Bool) → length q.lefts ≡ 0 → total is q ≡ 0
@@ -149,21 +151,21 @@ module _ {lay : Layout} {st : WalkSettings} {q : Query} {w : List ℕ} {lefts : 
             lefts = parted.back;
           }
 
-      pub walk_done : {w' : List ℕ} {r : Walked} → PartVisited lay st q w w' mid lefts none r → WalkDone lay q st.budget w w' r
+      pub walk_done : {w' : List ℕ} {r : Option Progress} → PartVisited lay st q w w' mid lefts none r → WalkDone lay q st.budget w w' r
       walk_done {w'} {r} part =
           let checks = rows_total is_check refl in
           record {
             framed = part.framed;
             counted = record {
-              counts = λ calm kind.
+              counts = λ u made kind.
                   omega (
                     arith,
-                    (part.visited.added calm).tallied.grows kind,
+                    (part.visited.added u made).tallied.grows kind,
                     zero kind,
                     rows_total (is_of kind) (kind_met kind),
                   );
-              within = λ calm.
-                  omega (arith, part.visited.within calm, checks_added (part.visited.added calm), nothing check_kinds, checks);
+              within = λ u made.
+                  omega (arith, part.visited.within u made, checks_added (part.visited.added u made), nothing check_kinds, checks);
               beyond = λ spent. omega (arith, part.visited.beyond spent, nothing check_kinds, checks);
             };
             rows = part.rows;
@@ -186,7 +188,7 @@ module _ {lay : Layout} {st : WalkSettings} {q : Query} {w w' : List ℕ} {lefts
   pub rows_cleared : RowsKept lay q w' lay.rows
   rows_cleared = cleared.rows q (record { index = ready.index; left_count = ready.left_count })
 
-  pub done_cleared : {budget : ℕ} {w'' : List ℕ} {r : Walked} → WalkDone lay q budget w' w'' r → WalkDone lay q budget w w'' r
+  pub done_cleared : {budget : ℕ} {w'' : List ℕ} {r : Option Progress} → WalkDone lay q budget w' w'' r → WalkDone lay q budget w w'' r
   done_cleared {w'' = w''} done =
       record {
         framed = record {

@@ -1,6 +1,6 @@
 -- Inner: the whole walk: left sets by first rank, each partition with the right sets seen at it. What is known before it, and what it
 -- answers.
-use Rattle.std.specs.Prelude.{ℕ, ◌≤◌, ◌<◌, ◌≡◌, List, [], true, false, length}
+use Rattle.std.specs.Prelude.{ℕ, ◌≤◌, ◌<◌, ◌≡◌, List, [], length, Option, Some, None}
 use Rattle.sets.specs.Limits.{max_limit}
 use Rattle.join_spec.specs.Query.{Query}
 use Rattle.join_spec.specs.Counting.{total, is_check}
@@ -12,7 +12,6 @@ use Rattle.kept_rows.specs.Kept.{RowsKept}
 use Rattle.join_nodes.specs.Visiting.{Children, Framed}
 use Rattle.join_nodes.specs.declared.Progress.{Progress}
 use Rattle.join_nodes.specs.declared.WalkSettings.{WalkSettings}
-use Rattle.join_nodes.specs.declared.Walked.{Walked}
 
 -- partitions: the children of the path without ranks
 abbrev pub Partitions : Layout → WalkSettings → Query → List ℕ → ℕ → ℕ → Progress → Type 0
@@ -28,13 +27,13 @@ pub record WalkReady (lay : Layout) (st : WalkSettings) (q : Query) (w : List �
   pub left_count : length q.lefts ≡ lefts
 
 -- the counter of each kind is the query's count, within the budget; or the checks of the whole walk exceed it
-pub record QueryCounted (q : Query) (budget : ℕ) (r : Walked) : Type 0 where
-  pub counts : r.spent ≡ false → (kind : Kind) → counter kind r.at.tally ≡ total (is_of kind) q
-  pub within : r.spent ≡ false → total is_check q ≤ budget
-  pub beyond : r.spent ≡ true → budget < total is_check q
+pub record QueryCounted (q : Query) (budget : ℕ) (r : Option Progress) : Type 0 where
+  pub counts : (at : Progress) → r ≡ Some at → (kind : Kind) → counter kind at.tally ≡ total (is_of kind) q
+  pub within : (at : Progress) → r ≡ Some at → total is_check q ≤ budget
+  pub beyond : r ≡ None → budget < total is_check q
 
 -- the walk was made
-pub record WalkDone (lay : Layout) (q : Query) (budget : ℕ) (w w' : List ℕ) (r : Walked) : Type 0 where
+pub record WalkDone (lay : Layout) (q : Query) (budget : ℕ) (w w' : List ℕ) (r : Option Progress) : Type 0 where
   pub framed : Framed lay.slots w w'
   pub counted : QueryCounted q budget r
-  pub rows : r.spent ≡ false → RowsKept lay q w' r.at.top
+  pub rows : (at : Progress) → r ≡ Some at → RowsKept lay q w' at.top

@@ -13,7 +13,7 @@ use join_check::Tally;
 use join_check::keys::range_end;
 use join_index::Layout;
 use join_nodes::blocks::merged_end;
-use join_nodes::{Progress, WalkSettings, Walked};
+use join_nodes::{Progress, WalkSettings};
 use kept_rows::clear_rows;
 
 pub mod heaviest;
@@ -29,7 +29,7 @@ fn visit_partitions(
     lo: usize,
     hi: usize,
     p: Progress,
-) -> Walked
+) -> Option<Progress>
     requires some_query { SomeQuery (λ q. Partitions lay st q work.old lo hi p) }
     requires clear_2 { Clear flags.old }
     ensures visited { (q : Query) → Partitions lay st q work.old lo hi p
@@ -40,17 +40,10 @@ fn visit_partitions(
     let mut i = lo;
     while i < hi {
         let j = range_end(work, lay, 0, i, hi);
-        let one = visit_partition(work, flags, lay, st, i, j, r);
-        if one.spent {
-            return one;
-        }
-        r = one.at;
+        r = visit_partition(work, flags, lay, st, i, j, r)?;
         i = j;
     }
-    Walked {
-        at: r,
-        spent: false,
-    }
+    Some(r)
 }
 
 // The whole walk over the index of a query. Empty left sets come first in the order, are in no partition and pair with nothing: they
@@ -61,7 +54,7 @@ pub fn walk(
     lay: Layout,
     st: WalkSettings,
     lefts: usize,
-) -> Walked
+) -> Option<Progress>
     requires some_query { SomeQuery (λ q. WalkReady lay st q work.old lefts) }
     requires clear_2 { Clear flags.old }
     ensures walked { (q : Query) → WalkReady lay st q work.old lefts
@@ -80,10 +73,7 @@ pub fn walk(
         top: lay.rows,
     };
     if lefts == 0 {
-        return Walked {
-            at: begun,
-            spent: false,
-        };
+        return Some(begun);
     }
     let mid = merged_end(work, lay, 0, 0, lefts);
     visit_partitions(work, flags, lay, st, mid, lefts, begun)

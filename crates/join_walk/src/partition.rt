@@ -8,7 +8,7 @@ ghost use Rattle.join_walk.specs.partition.Partition.{SomeRank, Partition, PartV
 use crate::visit::visit_node;
 use join_check::keys::{is_held, key_at};
 use join_index::{Layout, asks_seen};
-use join_nodes::{Progress, WalkSettings, Walked};
+use join_nodes::{Progress, Scope, WalkSettings};
 use kept_rows::keep_list;
 use words::word_at;
 
@@ -22,7 +22,7 @@ pub fn visit_partition(
     lo: usize,
     hi: usize,
     p: Progress,
-) -> Walked
+) -> Option<Progress>
     requires some_rank { SomeRank (λ q r. Partition lay st q work.old lo hi p r) }
     requires clear_2 { Clear flags.old }
     ensures visited { (q : Query) (r : ℕ) → Partition lay st q work.old lo hi p r
@@ -38,18 +38,29 @@ pub fn visit_partition(
     let key = key_at(work, lay, k, 0);
     if asks_seen(rule) {
         let seen = word_at(work, offsets + key);
-        return visit_node(work, flags, lay, st, 1, lo, hi, first, first + seen, p);
+        let node = Scope {
+            depth: 1,
+            lo: lo,
+            hi: hi,
+            from: first,
+            to: first + seen,
+        };
+        return visit_node(work, flags, lay, st, &node, p);
     }
     if is_held(work, lay, key - 1) {
-        return visit_node(work, flags, lay, st, 1, lo, hi, none, none, p);
+        let node = Scope {
+            depth: 1,
+            lo: lo,
+            hi: hi,
+            from: none,
+            to: none,
+        };
+        return visit_node(work, flags, lay, st, &node, p);
     }
     let tally = p.tally;
     let top = keep_list(work, lay, lo, hi, none, none, p.top);
-    Walked {
-        at: Progress {
-            tally: tally,
-            top: top,
-        },
-        spent: false,
-    }
+    Some(Progress {
+        tally: tally,
+        top: top,
+    })
 }

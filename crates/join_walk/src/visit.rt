@@ -13,109 +13,85 @@ use join_index::Layout;
 use join_nodes::block_checks::check_block;
 use join_nodes::decide::decide;
 use join_nodes::enter::enter_node;
-use join_nodes::{Progress, WalkSettings, Walked};
+use join_nodes::{Progress, Scope, WalkSettings};
 
-// Visits a node: the left sets in left_order[lo..hi] begin with its path of d ranks, and its candidates are listed in work[from..to].
-// A child's slot is above everything that its node still needs, and once the other children are done the node needs nothing more. If
-// the heaviest child is the only one, no call is made.
+// Visits a node: its left sets begin with its path, which has as many ranks as its depth. A child's slot is above everything that its
+// node still needs, and once the other children are done the node needs nothing more. If the heaviest child is the only one, no call is
+// made.
 #[cycle(visit_children_visit_node)]
 pub fn visit_node(
     work: &mut [u32],
     flags: &mut [u8],
     lay: Layout,
     st: WalkSettings,
-    d: usize,
-    lo: usize,
-    hi: usize,
-    from: usize,
-    to: usize,
+    node: &Scope,
     p: Progress,
-) -> Walked
-    requires some_path { SomePath (λ q path. Node lay st q path work.old d lo hi from to p) }
+) -> Option<Progress>
+    requires some_path { let n = node.now in SomePath (λ q path. Node lay st q path work.old n.depth n.lo n.hi n.from n.to p) }
     requires clear_2 { Clear flags.old }
-    ensures visited { (q : Query) (path : List ℕ) → Node lay st q path work.old d lo hi from to p
-        → NodeVisited lay st q path work.old work.new d lo hi p.tally result }
+    ensures visited { let n = node.now in (q : Query) (path : List ℕ) → Node lay st q path work.old n.depth n.lo n.hi n.from n.to p
+        → NodeVisited lay st q path work.old work.new n.depth n.lo n.hi p.tally result }
     ensures clear { Clear flags.new }
 {
     let rule = st.rule;
-    let mut e = d;
-    let mut i = lo;
-    let mut j = hi;
-    let mut first = from;
-    let mut last = to;
+    let mut at = *node;
     let mut r = p;
-    while i < j {
-        if !decide(work, lay, rule, e, i, j, first, last) {
-            return check_block(work, lay, st, e, e - 1, i, j, first, last, r);
+    while at.lo < at.hi {
+        if !decide(work, lay, rule, &at) {
+            return check_block(work, lay, st, &at, at.depth - 1, r);
         }
-        let on = enter_node(work, flags, lay, st, e, i, j, first, last, r);
-        let at = on.at;
-        let mid = on.mid;
-        if j <= mid {
-            return Walked {
-                at: at,
-                spent: on.spent,
-            };
+        let on = enter_node(work, flags, lay, st, &at, r)?;
+        r = on.at;
+        if at.hi <= on.mid {
+            return Some(r);
         }
-        let heavy = heaviest_range(work, lay, e, mid, j);
-        first = on.from;
-        last = on.to;
-        r = at;
-        if heavy.hi - heavy.lo < j - mid {
-            let below = visit_children(work, flags, lay, st, e, mid, heavy.lo, first, last, at);
-            if below.spent {
-                return below;
-            }
-            let above = visit_children(work, flags, lay, st, e, heavy.hi, j, first, last, below.at);
-            if above.spent {
-                return above;
-            }
-            r = above.at;
+        let end = at.hi;
+        let heavy = heaviest_range(work, lay, at.depth, on.mid, end);
+        at.lo = on.mid;
+        at.from = on.from;
+        at.to = on.to;
+        if heavy.hi - heavy.lo < end - at.lo {
+            at.hi = heavy.lo;
+            r = visit_children(work, flags, lay, st, &at, r)?;
+            at.lo = heavy.hi;
+            at.hi = end;
+            r = visit_children(work, flags, lay, st, &at, r)?;
         }
-        e += 1;
-        i = heavy.lo;
-        j = heavy.hi;
+        at.depth += 1;
+        at.lo = heavy.lo;
+        at.hi = heavy.hi;
     }
-    Walked {
-        at: r,
-        spent: false,
-    }
+    Some(r)
 }
 
-// Visits the children of a node of d ranks: the left sets in left_order[lo..hi] go on after its path, and the candidates after it are
-// listed in work[from..to].
+// Visits the children of a node: its left sets go on after its path, and the candidates are those after it.
 #[cycle(visit_children_visit_node)]
 pub fn visit_children(
     work: &mut [u32],
     flags: &mut [u8],
     lay: Layout,
     st: WalkSettings,
-    d: usize,
-    lo: usize,
-    hi: usize,
-    from: usize,
-    to: usize,
+    node: &Scope,
     p: Progress,
-) -> Walked
-    requires some_path { SomePath (λ q path. ChildrenAt lay st q path work.old d lo hi from to p) }
+) -> Option<Progress>
+    requires some_path { let n = node.now in SomePath (λ q path. ChildrenAt lay st q path work.old n.depth n.lo n.hi n.from n.to p) }
     requires clear_2 { Clear flags.old }
-    ensures visited { (q : Query) (path : List ℕ) → ChildrenAt lay st q path work.old d lo hi from to p
-        → ChildrenVisited lay st q path work.old work.new d lo hi p.tally result }
+    ensures visited { let n = node.now in (q : Query) (path : List ℕ) → ChildrenAt lay st q path work.old n.depth n.lo n.hi n.from n.to p
+        → ChildrenVisited lay st q path work.old work.new n.depth n.lo n.hi p.tally result }
     ensures clear { Clear flags.new }
 {
     let mut r = p;
-    let mut i = lo;
-    while i < hi {
-        let j = range_end(work, lay, d, i, hi);
-        let one = visit_node(work, flags, lay, st, d + 1, i, j, from, to, r);
-        if one.spent {
-            return one;
-        }
-        r = one.at;
+    let mut i = node.lo;
+    while i < node.hi {
+        let j = range_end(work, lay, node.depth, i, node.hi);
+        let child = Scope {
+            depth: node.depth + 1,
+            lo: i,
+            hi: j,
+            ..*node
+        };
+        r = visit_node(work, flags, lay, st, &child, r)?;
         i = j;
     }
-    Walked {
-        at: r,
-        spent: false,
-    }
+    Some(r)
 }

@@ -14,7 +14,7 @@ use Rattle.words.specs.flags.Flags.{Behind}
 use Rattle.words.specs.copies.Copies.{Copied}
 use Rattle.join_index.specs.Asking.{SomeQuery, Index}
 use Rattle.join_index.specs.Ranges.{left_in}
-use Rattle.join_index.proofs.Orders.{order_within, range_left}
+use Rattle.join_index.proofs.Orders.{range_left}
 use Rattle.kept_rows.specs.Kept.{containing, RowIs, RowsKept}
 use Rattle.kept_rows.specs.Keeping.{WordsRoom, row_stored, ShareThere, Shared, ListThere, ListKept}
 use Rattle.kept_rows.proofs.RowLaws.{index_kept, row_moved, rows_grown, rows_stored, words_room}
@@ -36,17 +36,10 @@ pub record Sharing (lay : Layout) (w₀ : List ℕ) (lo hi from to : ℕ) (w : L
   pub part : lay.rows ≤ from → slice from to w ≡ slice from to w₀
 
 module _ {lay : Layout} {w₀ : List ℕ} {lo hi from to : ℕ} where
-  pub sharing_start : Sharing lay w₀ lo hi from to w₀ lo
-  sharing_start =
-      record { size = refl; frame = refl; low = omega arith; rows = λ q there. there.rows; part = λ low. refl }
-
   module _ {w : List ℕ} {i : ℕ} (so : Sharing lay w₀ lo hi from to w i) where
     module _ {q : Query} (there : ShareThere lay q w₀ lo hi from to) (more : i < hi) where
       sharing_index : Index lay q w
       sharing_index = index_kept so.frame so.size there.index
-
-      pub sharing_read : lay.left_order + i < length w
-      sharing_read = omega (arith, order_within sharing_index, there.within, more)
 
       module _ {k : ℕ} (word : Word w (lay.left_order + i) k) where
         below : k < length q.lefts
@@ -81,9 +74,6 @@ module _ {lay : Layout} {w₀ : List ℕ} {lo hi from to : ℕ} where
           rows = λ q there. sharing_rows there more word;
           part = λ low. stored_slice g k from to here from to low ∙ so.part low;
         })
-
-    pub sharing_end : Shared lay w₀ lo hi from to w
-    sharing_end = record { size = so.size; frame = so.frame; rows = so.rows }
 
 -- a copy of the part at the end of the rows is the row of the left sets
 module _ {lay : Layout} {w : List ℕ} {lo hi from to top : ℕ} where

@@ -37,14 +37,12 @@ pub fn record_row(
     let p = probe_left(work, lay, k, e);
     let mut r = tally;
     let mut n = top;
-    let mut i = from;
-    while i < to {
+    for i in from..to {
         let s = word_at(work, i);
         let before = r.confirmed;
         r = check_one(work, lay, p, s, r);
         work[n] = s as u32;
         n += (r.confirmed - before) as usize;
-        i += 1;
     }
     keep_row(work, lay, k, top, n);
     Recorded { tally: r, top: n }

@@ -18,11 +18,7 @@ pub fn clear_rows(work: &mut [u32], lay: Layout, lefts: usize)
     ensures { Cleared lay work.old lefts work.new }
 {
     let row_starts = lay.row_starts;
-    let mut k: usize = 0;
-    while k < lefts {
-        work[row_starts + k] = 0;
-        k += 1;
-    }
+    work[row_starts..row_starts + lefts].fill(0);
 }
 
 // The row of the left set k is work[from..to].
@@ -40,11 +36,9 @@ fn share_row(work: &mut [u32], lay: Layout, lo: usize, hi: usize, from: usize, t
     ensures { Shared lay work.old lo hi from to work.new }
 {
     let order = lay.left_order;
-    let mut j = lo;
-    while j < hi {
+    for j in lo..hi {
         let k = word_at(work, order + j);
         keep_row(work, lay, k, from, to);
-        j += 1;
     }
 }
 

@@ -6,15 +6,18 @@ ghost use Rattle.std.specs.Prelude.{◌≡◌, not, eqb, length};
 ghost use Rattle.tag_file.specs.Repeats.{record_read};
 ghost use Rattle.tag_file.specs.answers.Words.{read_words, load_words};
 ghost use Rattle.join_spec.specs.Answer.{room_of, join_words, JoinCall};
-ghost use Rattle.inputs.specs.Input.{lent_input};
+ghost use Rattle.inputs.specs.Input.{input_of};
 ghost use Rattle.join.specs.Numbered.{weights_of, numbered_answer};
 ghost use Rattle.first_search_spec.specs.First.{first_answer, first_words};
 ghost use Rattle.item_order_spec.specs.Order.{order_answer, order_ranks, order_words};
-ghost use Rattle.tag_file.specs.Loading.{lent_lists, read_lists, returned_lists, load_answer, LoadCall};
+ghost use Rattle.tag_file.specs.Loading.{lent_lists, lists_of, returned_lists, load_answer, LoadCall};
 ghost use Rattle.pool_loader_spec.specs.Pooling.{pooled_answer, PooledCall};
 ghost use Rattle.tag_writer_spec.specs.Writer.{write_answer, written_file, write_words};
 
+use inputs::Input;
 use join_spec::Weights;
+use sets::Sets;
+use tag_file::{Lists, NumberedSets};
 
 // Joins two collections.
 #[unsafe(no_mangle)]
@@ -37,24 +40,28 @@ pub extern "C" fn kitfinder_join(
     answer: &mut [u64; 9],
 )
     ensures answer { answer.new ≡ join_words (numbered_answer
-        (lent_input t left_ends left_items right_ends right_items)
+        (input_of t left_ends.now left_items.now right_ends.now right_items.now)
         limit ranks.now budget number (weights_of a b g h) (room_of work.old pairs.old)) }
     ensures lists { JoinCall (numbered_answer
-        (lent_input t left_ends left_items right_ends right_items)
+        (input_of t left_ends.now left_items.now right_ends.now right_items.now)
         limit ranks.now budget number (weights_of a b g h) (room_of work.old pairs.old))
-        (lent_input t left_ends left_items right_ends right_items)
+        (input_of t left_ends.now left_items.now right_ends.now right_items.now)
         work.old pairs.old work.new pairs.new
         (numbered_answer
-        (lent_input t left_ends left_items right_ends right_items)
+        (input_of t left_ends.now left_items.now right_ends.now right_items.now)
         limit ranks.now budget number (weights_of a b g h) (room_of work.old pairs.old)) }
 {
+    let left = Sets {
+        ends: left_ends,
+        items: left_items,
+    };
+    let right = Sets {
+        ends: right_ends,
+        items: right_items,
+    };
     let weights = Weights { a, b, g, h };
     *answer = join_spec::answers::join_words(join::run_numbered(
-        t,
-        left_ends,
-        left_items,
-        right_ends,
-        right_items,
+        &Input { t, left, right },
         limit,
         ranks,
         budget,
@@ -77,9 +84,11 @@ pub extern "C" fn kitfinder_first(
     ensures answer { answer.new ≡ first_words (first_answer t
         (record { ends = left_ends.now; items = left_items.now }) right.now) }
 {
-    *answer = first_search_spec::first_words(first_search::find_first(
-        t, left_ends, left_items, right,
-    ));
+    let left = Sets {
+        ends: left_ends,
+        items: left_items,
+    };
+    *answer = first_search_spec::first_words(first_search::find_first(t, &left, right));
 }
 
 // Reads the record at a place of a tag file.
@@ -103,18 +112,22 @@ pub extern "C" fn kitfinder_order(
     answer: &mut [u64; 3],
 )
     ensures answer { answer.new ≡ order_words (order_answer
-        (lent_input t left_ends left_items right_ends right_items)
+        (input_of t left_ends.now left_items.now right_ends.now right_items.now)
         (length ranks.old)) }
     ensures ranks { ranks.new ≡ order_ranks
-        (lent_input t left_ends left_items right_ends right_items)
+        (input_of t left_ends.now left_items.now right_ends.now right_items.now)
         (not (eqb falling 0)) ranks.old }
 {
+    let left = Sets {
+        ends: left_ends,
+        items: left_items,
+    };
+    let right = Sets {
+        ends: right_ends,
+        items: right_items,
+    };
     *answer = item_order_spec::order_words(item_order::order(
-        t,
-        left_ends,
-        left_items,
-        right_ends,
-        right_items,
+        &Input { t, left, right },
         falling != 0,
         ranks,
     ));
@@ -203,19 +216,27 @@ pub extern "C" fn kitfinder_write(
     answer: &mut [u64; 4],
 )
     ensures answer { answer.new ≡ write_words (write_answer t
-        (read_lists tags left_numbers left_ends left_items right_numbers right_ends right_items) (length file.old)) }
+        (lists_of tags.now left_numbers.now left_ends.now left_items.now right_numbers.now right_ends.now right_items.now) (length file.old)) }
     ensures file { file.new ≡ written_file t
-        (read_lists tags left_numbers left_ends left_items right_numbers right_ends right_items) file.old }
+        (lists_of tags.now left_numbers.now left_ends.now left_items.now right_numbers.now right_ends.now right_items.now) file.old }
 {
+    let left = NumberedSets {
+        numbers: left_numbers,
+        sets: Sets {
+            ends: left_ends,
+            items: left_items,
+        },
+    };
+    let right = NumberedSets {
+        numbers: right_numbers,
+        sets: Sets {
+            ends: right_ends,
+            items: right_items,
+        },
+    };
     *answer = tag_writer_spec::write_words(tag_writer::write(
         t,
-        tags,
-        left_numbers,
-        left_ends,
-        left_items,
-        right_numbers,
-        right_ends,
-        right_items,
+        &Lists { tags, left, right },
         file,
     ));
 }

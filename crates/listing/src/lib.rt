@@ -3,8 +3,7 @@
 // The text is defined in `listing_spec`.
 #![tactic(auto)]
 
-ghost use Rattle.std.specs.Prelude.{◌≡◌, ◌≤◌, length};
-ghost use Rattle.sets.specs.Limits.{max_sets};
+ghost use Rattle.std.specs.Prelude.{◌≤◌, length};
 ghost use Rattle.sets.specs.Refusals.{unless};
 ghost use Rattle.tag_file.specs.Records.{records};
 ghost use Rattle.tag_file.specs.Loading.{file_fault};
@@ -12,11 +11,13 @@ ghost use Rattle.text.specs.Lines.{refusal_line};
 ghost use Rattle.join_text.specs.JoinText.{FillsText};
 ghost use Rattle.join_text.specs.Inner.{text_room};
 ghost use Rattle.listing_spec.specs.Listing.{max_file, records_text, listing};
-ghost use Rattle.listing_spec.specs.Inner.{table_bytes, side_items, Within, cut_text};
+ghost use Rattle.listing_spec.specs.Inner.{Within, cut_text};
 
+use inputs::Input;
 use join_text::{MAX_PAIRS, list_loaded};
-use sets::{MAX_ITEMS, MAX_SETS, Refusal};
-use tag_file::{LoadAnswer, Loaded, Repeats, TAG_LENGTH};
+use lists::filled;
+use sets::{MAX_ITEMS, MAX_SETS, Refusal, Sets};
+use tag_file::{Loaded, Repeats, TAG_LENGTH};
 use text::number_lines::put_refusal;
 
 // The longest file that is read.
@@ -51,44 +52,26 @@ fn list_counted(
     let items = loaded.tag_count;
     let left_sets = loaded.left_sets;
     let right_sets = loaded.right_sets;
-    let left_entries = loaded.left_entries;
-    let right_entries = loaded.right_entries;
+    let left = Sets {
+        ends: &left_ends[..left_sets],
+        items: &left_items[..loaded.left_entries],
+    };
+    let right = Sets {
+        ends: &right_ends[..right_sets],
+        items: &right_items[..loaded.right_entries],
+    };
     list_loaded(
         repeats,
-        items as u32,
+        &Input {
+            t: items as u32,
+            left,
+            right,
+        },
         &left_numbers[..left_sets],
-        &left_ends[..left_sets],
-        &left_items[..left_entries],
         &right_numbers[..right_sets],
-        &right_ends[..right_sets],
-        &right_items[..right_entries],
         &mut ranks[..items],
         text,
     )
-}
-
-fn new_tags() -> [u8; TABLE]
-    ensures { table_bytes ≡ length result }
-{
-    [0; TABLE]
-}
-
-fn new_places() -> [u16; MAX_SETS]
-    ensures { max_sets ≡ length result }
-{
-    [0; MAX_SETS]
-}
-
-fn new_ends() -> [u32; MAX_SETS]
-    ensures { max_sets ≡ length result }
-{
-    [0; MAX_SETS]
-}
-
-fn new_items() -> [u16; ITEMS]
-    ensures { side_items ≡ length result }
-{
-    [0; ITEMS]
 }
 
 // The text of a file that is not too long. The lists hold every such file without a fault.
@@ -97,14 +80,14 @@ fn list_short(file: &[u8], text: &mut [u8]) -> usize
     ensures { FillsText (unless refusal_line (file_fault file.now) (records_text (records file.now)))
         text.old result text.new }
 {
-    let mut tags = new_tags();
-    let mut left_numbers = new_places();
-    let mut left_ends = new_ends();
-    let mut left_items = new_items();
-    let mut right_numbers = new_places();
-    let mut right_ends = new_ends();
-    let mut right_items = new_items();
-    let mut ranks = new_places();
+    let mut tags: [u8; TABLE] = filled(0);
+    let mut left_numbers: [u16; MAX_SETS] = filled(0);
+    let mut left_ends: [u32; MAX_SETS] = filled(0);
+    let mut left_items: [u16; ITEMS] = filled(0);
+    let mut right_numbers: [u16; MAX_SETS] = filled(0);
+    let mut right_ends: [u32; MAX_SETS] = filled(0);
+    let mut right_items: [u16; ITEMS] = filled(0);
+    let mut ranks: [u16; MAX_SETS] = filled(0);
     let answer = tag_loader::load(
         file,
         &mut tags,
@@ -116,7 +99,7 @@ fn list_short(file: &[u8], text: &mut [u8]) -> usize
         &mut right_items,
     );
     match answer {
-        LoadAnswer::Loaded(loaded, repeats) => list_counted(
+        Ok((loaded, repeats)) => list_counted(
             loaded,
             repeats,
             &left_numbers,
@@ -128,7 +111,7 @@ fn list_short(file: &[u8], text: &mut [u8]) -> usize
             &mut ranks,
             text,
         ),
-        LoadAnswer::Refused(why) => put_refusal(text, why),
+        Err(why) => put_refusal(text, why),
     }
 }
 

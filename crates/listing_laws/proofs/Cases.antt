@@ -10,6 +10,7 @@ use native.Mathlib.Omega.{arith}
 use borrow.Author.Tests.{ltb-true, ltb-false, lt-ltb, le-ltb}
 use lib.Dec.{ltb}
 use lib.ListN.{length, get_or, length-map}
+use Rattle.std.specs.Prelude.{Result, Err, Ok, ⊤}
 use Rattle.lists.specs.Lists.{one}
 use Rattle.lists.proofs.Bools.{same_test}
 use Rattle.sets.specs.Limits.{max_sets, full_words}
@@ -17,15 +18,11 @@ use Rattle.sets.specs.Refusals.{unless}
 use Rattle.sets.specs.declared.Side.{Side}
 use Rattle.sets.specs.declared.Side.TheVariants.{Left, Right}
 use Rattle.sets.specs.declared.Refusal.TheVariants.{ShortWork, ShortPairs}
-use Rattle.sets.specs.declared.Tested.{Tested}
-use Rattle.sets.specs.declared.Tested.TheVariants.{Passed, Failed}
 use Rattle.inputs.specs.Input.{Input, left_sets, right_sets}
 use Rattle.inputs.specs.Tests.{words_needed}
 use Rattle.inputs.proofs.TestLaws.{BothGood, good_sets, work_short}
 use Rattle.item_order_spec.specs.Order.{rank_table}
 use Rattle.item_order_spec.proofs.Ranks.{ranks_permutation}
-use Rattle.join_spec.specs.declared.JoinAnswer.{JoinAnswer}
-use Rattle.join_spec.specs.declared.JoinAnswer.TheVariants.{Joined, Refused}
 use Rattle.join_spec.specs.declared.Rule.TheVariants.{Merge}
 use Rattle.join_spec.specs.PairList.{pair_list, pair_count}
 use Rattle.join_spec.specs.Query.{Query, query_of}
@@ -49,6 +46,8 @@ use Rattle.join_text.specs.JoinText.{work_words, pair_places, program_room, prog
 use Rattle.listing_spec.specs.Listing.{records_input, records_text, length_test, listing}
 use Rattle.listing_spec.proofs.LoadRoom.{fault_free}
 use Rattle.listing_laws.proofs.Sizes.{records_size, words_records}
+use Rattle.join_spec.specs.declared.Counts.{Counts}
+use Rattle.sets.specs.declared.Refusal.{Refusal}
 
 -- the sets of a side's records, by place
 abbrev pub side_sets : Side → List TagRecord → List (List ℕ)
@@ -95,12 +94,12 @@ pair_size n =
     (λ e. let h = ltb-true 8192 n e in lt-ltb pair_places (2 * n) (omega arith))
 
 -- an answer over one of two
-text_either : (repeats : Repeats) (ln rn pairs : List ℕ) (b : Bool) (x y : JoinAnswer)
+text_either : (repeats : Repeats) (ln rn pairs : List ℕ) (b : Bool) (x y : Result Counts Refusal)
     → answer_text repeats ln rn pairs (cond b x y) ≡ cond b (answer_text repeats ln rn pairs x) (answer_text repeats ln rn pairs y)
 text_either repeats ln rn pairs true x y = refl
 text_either repeats ln rn pairs false x y = refl
 
-module _ (file : List ℕ) (low : (i : ℕ) → get_or file i 0 < 256) (clear : file_fault file ≡ Passed) where
+module _ (file : List ℕ) (low : (i : ℕ) → get_or file i 0 < 256) (clear : file_fault file ≡ Ok tt) where
   abbrev rs : List TagRecord
   rs = records file
 
@@ -135,7 +134,7 @@ module _ (file : List ℕ) (low : (i : ℕ) → get_or file i 0 < 256) (clear : 
       omega (arith, total_small is_check (records_query rs) (few Left) (few Right))
 
   walked : walk_answer (records_query rs) (full_words - 1) pair_places
-      ≡ cond (ltb 8192 (pair_count (side_sets Left rs) (side_sets Right rs))) (Refused ShortPairs) (Joined (counts_of (records_query rs)))
+      ≡ cond (ltb 8192 (pair_count (side_sets Left rs) (side_sets Right rs))) (Err ShortPairs) (Ok (counts_of (records_query rs)))
   unfolding walk_answer
   walked =
       rw (
@@ -145,7 +144,7 @@ module _ (file : List ℕ) (low : (i : ℕ) → get_or file i 0 < 256) (clear : 
 
   answered : (b : Bool) → ltb work_words (words_needed input) ≡ b
       → join_answer input (program_settings input) program_room
-      ≡ cond b (Refused ShortWork) (walk_answer (records_query rs) (full_words - 1) pair_places)
+      ≡ cond b (Err ShortWork) (walk_answer (records_query rs) (full_words - 1) pair_places)
   unfolding join_tests
   answered true short =
       answer_refused input (program_settings input) program_room
@@ -165,7 +164,7 @@ module _ (file : List ℕ) (low : (i : ℕ) → get_or file i 0 < 256) (clear : 
       let pairs = pair_list (side_sets Left rs) (side_sets Right rs) in
       ap₂ (answer_text repeats ln rn) (ap₂ pair_list (lefts_are rs) (rights_are rs))
       (answered (ltb 1020 (records_size rs)) (ap (ltb work_words) (words_records rs) ∙ work_size (records_size rs))
-      ∙ ap (cond (ltb 1020 (records_size rs)) (Refused ShortWork)) walked)
+      ∙ ap (cond (ltb 1020 (records_size rs)) (Err ShortWork)) walked)
       ∙ text_either repeats ln rn pairs (ltb 1020 (records_size rs)) _ _
       ∙ ap (cond (ltb 1020 (records_size rs)) (refusal_line ShortWork))
       (text_either repeats ln rn pairs (ltb 8192 (pair_count (side_sets Left rs) (side_sets Right rs))) _ _)
@@ -176,10 +175,10 @@ pub listing_cases : (file : List ℕ) → ((i : ℕ) → get_or file i 0 < 256)
 unfolding listing
 listing_cases file low = ap (unless refusal_line (length_test file)) (by_fault (file_fault file) refl)
   where
-    by_fault : (t : Tested) → file_fault file ≡ t
+    by_fault : (t : Result ⊤ Refusal) → file_fault file ≡ t
         → unless refusal_line t (records_text (records file)) ≡ unless refusal_line t (plain_text (records file))
-    by_fault Passed clear = records_text_lem file low clear
-    by_fault (Failed why) fault = refl
+    by_fault (Ok _) clear = records_text_lem file low clear
+    by_fault (Err why) fault = refl
 
 -- each pair of records is listed once where the left one has a tag and each of its tags is a tag of the right one, else not at all
 pub listed_pairs : (rs : List TagRecord) (l r : ℕ)

@@ -6,13 +6,12 @@ use mathlib.Core.Bool.{Bool, true, false, cond}
 use borrow.Author.Tests.{leb-true}
 use lib.Dec.{eqb, leb}
 use lib.ListN.{length}
+use Rattle.std.specs.Prelude.{Result, Err, Ok, ⊤}
 use Rattle.sets.specs.Refusals.{row_of, refuse_if, unless}
 use Rattle.sets.specs.declared.Side.{Side}
 use Rattle.sets.specs.declared.Side.TheVariants.{Left, Right}
 use Rattle.sets.specs.declared.Refusal.{Refusal}
 use Rattle.sets.specs.declared.Refusal.TheVariants.{Malformed, NumberUsed, TooMany}
-use Rattle.sets.specs.declared.Tested.{Tested}
-use Rattle.sets.specs.declared.Tested.TheVariants.{Passed, Failed}
 use Rattle.tag_file.specs.declared.ReadAnswer.{ReadAnswer}
 use Rattle.tag_file.specs.declared.ReadAnswer.TheVariants.{NoMore, Refused}
 use Rattle.tag_file.specs.Reading.{marked, whole_at, record_at, read_at}
@@ -20,13 +19,13 @@ use Rattle.tag_file.specs.Records.{TagRecord, records, total_length}
 use Rattle.tag_file.specs.Loading.{number_used, too_many, fault_of, first_fault, refusal_of, file_fault}
 
 -- whether a test fails with a number up to 3 if it fails
-unfoldable early : Tested → Bool
-early Passed = true
-early (Failed why) = leb (row_of why).number 3
+unfoldable early : Result ⊤ Refusal → Bool
+early (Ok _) = true
+early (Err why) = leb (row_of why).number 3
 
-unless_early : (first later : Tested) → early first ≡ true → early later ≡ true → early (unless Failed first later) ≡ true
-unless_early Passed later e d = d
-unless_early (Failed why) later e d = e
+unless_early : (first later : Result ⊤ Refusal) → early first ≡ true → early later ≡ true → early (unless Err first later) ≡ true
+unless_early (Ok _) later e d = d
+unless_early (Err why) later e d = e
 
 used_early : (b : Bool) (place : ℕ) → early (refuse_if b (NumberUsed place)) ≡ true
 unfolding early
@@ -46,7 +45,7 @@ fault_early seen r =
     (used_early (number_used seen r) (total_length seen))
     (many_early (too_many r.side (seen ++ (r ∷ []))) (total_length seen))
 
-first_early : (seen rs : List TagRecord) (last : Tested) → early last ≡ true → early (first_fault seen rs last) ≡ true
+first_early : (seen rs : List TagRecord) (last : Result ⊤ Refusal) → early last ≡ true → early (first_fault seen rs last) ≡ true
 unfolding first_fault
 first_early seen [] last e = e
 first_early seen (r ∷ rs) last e =
@@ -70,7 +69,7 @@ read_early file at =
     (either_early (marked Left file at) (record_at Left file at) _ (record_early Left file at)
     (either_early (marked Right file at) (record_at Right file at) (Refused (Malformed at)) (record_early Right file at) refl))
 
-pub fault_number : (file : List ℕ) {why : Refusal} → file_fault file ≡ Failed why → (row_of why).number ≤ 3
+pub fault_number : (file : List ℕ) {why : Refusal} → file_fault file ≡ Err why → (row_of why).number ≤ 3
 unfolding file_fault early
 fault_number file {why} e =
     let last = refusal_of (read_at file (total_length (records file))) in

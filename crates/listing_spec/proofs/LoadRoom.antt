@@ -7,12 +7,12 @@ use mathlib.Core.Bool.{Bool, true, false}
 use native.Mathlib.Omega.{arith}
 use borrow.Author.Tests.{le-leb}
 use lib.ListN.{length}
+use Rattle.std.specs.Prelude.{Ok}
 use Rattle.lists.specs.Lists.{onto, keep, sum}
 use Rattle.lists.proofs.Bools.{and_both}
 use Rattle.sets.specs.Limits.{max_sets}
 use Rattle.sets.specs.declared.Side.{Side}
 use Rattle.sets.specs.declared.Side.TheVariants.{Left, Right}
-use Rattle.sets.specs.declared.Tested.TheVariants.{Passed}
 use Rattle.tag_file.specs.Format.{tag_length}
 use Rattle.tag_file.specs.Records.{TagRecord, records, total_length, same_side, of_side, entries_of, collapse, tag_table}
 use Rattle.tag_file.specs.Loading.{Lists, file_fault, filled, fits, room_for}
@@ -44,7 +44,7 @@ pub record ProgramLists (lent : Lists) : Type 0 where
   pub right_ends : max_sets ≡ length lent.right_ends
   pub right_items : side_items ≡ length lent.right_items
 
-module _ (file : List ℕ) (clear : file_fault file ≡ Passed) where
+module _ (file : List ℕ) (clear : file_fault file ≡ Ok tt) where
   pub fault_free : FaultFree (records file)
   fault_free = file_free file clear
 

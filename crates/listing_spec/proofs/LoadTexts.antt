@@ -5,16 +5,13 @@ use mathlib.Core.Path.{◌≡◌, refl, sym, ap, ap₂, subst, ◌∙◌}
 use mathlib.Core.List.{List}
 use native.Mathlib.Omega.{arith}
 use lib.ListN.{length}
+use Rattle.std.specs.Prelude.{Result, Err, Ok, ⊤}
 use Rattle.sets.specs.Limits.{max_items}
 use Rattle.sets.specs.Refusals.{unless}
 use Rattle.sets.specs.declared.Refusal.{Refusal}
 use Rattle.sets.specs.declared.Side.TheVariants.{Left, Right}
-use Rattle.sets.specs.declared.Tested.{Tested}
-use Rattle.sets.specs.declared.Tested.TheVariants.{Passed, Failed}
 use Rattle.tag_file.specs.declared.Loaded.{Loaded}
 use Rattle.tag_file.specs.declared.Repeats.{Repeats}
-use Rattle.tag_file.specs.declared.LoadAnswer.{LoadAnswer}
-use Rattle.tag_file.specs.declared.LoadAnswer.TheVariants as load
 use Rattle.tag_file.specs.Records.{records}
 use Rattle.tag_file.specs.Loading.{Lists, file_fault, filled, totals_of, load_answer, LoadCall}
 use Rattle.tag_file.proofs.ItemCount.{length-numbers_of, length-ends_of, length-flat_items}
@@ -38,10 +35,10 @@ lists_text repeats T l =
 abbrev short_text : List ℕ → List ℕ
 short_text file = unless refusal_line (file_fault file) (records_text (records file))
 
-module _ (file : List ℕ) {lent got : Lists} {answer : LoadAnswer} (call : LoadCall file lent got answer) where
-  module _ {loaded : Loaded} {repeats : Repeats} (loads : answer ≡ load.Loaded loaded repeats) where
-    loaded_call : LoadCall file lent got (load.Loaded loaded repeats)
-    loaded_call = subst (λ (a : LoadAnswer). LoadCall file lent got a) loads call
+module _ (file : List ℕ) {lent got : Lists} {answer : Result (Loaded × Repeats) Refusal} (call : LoadCall file lent got answer) where
+  module _ {loaded : Loaded} {repeats : Repeats} (loads : answer ≡ Ok (loaded, repeats)) where
+    loaded_call : LoadCall file lent got (Ok (loaded, repeats))
+    loaded_call = subst (λ (a : Result (Loaded × Repeats) Refusal). LoadCall file lent got a) loads call
 
     pub loaded_text : cut_text loaded repeats got.left_numbers got.left_ends got.left_items got.right_numbers
         got.right_ends got.right_items ≡ short_text file
@@ -50,7 +47,7 @@ module _ (file : List ℕ) {lent got : Lists} {answer : LoadAnswer} (call : Load
         ap₂ (lists_text repeats) (ap (λ (c : Loaded). c.tag_count) (load_counts file loaded_call)) (load-filled file loaded_call)
         ∙ ap (λ (r : Repeats). lists_text r (totals_of (records file)).tag_count (filled (records file)))
         (load_repeats file loaded_call)
-        ∙ ap (λ (t : Tested). unless refusal_line t (records_text (records file))) (sym clear)
+        ∙ ap (λ (t : Result ⊤ Refusal). unless refusal_line t (records_text (records file))) (sym clear)
 
     -- the counts lie within lists as long as those that were lent
     pub loaded_within : (ranks text : List ℕ) → max_items ≤ length ranks → text_room ≤ length text
@@ -79,20 +76,20 @@ module _ (file : List ℕ) {lent got : Lists} {answer : LoadAnswer} (call : Load
           room = room;
         })
 
-  pub refused_load : {why : Refusal} → answer ≡ load.Refused why → ProgramLists lent → length file ≤ max_file
+  pub refused_load : {why : Refusal} → answer ≡ Err why → ProgramLists lent → length file ≤ max_file
       → refusal_line why ≡ short_text file
   refused_load {why} e lists short = by_fault (file_fault file) refl
     where
-      refused : load_answer file lent ≡ load.Refused why
+      refused : load_answer file lent ≡ Err why
       refused = sym call.answered ∙ e
 
-      same_refusal : (a b : Refusal) → load.Refused a ≡ load.Refused b → a ≡ b
+      same_refusal : (a b : Refusal) → ◌≡◌ {A = Result (Loaded × Repeats) Refusal} (Err a) (Err b) → a ≡ b
       same_refusal a b e = cc
 
-      apart : {P : Type 0} (l : Loaded) (r : Repeats) → load.Loaded l r ≡ load.Refused why → P
+      apart : {P : Type 0} (l : Loaded) (r : Repeats) → ◌≡◌ {A = Result (Loaded × Repeats) Refusal} (Ok (l, r)) (Err why) → P
       apart l r e = let z : ◌≡◌ {A = ℕ} 0 1 = cc in absurd (omega arith)
 
-      by_fault : (t : Tested) → file_fault file ≡ t → refusal_line why ≡ unless refusal_line t (records_text (records file))
-      by_fault Passed clear = apart _ _ (sym (accepts file lent clear (never_short file clear lent lists short)) ∙ refused)
-      by_fault (Failed w) fault =
+      by_fault : (t : Result ⊤ Refusal) → file_fault file ≡ t → refusal_line why ≡ unless refusal_line t (records_text (records file))
+      by_fault (Ok _) clear = apart _ _ (sym (accepts file lent clear (never_short file clear lent lists short)) ∙ refused)
+      by_fault (Err w) fault =
           ap refusal_line (sym (same_refusal w why (sym (refuses_fault file lent w fault) ∙ refused)))

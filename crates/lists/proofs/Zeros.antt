@@ -1,5 +1,5 @@
--- A list that is being filled with zeros from the front: the invariant of `zero_u8`, `zero_u16` and `zero_u32`, with its
--- start, step and end. One text for the three widths.
+-- A list that is being filled with zeros from the front: an invariant with its start, step and end; and what stands in a list of
+-- zeros.
 use mathlib.Core.Path.{◌≡◌, refl, ap, ◌∙◌}
 use mathlib.Core.List.{List, [], ◌++◌, append-nil}
 use Prim.Native.Nat.{ℕ, zero, suc, ◌+◌, ◌<◌, ◌≤◌}

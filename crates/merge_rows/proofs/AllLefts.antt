@@ -2,22 +2,20 @@
 use Prim.Native.Nat.{ℕ, ◌+◌, ◌*◌, ◌<◌, ◌≤◌}
 use mathlib.Core.Path.{◌≡◌, refl, sym, ap₂, subst, ◌∙◌}
 use mathlib.Core.List.{List, []}
-use mathlib.Core.Bool.{true, false}
 use native.Mathlib.Numerals.{add-one}
 use native.Mathlib.Omega.{arith}
 use lib.ListN.{length, get_or}
 use Rattle.lists.specs.Lists.{sum}
-use Rattle.lists.proofs.Bools.{true-false}
 use Rattle.lists.proofs.Slices.{frame_less, frame_at, rest_at}
 use Rattle.sets.specs.Limits.{max_set_length, full_words}
-use Rattle.sets.specs.Collections.{sets_of, between}
+use Rattle.sets.specs.Collections.{between}
 use Rattle.sets.proofs.Between.{length-sets}
+use Rattle.inputs.specs.Input.{Input, right_sets}
 use Rattle.side_index.specs.inverted.Placing.{start_at}
 use Rattle.side_index.proofs.inverted.Collected.{SetAt, set_at}
-use Rattle.inputs.specs.Input.{input_of}
 use Rattle.join_spec.specs.PairList.{pairs_from}
 use Rattle.join_spec.specs.Query.{Query}
-use Rattle.join_spec.specs.Counting.{is_confirmed, is_dropped, is_false}
+use Rattle.join_spec.specs.Counting.{checks_of, is_confirmed, is_dropped, is_false}
 use Rattle.join_spec.proofs.Demand.{checks_end}
 use Rattle.signatures.specs.Signing.{double}
 use Rattle.merge_rows.specs.declared.Met.{Met}
@@ -26,23 +24,23 @@ use Rattle.merge_rows.specs.Filled.{row_words}
 use Rattle.merge_rows.specs.SignedSets.{Signs}
 use Rattle.merge_rows.specs.ShortLists.{Listed}
 use Rattle.merge_rows.specs.Meeting.{Laid, Ground, CountersRoom, CountersStored}
-use Rattle.merge_rows.specs.Merging.{merge_query, total_to, pairs_to, MetAfter, MetFits, CountersKept, Over, LeftsRoom, SetThere, LeftAdded, AllMet}
+use Rattle.merge_rows.specs.Merging.{merge_query, total_to, pairs_to, MetAfter, MetFits, CountersKept, Over, LeftsRoom, SetThere, LeftAdded, MetAll}
 use Rattle.merge_rows.proofs.ShortWriting.{listed_none, listed_append, listed_take}
 use Rattle.merge_rows.proofs.RowReads.{rows_kept, ground_signs}
 use Rattle.merge_rows.proofs.Totals.{pairs_next, met_next, counters_next, total-upto, total_all}
 use Rattle.merge_rows.proofs.LeftSteps.{lefts_count, met_room, met_fits}
 
 -- the counters of a left set lie above the rows and below the signatures
-stored_ground : {r : Regions} {lefts k : ℕ} {m : Met} {ends items w w' : List ℕ} → Laid r lefts (length ends) w → k < lefts
-    → CountersStored r.counters k m w w' → Ground r ends items w → Ground r ends items w'
-stored_ground {r} {lefts} {k} {m} {ends} {items} {w} {w'} laid place stored ground =
+stored_ground : {r : Regions} {k : ℕ} {m : Met} {i : Input} {w w' : List ℕ} → Laid r i w → k < length i.left.ends
+    → CountersStored r.counters k m w w' → Ground r i.T i.right w → Ground r i.T i.right w'
+stored_ground {r} {k} {m} {i} {w} {w'} laid place stored ground =
     record {
       few = ground.few;
       good = ground.good;
       above = ground.above;
       rows =
           rows_kept ground.rows w' stored.changed.size
-          (frame_less (2 * row_words r.t (length (sets_of ends items))) (r.counters + 3 * k) w w' (omega (arith, below_counters)) stored.changed.low);
+          (frame_less (2 * row_words i.T (length (right_sets i))) (r.counters + 3 * k) w w' (omega (arith, below_counters)) stored.changed.low);
       signed =
           record {
             room = omega (arith, ground.signed.room, stored.changed.size);
@@ -50,8 +48,8 @@ stored_ground {r} {lefts} {k} {m} {ends} {items} {w} {w'} laid place stored grou
           };
     }
   where
-    below_counters : 2 * row_words r.t (length (sets_of ends items)) ≤ r.counters
-    below_counters = subst (λ (n : ℕ). 2 * row_words r.t n ≤ r.counters) (sym (length-sets 0 ends items)) laid.counters
+    below_counters : 2 * row_words i.T (length (right_sets i)) ≤ r.counters
+    below_counters = subst (λ (n : ℕ). 2 * row_words i.T n ≤ r.counters) (sym (length-sets 0 i.right.ends i.right.items)) laid.counters
 
     word : (i : ℕ) → r.counters + 3 * k + 3 ≤ i → get_or w' i 0 ≡ get_or w i 0
     word i past = rest_at 0 (r.counters + 3 * k + 3) i w w' past stored.changed.high
@@ -74,26 +72,26 @@ counters_signs {q} {counters} {k} {at} {rights} {w} {w'} room signs kept j withi
     same : (i : ℕ) → i < at → get_or w' i 0 ≡ get_or w i 0
     same i below = frame_at 0 i at w w' below signs.low
 
-laid_size : {r : Regions} {lefts rights : ℕ} {w w' : List ℕ} → length w' ≡ length w → Laid r lefts rights w → Laid r lefts rights w'
+laid_size : {r : Regions} {i : Input} {w w' : List ℕ} → length w' ≡ length w → Laid r i w → Laid r i w'
 laid_size size laid =
     record { counters = laid.counters; signatures = laid.signatures; hints = laid.hints; end = omega (arith, size, laid.end) }
 
 -- after k left sets, the next of which begins at start
-pub record LeftsMet (r : Regions) (left_ends left_items ends items : List ℕ) (limit : ℕ) (ranks : List ℕ) (budget : ℕ)
+pub record LeftsMet (r : Regions) (i : Input) (limit : ℕ) (ranks : List ℕ) (budget : ℕ)
     (was wasPath wasPairs is path pairs : List ℕ) (m : Met) (start k : ℕ) : Type 0 where
-  pub over : Over r (input_of r.t left_ends left_items ends items) limit ranks is
-  pub place : k ≤ length left_ends
-  pub here : start ≡ start_at left_ends k
-  pub met : MetAfter (merge_query r.t left_ends left_items ends items limit ranks) k m
-  pub counters : (j : ℕ) → j < k → CountersKept (merge_query r.t left_ends left_items ends items limit ranks) r.counters j is
-  pub listed : Listed wasPairs 0 (pairs_to (merge_query r.t left_ends left_items ends items limit ranks) k) m.at pairs
+  pub over : Over r i limit ranks is
+  pub place : k ≤ length i.left.ends
+  pub here : start ≡ start_at i.left.ends k
+  pub met : MetAfter (merge_query i limit ranks) k m
+  pub counters : (j : ℕ) → j < k → CountersKept (merge_query i limit ranks) r.counters j is
+  pub listed : Listed wasPairs 0 (pairs_to (merge_query i limit ranks) k) m.at pairs
   pub calm : m.confirmed + (m.dropped + m.falses) ≤ budget
   pub size : length is ≡ length was
   pub path_size : length path ≡ length wasPath
 
-module _ {r : Regions} {left_ends left_items ends items : List ℕ} {limit : ℕ} {ranks : List ℕ} {budget : ℕ} where
-  pub lefts_start : {w path : List ℕ} (pairs : List ℕ) → LeftsRoom r (input_of r.t left_ends left_items ends items) limit ranks w path
-      → LeftsMet r left_ends left_items ends items limit ranks budget w path pairs w path pairs
+module _ {r : Regions} {i : Input} {limit : ℕ} {ranks : List ℕ} {budget : ℕ} where
+  pub lefts_start : {w path : List ℕ} (pairs : List ℕ) → LeftsRoom r i limit ranks w path
+      → LeftsMet r i limit ranks budget w path pairs w path pairs
       (record { at = 0; confirmed = 0; dropped = 0; falses = 0 }) 0 0
   unfolding pairs_to total_to pairs_from sum
   lefts_start pairs room =
@@ -110,20 +108,18 @@ module _ {r : Regions} {left_ends left_items ends items : List ℕ} {limit : ℕ
       }
 
   module _ {was wasPath wasPairs is path pairs : List ℕ} {m : Met} {start k : ℕ}
-      (c : LeftsMet r left_ends left_items ends items limit ranks budget was wasPath wasPairs is path pairs m start k) where
+      (c : LeftsMet r i limit ranks budget was wasPath wasPairs is path pairs m start k) where
     abbrev q : Query
-    q = merge_query r.t left_ends left_items ends items limit ranks
+    q = merge_query i limit ranks
 
     -- the end
-    pub lefts_end : length left_ends ≤ k → AllMet q budget (record { spent = false; met = m }) wasPairs pairs
+    pub lefts_end : length i.left.ends ≤ k → MetAll q budget m wasPairs pairs
     lefts_end past =
         let all-lefts : k ≡ length q.lefts = omega (arith, c.place, lefts_count c.over.tests) in
         let met = subst (λ (n : ℕ). MetAfter q n m) all-lefts c.met in
         record {
-          size = c.listed.size;
           fits = met_fits c.over.tests c.met c.place;
-          spent = λ over. true-false over refl;
-          calm = λ within.
+          calm =
               omega (
                 arith,
                 c.calm,
@@ -135,16 +131,16 @@ module _ {r : Regions} {left_ends left_items ends items : List ℕ} {limit : ℕ
                 total_all is_dropped q,
                 total_all is_false q,
               );
-          met = λ within. met;
-          listed = λ within. subst (λ (n : ℕ). Listed wasPairs 0 (pairs_to q n) m.at pairs) all-lefts c.listed;
+          met = met;
+          listed = subst (λ (n : ℕ). Listed wasPairs 0 (pairs_to q n) m.at pairs) all-lefts c.listed;
         }
 
-    module _ (more : k < length left_ends) where
+    module _ (more : k < length i.left.ends) where
       -- the left set at hand
-      pub this_set : SetAt r.t k start (get_or left_ends k 0) (get_or q.lefts k []) left_items
+      pub this_set : SetAt i.T k start (get_or i.left.ends k 0) (get_or q.lefts k []) i.left.items
       this_set =
-          subst (λ (s : ℕ). SetAt r.t k s (get_or left_ends k 0) (get_or q.lefts k []) left_items) (sym c.here)
-          (set_at r.t left_ends left_items c.over.tests.good.left k more)
+          subst (λ (s : ℕ). SetAt i.T k s (get_or i.left.ends k 0) (get_or q.lefts k []) i.left.items) (sym c.here)
+          (set_at i.T i.left.ends i.left.items c.over.tests.good.left k more)
 
       pub counters_room : CountersRoom r.counters k m is
       counters_room =
@@ -156,7 +152,7 @@ module _ {r : Regions} {left_ends left_items ends items : List ℕ} {limit : ℕ
           }
 
       module _ {stored : List ℕ} (put : CountersStored r.counters k m is stored) where
-        now_over : Over r (input_of r.t left_ends left_items ends items) limit ranks stored
+        now_over : Over r i limit ranks stored
         now_over =
             record {
               words = c.over.words;
@@ -169,7 +165,7 @@ module _ {r : Regions} {left_ends left_items ends items : List ℕ} {limit : ℕ
         now_counters = counters_next c.counters c.met put
 
         pub set_there : max_set_length ≤ length wasPath
-            → SetThere r (input_of r.t left_ends left_items ends items) limit ranks stored q k (between start (get_or left_ends k 0) left_items)
+            → SetThere r i limit ranks stored k (between start (get_or i.left.ends k 0) i.left.items)
             path pairs m
         set_there longest =
             record {
@@ -183,7 +179,7 @@ module _ {r : Regions} {left_ends left_items ends items : List ℕ} {limit : ℕ
             }
 
         module _ {met : Met} {next nextPairs : List ℕ}
-            (added : LeftAdded q k (between start (get_or left_ends k 0) left_items) m met pairs nextPairs)
+            (added : LeftAdded q k (between start (get_or i.left.ends k 0) i.left.items) m met pairs nextPairs)
             (signs : Signs r.signatures q.rights stored next) where
           place : k < length q.lefts
           place = omega (arith, lefts_count c.over.tests)
@@ -203,31 +199,25 @@ module _ {r : Regions} {left_ends left_items ends items : List ℕ} {limit : ℕ
           lefts_fit = met_fits c.over.tests after (omega arith)
 
           pub lefts_spent : budget < met.confirmed + (met.dropped + met.falses)
-              → AllMet q budget (record { spent = true; met = met }) wasPairs nextPairs
-          lefts_spent over =
-              record {
-                size = all_listed.size;
-                fits = lefts_fit;
-                spent = λ is.
-                    omega (
-                      arith,
-                      over,
-                      checks_end q,
-                      after.confirmed,
-                      after.dropped,
-                      after.falses,
-                      total-upto is_confirmed q (k + 1),
-                      total-upto is_dropped q (k + 1),
-                      total-upto is_false q (k + 1),
-                    );
-                calm = λ within. true-false refl within;
-                met = λ within. true-false refl within;
-                listed = λ within. true-false refl within;
-              }
+              → (length nextPairs ≡ length wasPairs) × (budget < checks_of q)
+          lefts_spent over = (
+            all_listed.size,
+            omega (
+              arith,
+              over,
+              checks_end q,
+              after.confirmed,
+              after.dropped,
+              after.falses,
+              total-upto is_confirmed q (k + 1),
+              total-upto is_dropped q (k + 1),
+              total-upto is_false q (k + 1),
+            ),
+          )
 
           pub lefts_step : (nextPath : List ℕ) → met.confirmed + (met.dropped + met.falses) ≤ budget → length nextPath ≡ length path
-              → LeftsMet r left_ends left_items ends items limit ranks budget was wasPath wasPairs next nextPath nextPairs met
-              (get_or left_ends k 0) (k + 1)
+              → LeftsMet r i limit ranks budget was wasPath wasPairs next nextPath nextPairs met
+              (get_or i.left.ends k 0) (k + 1)
           lefts_step nextPath within same =
               record {
                 over =

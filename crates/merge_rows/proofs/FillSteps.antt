@@ -11,12 +11,12 @@ use lib.Arith.{digits_div, digits_mod}
 use lib.Dec.{eqb, ltb, eqb-zero-suc, eqb-suc-zero, eqb-suc-suc}
 use lib.ListN.{length, take, get_or, length-append, get_or-eq_default}
 use lib.Seq.{take-suc, take_all, length-take-le}
+use Rattle.std.specs.Prelude.{None}
 use Rattle.lists.specs.Lists.{all, any, memb}
 use Rattle.lists.proofs.Bools.{by_test, same_test, true-false, and_left, and_right, and_both, or_left, or_right, or_cases}
 use Rattle.lists.proofs.Throughout.{any_append, any_intro, any_elim}
 use Rattle.sets.specs.Limits.{max_items}
 use Rattle.sets.specs.Collections.{between, sets_of, first_bad}
-use Rattle.sets.specs.declared.Verdict.TheVariants.{Good}
 use Rattle.sets.proofs.Between.{length-sets}
 use Rattle.counting_sort.specs.Sorting.{WordsCleared}
 use Rattle.side_index.specs.inverted.Placing.{start_at}
@@ -217,7 +217,7 @@ pub record RowsFilling (t : ℕ) (ends items was is : List ℕ) (start s : ℕ) 
   pub begins : start ≡ start_at ends s
 
 module _ {t : ℕ} {ends items was is : List ℕ} {start s : ℕ} (filling : RowsFilling t ends items was is start s) (few : t ≤ max_items)
-    (good : first_bad t ends items ≡ Good) (room : 2 * row_words t (length ends) ≤ length was) (below : s < length ends) where
+    (good : first_bad t ends items ≡ None) (room : 2 * row_words t (length ends) ≤ length was) (below : s < length ends) where
   abbrev rights : List (List ℕ)
   rights = sets_of ends items
 

@@ -8,7 +8,7 @@ use native.Mathlib.Omega.{arith}
 use borrow.Author.Tests.{eqb-true, eq-eqb, ltb-true, ltb-false, lt-ltb, le-ltb, leb-true, leb-false, le-leb, lt-leb}
 use lib.Dec.{eqb, ltb, leb}
 use lib.ListN.{length, get_or}
-use Rattle.lists.specs.Lists.{any, memb, upto}
+use Rattle.lists.specs.Lists.{any, memb}
 use Rattle.lists.proofs.Bools.{by_test, true-false, same_test, and_left, and_right, and_both}
 use Rattle.lists.proofs.Counting.{count_agree, count-true}
 use Rattle.lists.proofs.Filtering.{memb-keep}

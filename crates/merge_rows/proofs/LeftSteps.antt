@@ -19,7 +19,7 @@ use Rattle.sets.proofs.Between.{length-sets}
 use Rattle.sets.proofs.Good.{good_places, all_good}
 use Rattle.sets.proofs.Ordered.{below, items_below}
 use Rattle.sets.proofs.Permutation.{permutation_length}
-use Rattle.inputs.specs.Input.{Input, input_of}
+use Rattle.inputs.specs.Input.{Input}
 use Rattle.join_spec.specs.Query.{Query}
 use Rattle.join_spec.specs.Counting.{is_confirmed, is_dropped, is_false}
 use Rattle.join_spec.proofs.Accepted.{Tests}
@@ -36,12 +36,8 @@ use Rattle.merge_rows.proofs.YieldLaws.{yield_size, candidates_few}
 use Rattle.merge_rows.proofs.LeftOutcomes.{LeftIs, Merges, nothing, left_empty, left_short, left_long, yield_members}
 use Rattle.merge_rows.proofs.Totals.{total_few, pairs_few, confirmed_pairs, counters_held}
 
--- the query of an input under Merge
-abbrev pub asked : Input → ℕ → List ℕ → Query
-asked i limit ranks = merge_query i.T i.left.ends i.left.items i.right.ends i.right.items limit ranks
-
 module _ {i : Input} {limit : ℕ} {ranks : List ℕ} {words : ℕ} (ok : Tests i limit ranks words) where
-  pub merges : Merges (asked i limit ranks)
+  pub merges : Merges (merge_query i limit ranks)
   merges =
       record {
         rule = refl;
@@ -54,23 +50,23 @@ module _ {i : Input} {limit : ℕ} {ranks : List ℕ} {words : ℕ} (ok : Tests 
       positive : (n : ℕ) → (n ≡ 0 → ⊥) → 0 < n
       positive n h = omega arith
 
-  pub lefts_count : length (asked i limit ranks).lefts ≡ length i.left.ends
+  pub lefts_count : length (merge_query i limit ranks).lefts ≡ length i.left.ends
   lefts_count = length-sets 0 i.left.ends i.left.items
 
-  pub rights_count : length (asked i limit ranks).rights ≡ length i.right.ends
+  pub rights_count : length (merge_query i limit ranks).rights ≡ length i.right.ends
   rights_count = length-sets 0 i.right.ends i.right.items
 
-  pub lefts_few : length (asked i limit ranks).lefts ≤ max_sets
+  pub lefts_few : length (merge_query i limit ranks).lefts ≤ max_sets
   lefts_few = omega (arith, lefts_count, good_places i.T i.left.ends i.left.items ok.good.left)
 
-  pub rights_few : length (asked i limit ranks).rights ≤ max_sets
+  pub rights_few : length (merge_query i limit ranks).rights ≤ max_sets
   rights_few = omega (arith, rights_count, good_places i.T i.right.ends i.right.items ok.good.right)
 
   -- the counters after some left sets have room for one more, and fit
-  module _ {k : ℕ} {m : Met} (after : MetAfter (asked i limit ranks) k m) where
+  module _ {k : ℕ} {m : Met} (after : MetAfter (merge_query i limit ranks) k m) where
     pub met_room : k < length i.left.ends → MetRoom m (length i.right.ends)
     met_room place =
-        let q = asked i limit ranks in
+        let q = merge_query i limit ranks in
         let within : k ≤ length q.lefts = omega (arith, lefts_count) in
         let next : k + 1 ≤ max_sets = omega (arith, lefts_count, lefts_few) in
         let bound : (k + 1) * length q.rights ≤ max_sets * max_sets = mul-le-mul next rights_few in
@@ -82,7 +78,7 @@ module _ {i : Input} {limit : ℕ} {ranks : List ℕ} {words : ℕ} (ok : Tests 
 
     pub met_confirmed : k < length i.left.ends → m.confirmed + length i.right.ends < full_words
     met_confirmed place =
-        let q = asked i limit ranks in
+        let q = merge_query i limit ranks in
         let within : k ≤ length q.lefts = omega (arith, lefts_count) in
         let next : k + 1 ≤ max_sets = omega (arith, lefts_count, lefts_few) in
         let bound : (k + 1) * length q.rights ≤ max_sets * max_sets = mul-le-mul next rights_few in
@@ -90,7 +86,7 @@ module _ {i : Input} {limit : ℕ} {ranks : List ℕ} {words : ℕ} (ok : Tests 
 
     pub met_fits : k ≤ length i.left.ends → MetFits m
     met_fits place =
-        let q = asked i limit ranks in
+        let q = merge_query i limit ranks in
         let within : k ≤ length q.lefts = omega (arith, lefts_count) in
         let few : k ≤ max_sets = omega (arith, lefts_few) in
         let bound : k * length q.rights ≤ max_sets * max_sets = mul-le-mul few rights_few in
@@ -117,26 +113,25 @@ added {q} {set} {y} {sure} {k} {m} {m'} {was} {is} left listed confirmed dropped
       falses = omega (arith, falses, left.falses);
     }
 
-module _ {r : Regions} {left_ends left_items ends items : List ℕ} {limit : ℕ} {ranks w : List ℕ} {k : ℕ} {set path pairs : List ℕ} {m : Met}
-    (there : SetThere r (input_of r.t left_ends left_items ends items) limit ranks w
-    (merge_query r.t left_ends left_items ends items limit ranks) k set path pairs m) where
+module _ {r : Regions} {i : Input} {limit : ℕ} {ranks w : List ℕ} {k : ℕ} {set path pairs : List ℕ} {m : Met}
+    (there : SetThere r i limit ranks w k set path pairs m) where
   abbrev q : Query
-  q = merge_query r.t left_ends left_items ends items limit ranks
+  q = merge_query i limit ranks
 
   place : k < length q.lefts
   place = omega (arith, lefts_count there.over.tests, there.place)
 
-  good : good_items r.t set ≡ true
+  good : good_items i.T set ≡ true
   good =
-      ap (good_items r.t) there.is
-      ∙ all_at (good_items r.t) [] q.lefts (merges there.over.tests).lefts k place
+      ap (good_items i.T) there.is
+      ∙ all_at (good_items i.T) [] q.lefts (merges there.over.tests).lefts k place
 
   short : length set ≤ max_set_length
-  short = leb-true (length set) max_set_length (and_left (leb (length set) max_set_length) (below r.t set && rising set) good)
+  short = leb-true (length set) max_set_length (and_left (leb (length set) max_set_length) (below i.T set && rising set) good)
 
   -- with a path, and what candidates must hold besides
-  along_path : (list more : List ℕ) → 0 < length list → below r.t list ≡ true → below r.t more ≡ true
-      → PathThere r ends items w k list more m
+  along_path : (list more : List ℕ) → 0 < length list → below i.T list ≡ true → below i.T more ≡ true
+      → PathThere r i.T i.right w k list more m
   along_path list more some low besides =
       record {
         ground = there.over.ground;
@@ -147,7 +142,7 @@ module _ {r : Regions} {left_ends left_items ends items : List ℕ} {limit : ℕ
         room = met_room there.over.tests there.met there.place;
       }
 
-  pub set_hint : 0 < length set → HintRoom r (length left_ends) k set w
+  pub set_hint : 0 < length set → HintRoom r (length i.left.ends) k set w
   set_hint some =
       record {
         place = there.place;
@@ -157,8 +152,8 @@ module _ {r : Regions} {left_ends left_items ends items : List ℕ} {limit : ℕ
         room = there.over.laid.end;
       }
 
-  pub set_lefts : LeftsThere left_ends left_items k
-  set_lefts = record { T = r.t; good = there.over.tests.good.left; place = there.place }
+  pub set_lefts : LeftsThere i.left k
+  set_lefts = record { T = i.T; good = there.over.tests.good.left; place = there.place }
 
   -- an earlier left set with the same items came to the same
   alike : {y : Yield} {sure : ℕ} → LeftIs q set y sure → Alike r q.lefts w k m.at set pairs y
@@ -182,9 +177,9 @@ module _ {r : Regions} {left_ends left_items ends items : List ℕ} {limit : ℕ
     short_is : LeftIs q set (yield_of q.rights set []) 0
     short_is = left_short (merges there.over.tests) set good some few
 
-    pub short_path : PathThere r ends items w k set [] m
+    pub short_path : PathThere r i.T i.right w k set [] m
     unfolding all
-    short_path = along_path set [] some (good_below r.t set good) refl
+    short_path = along_path set [] some (good_below i.T set good) refl
 
     pub short_alike : Alike r q.lefts w k m.at set pairs (yield_of q.rights set [])
     short_alike = alike short_is
@@ -198,7 +193,7 @@ module _ {r : Regions} {left_ends left_items ends items : List ℕ} {limit : ℕ
     pub long_room : PathRoom limit ranks set path
     long_room =
         let ok = there.over.tests in
-        let same = permutation_length r.t ranks ok.settings.permutation in
+        let same = permutation_length i.T ranks ok.settings.permutation in
         record {
           ranked =
               record {
@@ -220,17 +215,17 @@ module _ {r : Regions} {left_ends left_items ends items : List ℕ} {limit : ℕ
           subst (λ (y : Yield). LeftIs q set y (length y.places)) (sym same_yield)
           (left_long (merges there.over.tests) set good many)
 
-      pub long_path : PathThere r ends items w k (take n taken) set m
+      pub long_path : PathThere r i.T i.right w k (take n taken) set m
       unfolding path_of
       long_path =
           along_path (take n taken) set (omega (arith, first.some, first.within, length-take n taken))
-          (all_intro (λ x. ltb x r.t) (take n taken)
+          (all_intro (λ x. ltb x i.T) (take n taken)
           (λ x in_path.
-          lt-ltb x r.t
-          (good_item r.t set good x
+          lt-ltb x i.T
+          (good_item i.T set good x
           (and_left (memb x set) (on_path limit ranks set x)
           (sym (memb-keep (on_path limit ranks set) set x) ∙ sym (first.members x) ∙ in_path)))))
-          (good_below r.t set good)
+          (good_below i.T set good)
 
       pub long_alike : Alike r q.lefts w k m.at set pairs (yield_of q.rights (take n taken) set)
       long_alike = alike long_is

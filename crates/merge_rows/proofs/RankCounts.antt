@@ -8,6 +8,7 @@ use native.Mathlib.Omega.{arith}
 use borrow.Author.Tests.{eqb-true, ltb-true, lt-ltb, le-ltb}
 use lib.Dec.{eqb, ltb, leb}
 use lib.ListN.{length, take, drop, get_or, take-append-drop}
+use Rattle.std.specs.Int.{from_bool}
 use Rattle.lists.specs.Lists.{one, count, any, memb, distinct, rising, upto}
 use Rattle.lists.proofs.Bools.{by_test, same_test, and_left, and_right, or_left, eqb_comm}
 use Rattle.lists.proofs.Counting.{count_none, count_same, count-true, count_map, count_or, count_agree, count-distinct, count_less}
@@ -23,6 +24,11 @@ use Rattle.sets.specs.Ordered.{is_permutation, ordered}
 use Rattle.sets.proofs.Ordered.{below}
 use Rattle.sets.proofs.Permutation.{permutation_below, permutation_injective}
 use Rattle.merge_rows.specs.FirstRanks.{Ranked}
+
+-- a test as a number
+pub number_of : (b : Bool) → from_bool b ≡ one b
+number_of true = refl
+number_of false = refl
 
 -- what is among the first is in the list
 pub memb-take : (x n : ℕ) (l : List ℕ) → memb x (take n l) ≡ true → memb x l ≡ true

@@ -15,8 +15,9 @@ use Rattle.lists.proofs.Membership.{memb_at, memb_head, memb_tail}
 use Rattle.lists.proofs.Ranges.{range-memb}
 use Rattle.lists.proofs.Slices.{frame_less}
 use Rattle.lists.proofs.Throughout.{all_elim, all_intro, all_at}
-use Rattle.sets.specs.Collections.{sets_of}
+use Rattle.sets.specs.Collections.{Collection, sets_in}
 use Rattle.sets.proofs.Between.{length-sets}
+use Rattle.inputs.specs.Input.{Input, right_sets}
 use Rattle.counting_sort.specs.Sorting.{WordsCleared}
 use Rattle.bit_sets.specs.BitSets.{bit_at}
 use Rattle.signatures.proofs.SigningSets.{double_stays}
@@ -126,25 +127,25 @@ module _ {t : ℕ} {rights : List (List ℕ)} {w : List ℕ} (rows : RowsHold t 
       kept c j below = ap (λ (x : ℕ). bit_at x j) (double_stays (2 * row_words t (length rights)) (2 * c) w w' same below)
 
 -- signatures made on demand, and a hint, leave the ground as it is
-pub ground_signs : {r : Regions} {ends items w w' : List ℕ} → Ground r ends items w
-    → Signs r.signatures (sets_of ends items) w w' → Ground r ends items w'
-ground_signs {r} {ends} {items} {w} {w'} ground signs =
+pub ground_signs : {r : Regions} {T : ℕ} {sets : Collection} {w w' : List ℕ} → Ground r T sets w
+    → Signs r.signatures (sets_in sets) w w' → Ground r T sets w'
+ground_signs {r} {T} {sets} {w} {w'} ground signs =
     record {
       few = ground.few;
       good = ground.good;
       above = ground.above;
       rows =
           rows_kept ground.rows w' signs.size
-          (frame_less (2 * row_words r.t (length (sets_of ends items))) r.signatures w w'
-          (subst (λ (n : ℕ). 2 * row_words r.t n ≤ r.signatures) (sym (length-sets 0 ends items)) ground.above)
+          (frame_less (2 * row_words T (length (sets_in sets))) r.signatures w w'
+          (subst (λ (n : ℕ). 2 * row_words T n ≤ r.signatures) (sym (length-sets 0 sets.ends sets.items)) ground.above)
           signs.low);
       signed = signs.signed;
     }
 
-pub ground_below : {r : Regions} {ends items w w' : List ℕ} (lo : ℕ) → r.signatures + 2 * length ends ≤ lo → Ground r ends items w
-    → KeptBelow lo w w' → Ground r ends items w'
-ground_below {r} {ends} {items} {w} {w'} lo above ground kept =
-    let n = length-sets 0 ends items in
+pub ground_below : {r : Regions} {T : ℕ} {sets : Collection} {w w' : List ℕ} (lo : ℕ) → r.signatures + 2 * length sets.ends ≤ lo → Ground r T sets w
+    → KeptBelow lo w w' → Ground r T sets w'
+ground_below {r} {T} {sets} {w} {w'} lo above ground kept =
+    let n = length-sets 0 sets.ends sets.items in
     ground_signs ground
     (record {
       low = frame_less r.signatures lo w w' (omega arith) kept.low;
@@ -159,10 +160,10 @@ ground_below {r} {ends} {items} {w} {w'} lo above ground kept =
     })
 
 -- rows filled, and the words of signatures and hints cleared
-pub ground_ready : {r : Regions} {lefts : ℕ} {ends items w v u : List ℕ} → RowsReady r lefts ends items w → RowsHold r.t (sets_of ends items) v
-    → length v ≡ length w → WordsCleared r.signatures (2 * length ends + lefts) v u → Ground r ends items u
-ground_ready {r} {lefts} {ends} {items} {w} {v} {u} ready rows size cleared =
-    let n = length-sets 0 ends items in
+pub ground_ready : {r : Regions} {i : Input} {w v u : List ℕ} → RowsReady r i w → RowsHold i.T (right_sets i) v
+    → length v ≡ length w → WordsCleared r.signatures (2 * length i.right.ends + length i.left.ends) v u → Ground r i.T i.right u
+ground_ready {r} {i} {w} {v} {u} ready rows size cleared =
+    let n = length-sets 0 i.right.ends i.right.items in
     let above = ready.above in
     record {
       few = ready.few;
@@ -170,7 +171,7 @@ ground_ready {r} {lefts} {ends} {items} {w} {v} {u} ready rows size cleared =
       above = above;
       rows =
           rows_kept rows u cleared.changed.size
-          (frame_less (2 * row_words r.t (length (sets_of ends items))) r.signatures v u (rw n above) cleared.changed.low);
+          (frame_less (2 * row_words i.T (length (right_sets i))) r.signatures v u (rw n above) cleared.changed.low);
       signed =
           record {
             room = omega (arith, ready.room, cleared.changed.size);

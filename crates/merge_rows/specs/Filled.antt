@@ -1,10 +1,9 @@
 -- Inner: the rows of the right sets. Word x tells the blocks of 64 right sets in which some set holds item x; the T words of block q
 -- follow those of the blocks before it, and word x of them tells which sets of the block hold item x.
-use Rattle.std.specs.Prelude.{ℕ, ◌+◌, ◌*◌, ◌/◌, ◌%◌, ◌<◌, ◌≤◌, ◌≡◌, List, [], Bool, true, false, ◌&&◌, ◌||◌, eqb, ltb, length, get_or}
+use Rattle.std.specs.Prelude.{ℕ, ◌+◌, ◌*◌, ◌/◌, ◌%◌, ◌<◌, ◌≤◌, ◌≡◌, List, [], Bool, true, false, ◌&&◌, ◌||◌, eqb, ltb, length, get_or, None}
 use Rattle.lists.specs.Lists.{all, any, memb}
 use Rattle.sets.specs.Limits.{max_items, max_sets}
-use Rattle.sets.specs.Collections.{first_bad}
-use Rattle.sets.specs.declared.Verdict.TheVariants.{Good}
+use Rattle.sets.specs.Collections.{Collection, first_bad_in}
 use Rattle.signatures.specs.Signing.{double}
 use Rattle.merge_rows.specs.Words.{digit}
 
@@ -28,10 +27,10 @@ pub record RowsHold (t : ℕ) (rights : List (List ℕ)) (w : List ℕ) : Type 0
   pub within : (x j : ℕ) → x < t → digit w x j ≡ true → j < blocks_of (length rights)
 
 -- right sets without a bad one, and room for their rows
-pub record FillRoom (t : ℕ) (ends items w : List ℕ) : Type 0 where
+pub record FillRoom (t : ℕ) (sets : Collection) (w : List ℕ) : Type 0 where
   pub few : t ≤ max_items
-  pub good : first_bad t ends items ≡ Good
-  pub room : 2 * row_words t (length ends) ≤ length w
+  pub good : first_bad_in t sets ≡ None
+  pub room : 2 * row_words t (length sets.ends) ≤ length w
 
 -- the block of right set s has room
 pub record BlockRoom (t s : ℕ) (w : List ℕ) : Type 0 where

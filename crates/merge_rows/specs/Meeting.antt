@@ -1,10 +1,10 @@
 -- Inner: one left set over the rows: what its blocks, its path and the counters before earlier left sets are.
-use Rattle.std.specs.Prelude.{ℕ, ◌+◌, ◌*◌, ◌/◌, ◌<◌, ◌≤◌, ◌≡◌, List, [], true, ltb, length, take, get_or}
+use Rattle.std.specs.Prelude.{ℕ, ◌+◌, ◌*◌, ◌/◌, ◌<◌, ◌≤◌, ◌≡◌, List, [], true, ltb, length, take, get_or, None}
 use Rattle.lists.specs.Lists.{all, slice}
 use Rattle.lists.specs.Parts.{Changed}
 use Rattle.sets.specs.Limits.{max_items, max_sets, max_set_length}
-use Rattle.sets.specs.Collections.{sets_of, first_bad}
-use Rattle.sets.specs.declared.Verdict.TheVariants.{Good}
+use Rattle.sets.specs.Collections.{Collection, sets_in, first_bad_in}
+use Rattle.inputs.specs.Input.{Input}
 use Rattle.bit_sets.specs.BitSets.{bit_at, digits_from}
 use Rattle.merge_rows.specs.declared.Met.{Met}
 use Rattle.merge_rows.specs.declared.Regions.{Regions}
@@ -14,31 +14,31 @@ use Rattle.merge_rows.specs.ShortLists.{pairs_with}
 use Rattle.merge_rows.specs.Yields.{Yield, holds_all, MetRoom}
 
 -- the regions, low to high: rows, counters before each left set, signatures, hints
-pub record Laid (r : Regions) (lefts rights : ℕ) (w : List ℕ) : Type 0 where
-  pub counters : 2 * row_words r.t rights ≤ r.counters
-  pub signatures : r.counters + 3 * lefts ≤ r.signatures
-  pub hints : r.signatures + 2 * rights ≤ r.hints
-  pub end : r.hints + lefts ≤ length w
+pub record Laid (r : Regions) (i : Input) (w : List ℕ) : Type 0 where
+  pub counters : 2 * row_words i.T (length i.right.ends) ≤ r.counters
+  pub signatures : r.counters + 3 * length i.left.ends ≤ r.signatures
+  pub hints : r.signatures + 2 * length i.right.ends ≤ r.hints
+  pub end : r.hints + length i.left.ends ≤ length w
 
 -- the rows are filled from right sets without a bad one, and some of these have their signatures
-pub record Ground (r : Regions) (ends items w : List ℕ) : Type 0 where
-  pub few : r.t ≤ max_items
-  pub good : first_bad r.t ends items ≡ Good
-  pub above : 2 * row_words r.t (length ends) ≤ r.signatures
-  pub rows : RowsHold r.t (sets_of ends items) w
-  pub signed : SignedSome r.signatures (sets_of ends items) w
+pub record Ground (r : Regions) (T : ℕ) (sets : Collection) (w : List ℕ) : Type 0 where
+  pub few : T ≤ max_items
+  pub good : first_bad_in T sets ≡ None
+  pub above : 2 * row_words T (length sets.ends) ≤ r.signatures
+  pub rows : RowsHold T (sets_in sets) w
+  pub signed : SignedSome r.signatures (sets_in sets) w
 
 -- items, all below T
 abbrev pub Items : ℕ → List ℕ → Type 0
 Items t list = all (λ x. ltb x t) list ≡ true
 
 -- a word of candidates of left set k in block q, and what they must hold besides
-pub record BlockThere (r : Regions) (ends items w : List ℕ) (k q : ℕ) (more : List ℕ) (word : ℕ) (m : Met) : Type 0 where
-  pub ground : Ground r ends items w
+pub record BlockThere (r : Regions) (T : ℕ) (sets : Collection) (w : List ℕ) (k q : ℕ) (more : List ℕ) (word : ℕ) (m : Met) : Type 0 where
+  pub ground : Ground r T sets w
   pub left : k < max_sets
-  pub block : q < blocks_of (length ends)
-  pub besides : Items r.t more
-  pub places : PlacesIn (length ends) (digits_from 64 (64 * q) word)
+  pub block : q < blocks_of (length sets.ends)
+  pub besides : Items T more
+  pub places : PlacesIn (length sets.ends) (digits_from 64 (64 * q) word)
   pub room : MetRoom m (length (digits_from 64 (64 * q) word))
 
 -- blocks of which no other one has a right set with the whole path
@@ -47,13 +47,13 @@ pub record Blocks (rights : List (List ℕ)) (path : List ℕ) (blocks : ℕ) : 
   pub within : (q : ℕ) → bit_at blocks q ≡ true → q < blocks_of (length rights)
 
 -- left set k with its path, and what candidates must hold besides
-pub record PathThere (r : Regions) (ends items w : List ℕ) (k : ℕ) (path more : List ℕ) (m : Met) : Type 0 where
-  pub ground : Ground r ends items w
+pub record PathThere (r : Regions) (T : ℕ) (sets : Collection) (w : List ℕ) (k : ℕ) (path more : List ℕ) (m : Met) : Type 0 where
+  pub ground : Ground r T sets w
   pub left : k < max_sets
-  pub along : Items r.t path
+  pub along : Items T path
   pub some : 0 < length path
-  pub besides : Items r.t more
-  pub room : MetRoom m (length ends)
+  pub besides : Items T more
+  pub room : MetRoom m (length sets.ends)
 
 -- three words for each left set: the pair list's place and the checks dropped and false before it
 abbrev pub counters_at : ℕ → List ℕ → ℕ → ℕ
@@ -107,15 +107,15 @@ pub record KeptBelow (lo : ℕ) (w w' : List ℕ) : Type 0 where
   pub low : take lo w' ≡ take lo w
 
 -- the set is that of a left set j before k
-pub record Earlier (ends items : List ℕ) (j k : ℕ) (set : List ℕ) : Type 0 where
+pub record Earlier (sets : Collection) (j k : ℕ) (set : List ℕ) : Type 0 where
   pub before : j < k
-  pub is : get_or (sets_of ends items) j [] ≡ set
+  pub is : get_or (sets_in sets) j [] ≡ set
 
 -- left sets without a bad one, of which k has a place
-pub record LeftsThere (ends items : List ℕ) (k : ℕ) : Type 0 where
+pub record LeftsThere (sets : Collection) (k : ℕ) : Type 0 where
   pub T : ℕ
-  pub good : first_bad T ends items ≡ Good
-  pub place : k < length ends
+  pub good : first_bad_in T sets ≡ None
+  pub place : k < length sets.ends
 
 -- an earlier left set with these items came to the same
 abbrev pub Alike : Regions → List (List ℕ) → List ℕ → ℕ → ℕ → List ℕ → List ℕ → Yield → Type 0

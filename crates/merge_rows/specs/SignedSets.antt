@@ -1,9 +1,8 @@
 -- Inner: signatures of right sets on demand: two words each, low then high, which are 0 until the signature is asked for.
-use Rattle.std.specs.Prelude.{ℕ, ◌+◌, ◌*◌, ◌<◌, ◌≤◌, ◌≡◌, List, [], Bool, true, ltb, length, take, get_or}
+use Rattle.std.specs.Prelude.{ℕ, ◌+◌, ◌*◌, ◌<◌, ◌≤◌, ◌≡◌, List, [], Bool, true, ltb, length, take, get_or, None}
 use Rattle.lists.specs.Lists.{all}
-use Rattle.sets.specs.Collections.{sets_of, first_bad}
+use Rattle.sets.specs.Collections.{Collection, sets_in, first_bad_in}
 use Rattle.sets.specs.Signatures.{signature, drops}
-use Rattle.sets.specs.declared.Verdict.TheVariants.{Good}
 use Rattle.signatures.specs.Signing.{double}
 
 -- from at on stand the signatures of right sets, or zeros
@@ -12,10 +11,10 @@ pub record SignedSome (at : ℕ) (rights : List (List ℕ)) (w : List ℕ) : Typ
   pub each : (s : ℕ) → s < length rights → (double w (at + 2 * s) ≡ 0 → ⊥) → double w (at + 2 * s) ≡ signature (get_or rights s [])
 
 -- right sets without a bad one, and the signatures of some
-pub record SignRoom (at : ℕ) (ends items w : List ℕ) : Type 0 where
+pub record SignRoom (at : ℕ) (sets : Collection) (w : List ℕ) : Type 0 where
   pub T : ℕ
-  pub good : first_bad T ends items ≡ Good
-  pub signed : SignedSome at (sets_of ends items) w
+  pub good : first_bad_in T sets ≡ None
+  pub signed : SignedSome at (sets_in sets) w
 
 -- w became w': more right sets may have their signatures; nothing below changed
 pub record Signs (at : ℕ) (rights : List (List ℕ)) (w w' : List ℕ) : Type 0 where

@@ -1,8 +1,8 @@
 // One left set: as an equal one before it, or block by block.
 ghost use Rattle.std.specs.Prelude.{◌≡◌, true, [], ℕ, ◌+◌, ◌-◌, ◌*◌, ◌/◌, ◌<◌, ◌≤◌, length, get_or};
 ghost use Rattle.sets.specs.Limits.{full_words};
-ghost use Rattle.sets.specs.Collections.{sets_of};
-ghost use Rattle.inputs.specs.Input.{input_of};
+ghost use Rattle.sets.specs.Collections.{lent_sets, sets_in};
+ghost use Rattle.inputs.specs.Input.{lent_input, left_sets, right_sets};
 ghost use Rattle.signatures.specs.item_bits.Bits.{position_table};
 ghost use Rattle.bit_sets.specs.BitSets.{digits_from};
 ghost use Rattle.merge_rows.specs.SignedSets.{Signs};
@@ -17,6 +17,9 @@ use crate::shared::shared;
 use crate::signed::{count_drops, start_of};
 use crate::{Met, Regions};
 use bit_sets::ones_of;
+use inputs::Input;
+use join_spec::Settings;
+use sets::Sets;
 use signatures::sign_set;
 
 // All digits of a word.
@@ -27,8 +30,8 @@ fn meet_block(
     work: &mut [u32],
     r: Regions,
     table: &[u8; 256],
-    ends: &[u32],
-    items: &[u16],
+    t: usize,
+    sets: &Sets,
     k: usize,
     q: usize,
     more: &[u16],
@@ -36,15 +39,14 @@ fn meet_block(
     pairs: &mut [u16],
     m: Met,
 ) -> Met
-    requires there { BlockThere r ends.now items.now work.old k q more.now word m }
+    requires there { BlockThere r t (lent_sets sets.now) work.old k q more.now word m }
     requires positions { table.now ≡ position_table }
     ensures yielded { Yielded k
-        (yield_among (sets_of ends.now items.now) more.now (digits_from 64 (64 * q) word))
+        (yield_among (sets_in (lent_sets sets.now)) more.now (digits_from 64 (64 * q) word))
         m result pairs.old pairs.new }
-    ensures signs { Signs r.signatures (sets_of ends.now items.now)
+    ensures signs { Signs r.signatures (sets_in (lent_sets sets.now))
         work.old work.new }
 {
-    let t = r.t;
     let at = r.signatures;
     let held = shared(work, t * (q + 1), more, word);
     let end = list_word(held, k, 64 * q, pairs, m.at);
@@ -58,7 +60,7 @@ fn meet_block(
     }
     let mark = sign_set(more, table, 0, more.len());
     let others = word ^ held;
-    let dropped = count_drops(work, at, table, ends, items, mark, 64 * q, others);
+    let dropped = count_drops(work, at, table, sets, mark, 64 * q, others);
     Met {
         at: end,
         confirmed: m.confirmed,
@@ -72,8 +74,8 @@ fn meet_blocks(
     work: &mut [u32],
     r: Regions,
     table: &[u8; 256],
-    ends: &[u32],
-    items: &[u16],
+    t: usize,
+    sets: &Sets,
     k: usize,
     path: &[u16],
     more: &[u16],
@@ -81,23 +83,22 @@ fn meet_blocks(
     pairs: &mut [u16],
     m: Met,
 ) -> Met
-    requires there { PathThere r ends.now items.now work.old k path.now more.now m }
-    requires blocks { Blocks (sets_of ends.now items.now) path.now blocks }
+    requires there { PathThere r t (lent_sets sets.now) work.old k path.now more.now m }
+    requires blocks { Blocks (sets_in (lent_sets sets.now)) path.now blocks }
     requires positions { table.now ≡ position_table }
     ensures yielded { Yielded k
-        (yield_of (sets_of ends.now items.now) path.now more.now)
+        (yield_of (sets_in (lent_sets sets.now)) path.now more.now)
         m result pairs.old pairs.new }
-    ensures signs { Signs r.signatures (sets_of ends.now items.now)
+    ensures signs { Signs r.signatures (sets_in (lent_sets sets.now))
         work.old work.new }
 {
-    let t = r.t;
     let mut met = m;
     let mut rest = blocks;
     while rest != 0 {
         let q = u64::trailing_zeros(rest) as usize;
         let word = shared(work, t * (q + 1), path, ALL);
         if word != 0 {
-            met = meet_block(work, r, table, ends, items, k, q, more, word, pairs, met);
+            met = meet_block(work, r, table, t, sets, k, q, more, word, pairs, met);
         }
         rest = rest & (rest - 1);
     }
@@ -156,24 +157,24 @@ fn same_items(a: &[u16], b: &[u16]) -> bool
     if a.len() != b.len() {
         return false;
     }
-    let mut e: usize = 0;
-    while e < a.len() {
+    for e in 0..a.len() {
         if a[e] != b[e] {
             return false;
         }
-        e += 1;
     }
     true
 }
 
 // Whether j is a left set before k with the items of left set k.
-fn is_earlier(ends: &[u32], items: &[u16], j: usize, k: usize, set: &[u16]) -> bool
-    requires { LeftsThere ends.now items.now k }
-    ensures { result ≡ true → Earlier ends.now items.now j k set.now }
+fn is_earlier(sets: &Sets, j: usize, k: usize, set: &[u16]) -> bool
+    requires { LeftsThere (lent_sets sets.now) k }
+    ensures { result ≡ true → Earlier (lent_sets sets.now) j k set.now }
 {
     if k <= j {
         return false;
     }
+    let ends = sets.ends;
+    let items = sets.items;
     let start = start_of(ends, j);
     let end = ends[j] as usize;
     same_items(&items[start..end], set)
@@ -184,10 +185,7 @@ fn meet_path(
     work: &mut [u32],
     r: Regions,
     table: &[u8; 256],
-    left_ends: &[u32],
-    left_items: &[u16],
-    ends: &[u32],
-    items: &[u16],
+    input: &Input,
     k: usize,
     set: &[u16],
     path: &[u16],
@@ -195,29 +193,42 @@ fn meet_path(
     pairs: &mut [u16],
     m: Met,
 ) -> Met
-    requires there { PathThere r ends.now items.now work.old k path.now more.now m }
-    requires laid { Laid r (length left_ends.now) (length ends.now) work.old }
-    requires hint { HintRoom r (length left_ends.now) k set.now work.old }
-    requires lefts { LeftsThere left_ends.now left_items.now k }
-    requires alike { Alike r (sets_of left_ends.now left_items.now) work.old k m.at set.now pairs.old
-        (yield_of (sets_of ends.now items.now) path.now more.now) }
+    requires there { PathThere r (lent_input input.now).T (lent_input input.now).right work.old k path.now more.now m }
+    requires laid { Laid r (lent_input input.now) work.old }
+    requires hint { HintRoom r (length (lent_input input.now).left.ends) k set.now work.old }
+    requires lefts { LeftsThere (lent_input input.now).left k }
+    requires alike { Alike r (left_sets (lent_input input.now)) work.old k m.at set.now pairs.old
+        (yield_of (right_sets (lent_input input.now)) path.now more.now) }
     requires positions { table.now ≡ position_table }
     ensures yielded { Yielded k
-        (yield_of (sets_of ends.now items.now) path.now more.now)
+        (yield_of (right_sets (lent_input input.now)) path.now more.now)
         m result pairs.old pairs.new }
-    ensures signs { Signs r.signatures (sets_of ends.now items.now)
+    ensures signs { Signs r.signatures (right_sets (lent_input input.now))
         work.old work.new }
 {
-    let lefts = left_ends.len();
+    let lefts = input.left.len();
     let blocks = shared(work, 0, path, ALL);
     if blocks == 0 {
         return m;
     }
     let j = swap_hint(work, r, lefts, set, k);
-    if is_earlier(left_ends, left_items, j, k, set) {
+    if is_earlier(&input.left, j, k, set) {
         return repeat_left(work, r.counters, j, k, pairs, m);
     }
-    meet_blocks(work, r, table, ends, items, k, path, more, blocks, pairs, m)
+    let t = input.t as usize;
+    meet_blocks(
+        work,
+        r,
+        table,
+        t,
+        &input.right,
+        k,
+        path,
+        more,
+        blocks,
+        pairs,
+        m,
+    )
 }
 
 // The pairs since a place are confirmed checks.
@@ -240,64 +251,32 @@ pub fn meet_left(
     work: &mut [u32],
     r: Regions,
     table: &[u8; 256],
-    left_ends: &[u32],
-    left_items: &[u16],
-    ends: &[u32],
-    items: &[u16],
-    limit: usize,
-    ranks: &[u16],
+    input: &Input,
+    settings: &Settings,
     k: usize,
     set: &[u16],
     path: &mut [u16],
     pairs: &mut [u16],
     m: Met,
 ) -> Met
-    requires there { SetThere r (input_of r.t left_ends.now left_items.now ends.now items.now) limit ranks.now
-        work.old (merge_query r.t left_ends.now left_items.now ends.now items.now limit ranks.now)
-        k set.now path.old pairs.old m }
+    requires there { SetThere r (lent_input input.now) settings.now.limit settings.now.ranks.now
+        work.old k set.now path.old pairs.old m }
     requires positions { table.now ≡ position_table }
     ensures added { LeftAdded
-        (merge_query r.t left_ends.now left_items.now ends.now items.now limit
-        ranks.now) k set.now m result pairs.old pairs.new }
-    ensures signs { Signs r.signatures (sets_of ends.now items.now)
+        (merge_query (lent_input input.now) settings.now.limit settings.now.ranks.now)
+        k set.now m result pairs.old pairs.new }
+    ensures signs { Signs r.signatures (right_sets (lent_input input.now))
         work.old work.new }
 {
     let n = set.len();
     if n == 0 {
         return m;
     }
+    let limit = settings.limit as usize;
     if n <= limit {
-        return meet_path(
-            work,
-            r,
-            table,
-            left_ends,
-            left_items,
-            ends,
-            items,
-            k,
-            set,
-            set,
-            &set[..0],
-            pairs,
-            m,
-        );
+        return meet_path(work, r, table, input, k, set, set, &set[..0], pairs, m);
     }
-    let size = take_path(set, ranks, limit, path);
-    let met = meet_path(
-        work,
-        r,
-        table,
-        left_ends,
-        left_items,
-        ends,
-        items,
-        k,
-        set,
-        &path[..size],
-        set,
-        pairs,
-        m,
-    );
+    let size = take_path(set, settings.ranks, limit, path);
+    let met = meet_path(work, r, table, input, k, set, &path[..size], set, pairs, m);
     confirm(met, m.at)
 }

@@ -3,10 +3,11 @@
 #![tactic(auto)]
 
 use counting_sort::clear;
+use inputs::Input;
 use join_check::Tally;
 use join_check::tally_answer::answer_tally;
-use join_spec::JoinAnswer;
-use lists::zero_u16;
+use join_spec::{Counts, Settings};
+use sets::Refusal;
 use signatures::item_bits::position_table;
 
 pub mod left;
@@ -17,9 +18,8 @@ pub mod shared;
 pub mod signed;
 
 ghost use Rattle.std.specs.Prelude.{◌≡◌, Bool, true, ◌+◌, ◌*◌, ◌≤◌, leb, length};
-ghost use Rattle.sets.specs.Collections.{sets_of};
 ghost use Rattle.signatures.specs.item_bits.Bits.{position_table};
-ghost use Rattle.inputs.specs.Input.{input_of};
+ghost use Rattle.inputs.specs.Input.{lent_input, left_sets, right_sets};
 ghost use Rattle.join_spec.specs.PairList.{pair_list};
 ghost use Rattle.join_spec.specs.Answer.{walk_answer, pairs_after};
 ghost use Rattle.join_spec.proofs.Accepted.{Tests};
@@ -31,10 +31,9 @@ use crate::left::{meet_left, store_counters};
 use crate::rows::fill_rows;
 
 // Where the regions of the work list begin: the rows at 0, then the counters before each left set, three words each, the signatures of the
-// right sets, two words each, and a hint for each left set. The rows are those of t items.
+// right sets, two words each, and a hint for each left set.
 #[derive(Clone, Copy)]
 pub struct Regions {
-    pub t: usize,
     pub counters: usize,
     pub signatures: usize,
     pub hints: usize,
@@ -49,13 +48,6 @@ pub struct Met {
     pub falses: usize,
 }
 
-// The same of all left sets, or of those up to the one at which the checks passed the budget.
-#[derive(Clone, Copy)]
-pub struct Merged {
-    pub spent: bool,
-    pub met: Met,
-}
-
 // The regions for so many items and sets.
 fn lay_rows(t: usize, lefts: usize, rights: usize) -> Regions
     requires { Sizes t lefts rights }
@@ -65,7 +57,6 @@ fn lay_rows(t: usize, lefts: usize, rights: usize) -> Regions
     let signatures = counters + 3 * lefts;
     let hints = signatures + 2 * rights;
     Regions {
-        t: t,
         counters: counters,
         signatures: signatures,
         hints: hints,
@@ -81,14 +72,13 @@ pub fn rows_fit(t: u32, lefts: usize, rights: usize, words: usize) -> bool
     r.hints + lefts <= words
 }
 
-// The rows of the right sets, none of which has its signature yet, and no hint for any of so many left sets.
-fn ready_rows(work: &mut [u32], r: Regions, lefts: usize, ends: &[u32], items: &[u16])
-    requires { RowsReady r lefts ends.now items.now work.old }
-    ensures { Ground r ends.now items.now work.new }
+// The rows of the right sets, none of which has its signature yet, and no hint for any left set.
+fn ready_rows(work: &mut [u32], r: Regions, input: &Input)
+    requires { RowsReady r (lent_input input.now) work.old }
+    ensures { Ground r (lent_input input.now).T (lent_input input.now).right work.new }
 {
-    let t = r.t;
-    fill_rows(work, t, ends, items);
-    clear(work, r.signatures, 2 * ends.len() + lefts);
+    fill_rows(work, input.t as usize, &input.right);
+    clear(work, r.signatures, 2 * input.right.len() + input.left.len());
 }
 
 // The checks of the left sets met so far.
@@ -99,27 +89,22 @@ fn checks_of(m: Met) -> usize
     m.confirmed + (m.dropped + m.falses)
 }
 
-// All left sets in place order, up to the first after which the checks pass the budget.
+// What all left sets in place order come to; none where the checks pass the budget after one of them.
 fn meet_lefts(
     work: &mut [u32],
     r: Regions,
     table: &[u8; 256],
-    left_ends: &[u32],
-    left_items: &[u16],
-    ends: &[u32],
-    items: &[u16],
-    limit: usize,
-    ranks: &[u16],
-    budget: u32,
+    input: &Input,
+    settings: &Settings,
     path: &mut [u16],
     pairs: &mut [u16],
-) -> Merged
-    requires there { LeftsRoom r (input_of r.t left_ends.now left_items.now ends.now items.now) limit ranks.now
+) -> Option<Met>
+    requires there { LeftsRoom r (lent_input input.now) settings.now.limit settings.now.ranks.now
         work.old path.old }
     requires positions { table.now ≡ position_table }
     ensures { AllMet
-        (merge_query r.t left_ends.now left_items.now ends.now items.now limit
-        ranks.now) budget result pairs.old pairs.new }
+        (merge_query (lent_input input.now) settings.now.limit settings.now.ranks.now)
+        settings.now.budget result pairs.old pairs.new }
 {
     let mut met = Met {
         at: 0,
@@ -128,40 +113,30 @@ fn meet_lefts(
         falses: 0,
     };
     let counters = r.counters;
+    let items = input.left.items;
+    let budget = settings.budget as usize;
     let mut start: usize = 0;
-    let mut k: usize = 0;
-    while k < left_ends.len() {
-        let end = left_ends[k] as usize;
+    for (k, &left_end) in input.left.ends.iter().enumerate() {
+        let end = left_end as usize;
         store_counters(work, counters, k, met);
         met = meet_left(
             work,
             r,
             table,
-            left_ends,
-            left_items,
-            ends,
-            items,
-            limit,
-            ranks,
+            input,
+            settings,
             k,
-            &left_items[start..end],
+            &items[start..end],
             path,
             pairs,
             met,
         );
-        if (budget as usize) < checks_of(met) {
-            return Merged {
-                spent: true,
-                met: met,
-            };
+        if budget < checks_of(met) {
+            return None;
         }
         start = end;
-        k += 1;
     }
-    Merged {
-        spent: false,
-        met: met,
-    }
+    Some(met)
 }
 
 // The counters of a join by those of its left sets.
@@ -178,58 +153,39 @@ fn tally_of(m: Met) -> Tally
 }
 
 // Zeros in the pair list after a refusal.
-fn settle(answer: JoinAnswer, pairs: &mut [u16])
+fn settle(answer: Result<Counts, Refusal>, pairs: &mut [u16])
     ensures { pairs.new ≡ settled answer pairs.old }
 {
     match answer {
-        JoinAnswer::Joined(_) => {}
-        JoinAnswer::Refused(_) => zero_u16(pairs),
+        Ok(_) => {}
+        Err(_) => pairs.fill(0),
     }
 }
 
-// The join under Merge of an input that passed the tests before the walk, where its rows fit the work list.
+// The join under Merge of an input that passed the tests before the walk, where its rows fit the work list. The rule in the settings is not
+// read.
 pub fn merge_sets(
-    t: u32,
-    left_ends: &[u32],
-    left_items: &[u16],
-    right_ends: &[u32],
-    right_items: &[u16],
-    limit: u32,
-    ranks: &[u16],
-    budget: u32,
+    input: &Input,
+    settings: &Settings,
     work: &mut [u32],
     pairs: &mut [u16],
-) -> JoinAnswer
-    requires { MergeRoom (input_of t left_ends.now left_items.now right_ends.now right_items.now)
-        limit ranks.now work.old }
+) -> Result<Counts, Refusal>
+    requires { MergeRoom (lent_input input.now) settings.now.limit settings.now.ranks.now work.old }
     ensures answer { result ≡ walk_answer
-        (merge_query t left_ends.now left_items.now right_ends.now right_items.now
-        limit ranks.now) budget (length pairs.old) }
+        (merge_query (lent_input input.now) settings.now.limit settings.now.ranks.now)
+        settings.now.budget (length pairs.old) }
     ensures pairs { pairs.new ≡ pairs_after result
-        (pair_list (sets_of left_ends.now left_items.now)
-        (sets_of right_ends.now right_items.now)) pairs.old }
+        (pair_list (left_sets (lent_input input.now)) (right_sets (lent_input input.now))) pairs.old }
 {
-    let lefts = left_ends.len();
-    let r = lay_rows(t as usize, lefts, right_ends.len());
-    ready_rows(work, r, lefts, right_ends, right_items);
+    let r = lay_rows(input.t as usize, input.left.len(), input.right.len());
+    ready_rows(work, r, input);
     let table = position_table();
     let mut path = [0u16; 256];
-    let merged = meet_lefts(
-        work,
-        r,
-        &table,
-        left_ends,
-        left_items,
-        right_ends,
-        right_items,
-        limit as usize,
-        ranks,
-        budget,
-        &mut path,
-        pairs,
-    );
-    let tally = tally_of(merged.met);
-    let answer = answer_tally(merged.spent, tally, pairs.len());
+    let Some(met) = meet_lefts(work, r, &table, input, settings, &mut path, pairs) else {
+        pairs.fill(0);
+        return Err(Refusal::Spent);
+    };
+    let answer = answer_tally(Some(tally_of(met)), pairs.len());
     settle(answer, pairs);
     answer
 }

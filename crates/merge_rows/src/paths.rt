@@ -42,8 +42,7 @@ fn least_two(set: &[u16], ranks: &[u16]) -> Two
 {
     let mut first = NO_KEY;
     let mut second = NO_KEY;
-    for e in 0..set.len() {
-        let x = set[e];
+    for &x in set {
         let key = HALF * (ranks[x as usize] as u32) + (x as u32);
         second = lower(second, higher(first, key));
         first = lower(first, key);
@@ -72,9 +71,8 @@ fn mark_ranks(words: &mut [u64], set: &[u16], ranks: &[u16])
     requires wide { length ranks.now ≤ 64 * length words.old }
     ensures { RanksMarked ranks.now set.now words.old words.new }
 {
-    for e in 0..set.len() {
-        let x = set[e] as usize;
-        insert(words, ranks[x] as usize);
+    for &x in set {
+        insert(words, ranks[x as usize] as usize);
     }
 }
 
@@ -85,10 +83,8 @@ fn nth_digit(word: u64, n: usize) -> usize
     ensures { NthDigit word n result }
 {
     let mut rest = word;
-    let mut left = n;
-    while 1 < left {
+    for _ in 1..n {
         rest = rest & (rest - 1);
-        left -= 1;
     }
     u64::trailing_zeros(rest) as usize
 }
@@ -99,14 +95,12 @@ fn nth_member(words: &[u64], n: usize) -> usize
     ensures { NthMember words.now n result }
 {
     let mut left = n;
-    let mut w: usize = 0;
-    while w < words.len() {
-        let ones = ones_of(words[w]);
+    for (w, &word) in words.iter().enumerate() {
+        let ones = ones_of(word);
         if left <= ones {
-            return 64 * w + nth_digit(words[w], left);
+            return 64 * w + nth_digit(word, left);
         }
         left -= ones;
-        w += 1;
     }
     0
 }
@@ -130,10 +124,9 @@ fn take_up_to(set: &[u16], ranks: &[u16], last: usize, path: &mut [u16]) -> usiz
     ensures { UpToTaken ranks.now set.now last path.new result }
 {
     let mut n: usize = 0;
-    for e in 0..set.len() {
-        let x = set[e];
+    for &x in set {
         path[n] = x;
-        n += words::number((ranks[x as usize] as usize) <= last);
+        n += usize::from((ranks[x as usize] as usize) <= last);
     }
     n
 }

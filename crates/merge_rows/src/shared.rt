@@ -13,14 +13,12 @@ pub fn shared(work: &[u32], from: usize, list: &[u16], word: u64) -> u64
         ≡ (bit_at word j && all (λ x. digit work.now (from + x) j) list.now) }
 {
     let mut rest = word;
-    let mut e: usize = 0;
-    while e < list.len() {
+    for &item in list {
         if rest == 0 {
             return 0;
         }
-        let x = list[e] as usize;
+        let x = item as usize;
         rest = rest & double_at(work, 2 * (from + x));
-        e += 1;
     }
     rest
 }

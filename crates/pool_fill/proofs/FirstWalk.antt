@@ -8,7 +8,6 @@ use native.Mathlib.Omega.{arith}
 use borrow.Author.Tests.{lt-ltb, le-ltb}
 use lib.Dec.{ltb}
 use lib.ListN.{length, get_or, length-append, replicate}
-use lib.Seq as seq
 use Rattle.lists.specs.Lists.{keep}
 use Rattle.lists.proofs.Bools.{true-false}
 use Rattle.sets.specs.Limits.{max_sets}
@@ -30,10 +29,11 @@ use Rattle.pool_scan.specs.right_slots.Slots.{number_slot, AtSlots}
 use Rattle.pool_scan.proofs.right_slots.Splits.{two_splits}
 use Rattle.pool_fill.specs.own_sets.Own.{place_word}
 use Rattle.pool_fill.specs.Pool.{PoolFillReady}
-use Rattle.pool_fill.proofs.Laying.{Block, size}
+use Rattle.pool_fill.proofs.Laying.{Block}
 use Rattle.pool_fill.proofs.SetPlacing.{SetPlacing, placing_start}
 use Rattle.pool_fill.proofs.Unions.{keep_without, part_of}
 use Rattle.pool_fill.proofs.PooledSets.{is_new, pooled-sets}
+use Rattle.tag_index.specs.declared.TagIndex.{TagIndex}
 
 -- a set of the first file, after some records of the second
 abbrev pub block_of : List ℕ → List TagRecord → List TagRecord → TagRecord → Block
@@ -89,10 +89,10 @@ pub record FirstWalk (first second table used slots₀ numbers₀ ends₀ items�
   pub long : length slots ≡ max_sets
   pub unmarked : Unmarked marks
 
-module _ {first second heads tails : List ℕ} {n : ℕ} {ids ranks used counts slots₀ numbers₀ ends₀ items₀ : List ℕ}
-    (ready : PoolFillReady first second heads tails n ids ranks used counts slots₀ numbers₀ ends₀ items₀) where
+module _ {first second : List ℕ} {index : TagIndex} {n : ℕ} {ranks used counts slots₀ numbers₀ ends₀ items₀ : List ℕ}
+    (ready : PoolFillReady first second index n ranks used counts slots₀ numbers₀ ends₀ items₀) where
   abbrev table : List ℕ
-  table = table_of heads tails n ids
+  table = table_of index n
 
   abbrev firsts : List TagRecord
   firsts = records first

@@ -11,11 +11,12 @@ use Rattle.tag_index.specs.Index.{table_of}
 use Rattle.tag_index.proofs.Ids.{sorted_size}
 use Rattle.tag_loader.specs.record_items.Marks.{mark_words, Unmarked, MarkedMore, TagsKnown}
 use Rattle.tag_loader.proofs.record_items.Marks.{more_fresh, marked_items}
+use Rattle.tag_index.specs.declared.TagIndex.{TagIndex}
 
-module _ {file heads tails : List ℕ} {n : ℕ} {ids ranks : List ℕ} {start count : ℕ}
-    (known : TagsKnown file heads tails n ids ranks start count) where
+module _ {file : List ℕ} {index : TagIndex} {n : ℕ} {ranks : List ℕ} {start count : ℕ}
+    (known : TagsKnown file index n ranks start count) where
   abbrev table : List ℕ
-  table = table_of heads tails n ids
+  table = table_of index n
 
   abbrev new : List ℕ
   new = tags_at count file start

@@ -39,16 +39,17 @@ use Rattle.pool_fill.proofs.Unions.{items_more, met_fits}
 use Rattle.pool_fill.proofs.PooledSets.{is_new, united_held, met_held, none_before, none_after}
 use Rattle.pool_fill.proofs.FirstWalk.{block_of, start_of}
 use Rattle.pool_fill.proofs.SecondWalk.{new_block, blocks_other, SecondWalk, RightHere}
+use Rattle.tag_index.specs.declared.TagIndex.{TagIndex}
 
-module _ {first second heads tails : List ℕ} {n : ℕ} {ids ranks used counts slots₀ numbers₁ ends₁ items₁ : List ℕ}
-    (ready : PoolFillReady first second heads tails n ids ranks used counts slots₀ numbers₁ ends₁ items₁)
+module _ {first second : List ℕ} {index : TagIndex} {n : ℕ} {ranks used counts slots₀ numbers₁ ends₁ items₁ : List ℕ}
+    (ready : PoolFillReady first second index n ranks used counts slots₀ numbers₁ ends₁ items₁)
     {numbers₀ ends₀ items₀ slots numbers ends items marks : List ℕ} {done : Filled} {at : ℕ}
-    (w : SecondWalk first second (table_of heads tails n ids) used numbers₀ ends₀ items₀ slots numbers ends items marks done at)
+    (w : SecondWalk first second (table_of index n) used numbers₀ ends₀ items₀ slots numbers ends items marks done at)
     {kind : Side} {x c p next : ℕ}
     (h : RightHere second w.seen at c p next (record { side = kind; number = x; tags = tags_at c second p }))
     (there : member used x ≡ true) where
   abbrev table : List ℕ
-  table = table_of heads tails n ids
+  table = table_of index n
 
   abbrev firsts : List TagRecord
   firsts = records first
@@ -110,7 +111,7 @@ module _ {first second heads tails : List ℕ} {n : ℕ} {ids ranks used counts 
   unfolding keep
   left_met = ap news h.left ∙ keep_without (is_new firsts) [] this rest met
 
-  pub met_known : TagsKnown second heads tails n ids ranks p c
+  pub met_known : TagsKnown second index n ranks p c
   met_known =
       record {
         sorted = ready.sorted;

@@ -2,9 +2,8 @@
 use mathlib.Core.Path.{◌≡◌, refl, sym, ap, ap₂, subst, ◌∙◌}
 use mathlib.Core.List.{List, [], ◌∷◌, ◌++◌, map, map-append, append_assoc}
 use mathlib.Core.Bool.{false, not}
-use Prim.Native.Nat.{ℕ, ◌+◌}
+use Prim.Native.Nat.{ℕ}
 use native.Mathlib.Omega.{arith}
-use lib.Seq as seq
 use Rattle.lists.specs.Lists.{keep}
 use Rattle.bit_sets.specs.BitSets.{member}
 use Rattle.sets.specs.declared.Side.{Side}
@@ -29,16 +28,17 @@ use Rattle.pool_fill.proofs.Unions.{keep_around}
 use Rattle.pool_fill.proofs.PooledSets.{is_new, new_held}
 use Rattle.pool_fill.proofs.FirstWalk.{block_of}
 use Rattle.pool_fill.proofs.SecondWalk.{new_block, blocks_other, SecondWalk, RightHere}
+use Rattle.tag_index.specs.declared.TagIndex.{TagIndex}
 
-module _ {first second heads tails : List ℕ} {n : ℕ} {ids ranks used counts slots₀ numbers₁ ends₁ items₁ : List ℕ}
-    (ready : PoolFillReady first second heads tails n ids ranks used counts slots₀ numbers₁ ends₁ items₁)
+module _ {first second : List ℕ} {index : TagIndex} {n : ℕ} {ranks used counts slots₀ numbers₁ ends₁ items₁ : List ℕ}
+    (ready : PoolFillReady first second index n ranks used counts slots₀ numbers₁ ends₁ items₁)
     {numbers₀ ends₀ items₀ slots numbers ends items marks : List ℕ} {done : Filled} {at : ℕ}
-    (w : SecondWalk first second (table_of heads tails n ids) used numbers₀ ends₀ items₀ slots numbers ends items marks done at)
+    (w : SecondWalk first second (table_of index n) used numbers₀ ends₀ items₀ slots numbers ends items marks done at)
     {kind : Side} {x c p next : ℕ}
     (h : RightHere second w.seen at c p next (record { side = kind; number = x; tags = tags_at c second p }))
     (out : member used x ≡ false) where
   abbrev table : List ℕ
-  table = table_of heads tails n ids
+  table = table_of index n
 
   abbrev firsts : List TagRecord
   firsts = records first
@@ -87,7 +87,7 @@ module _ {first second heads tails : List ℕ} {n : ℕ} {ids ranks used counts 
   left_sets : map (λ q. items_of table q.tags) (news (of_side Right (records_at second at))) ≡ own ∷ later
   left_sets = ap (map (λ (q : TagRecord). items_of table q.tags)) left_new
 
-  pub new_known : TagsKnown second heads tails n ids ranks p c
+  pub new_known : TagsKnown second index n ranks p c
   new_known =
       record {
         sorted = ready.sorted;

@@ -36,16 +36,17 @@ use Rattle.pool_fill.proofs.SetPlacing.{placing_next}
 use Rattle.pool_fill.proofs.Unions.{keep_around, part_of, part_none, part_fits}
 use Rattle.pool_fill.proofs.PooledSets.{is_new, united_held, own_held, length_told}
 use Rattle.pool_fill.proofs.FirstWalk.{block_of, start_of, walk_word, walk_same, FirstWalk}
+use Rattle.tag_index.specs.declared.TagIndex.{TagIndex}
 
-module _ {first second heads tails : List ℕ} {n : ℕ} {ids ranks used counts slots₀ numbers₀ ends₀ items₀ : List ℕ}
-    (ready : PoolFillReady first second heads tails n ids ranks used counts slots₀ numbers₀ ends₀ items₀)
+module _ {first second : List ℕ} {index : TagIndex} {n : ℕ} {ranks used counts slots₀ numbers₀ ends₀ items₀ : List ℕ}
+    (ready : PoolFillReady first second index n ranks used counts slots₀ numbers₀ ends₀ items₀)
     {slots numbers ends items marks : List ℕ} {done : Filled} {at : ℕ}
-    (w : FirstWalk first second (table_of heads tails n ids) used slots₀ numbers₀ ends₀ items₀
+    (w : FirstWalk first second (table_of index n) used slots₀ numbers₀ ends₀ items₀
     slots numbers ends items marks done at)
     {kind : Side} {x c p next : ℕ} (e : read_at first at ≡ Record kind x c p next) (right : same_side Right kind ≡ true)
     (byte : (i : ℕ) → get_or first i 0 < 256) where
   abbrev table : List ℕ
-  table = table_of heads tails n ids
+  table = table_of index n
 
   abbrev firsts : List TagRecord
   firsts = records first
@@ -103,7 +104,7 @@ module _ {first second heads tails : List ℕ} {n : ℕ} {ids ranks used counts 
   abbrev later : List (List ℕ)
   later = map (part_of table seconds) (of_side Right rest) ++ new_sets
 
-  pub own_known : TagsKnown first heads tails n ids ranks p c
+  pub own_known : TagsKnown first index n ranks p c
   own_known =
       record {
         sorted = ready.sorted;

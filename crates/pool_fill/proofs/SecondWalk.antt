@@ -3,11 +3,10 @@
 use mathlib.Core.Path.{◌≡◌, refl, sym, ap, ap₂, subst, ◌∙◌}
 use mathlib.Core.List.{List, [], ◌∷◌, ◌++◌, map, map-append, append-nil, append_assoc, flatten}
 use mathlib.Core.Bool.{Bool, true, false, cond}
-use Prim.Native.Nat.{ℕ, ◌+◌, ◌<◌, ◌≤◌}
+use Prim.Native.Nat.{ℕ, ◌<◌, ◌≤◌}
 use native.Mathlib.Omega.{arith}
 use borrow.Author.Tests.{lt-ltb}
 use lib.ListN.{length, get_or, length-append}
-use lib.Seq as seq
 use Rattle.lists.specs.Lists.{keep, any}
 use Rattle.lists.proofs.Bools.{or_left_false, or_right_false}
 use Rattle.sets.specs.Limits.{max_sets, half_words}
@@ -33,6 +32,7 @@ use Rattle.pool_fill.proofs.SetPlacing.{placed_numbers, placed_ends, placed_item
 use Rattle.pool_fill.proofs.Unions.{keep_around, keep_without, part_of, part_other}
 use Rattle.pool_fill.proofs.PooledSets.{is_new}
 use Rattle.pool_fill.proofs.FirstWalk.{block_of, start_of, FirstWalk}
+use Rattle.tag_index.specs.declared.TagIndex.{TagIndex}
 
 -- a set that the first file has not
 abbrev pub new_block : List ℕ → TagRecord → Block
@@ -113,10 +113,10 @@ module _ {first second table used slots₀ numbers₀ ends₀ items₀ slots num
         unmarked = w.unmarked;
       }
 
-module _ {first second heads tails : List ℕ} {n : ℕ} {ids ranks used counts slots₀ numbers₁ ends₁ items₁ : List ℕ}
-    (ready : PoolFillReady first second heads tails n ids ranks used counts slots₀ numbers₁ ends₁ items₁) where
+module _ {first second : List ℕ} {index : TagIndex} {n : ℕ} {ranks used counts slots₀ numbers₁ ends₁ items₁ : List ℕ}
+    (ready : PoolFillReady first second index n ranks used counts slots₀ numbers₁ ends₁ items₁) where
   abbrev table : List ℕ
-  table = table_of heads tails n ids
+  table = table_of index n
 
   abbrev firsts : List TagRecord
   firsts = records first

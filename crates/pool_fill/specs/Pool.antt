@@ -9,16 +9,17 @@ use Rattle.tag_file.specs.Loading.{numbers_of, ends_from}
 use Rattle.pool_loader_spec.specs.Pooling.{pooled}
 use Rattle.tag_index.specs.Index.{table_of, Sorted, Ranked}
 use Rattle.pool_scan.specs.right_slots.Slots.{BlocksCounted, NumbersNoted, NumbersOnce, AtSlots, pooled_mark, slot_word}
+use Rattle.tag_index.specs.declared.TagIndex.{TagIndex}
 
 -- the index of two files' tags, the slots of the first file's right sets with the lengths of the unions, and room for the right
 -- sets of both
-pub record PoolFillReady (first second heads tails : List ℕ) (n : ℕ) (ids ranks used counts slots numbers ends items : List ℕ)
+pub record PoolFillReady (first second : List ℕ) (index : TagIndex) (n : ℕ) (ranks used counts slots numbers ends items : List ℕ)
     : Type 0 where
-  pub sorted : Sorted heads tails n ids
-  pub ranked : Ranked n ids ranks
+  pub sorted : Sorted index n
+  pub ranked : Ranked n index.ids ranks
   pub small : n ≤ max_items
   pub held : (y : ℕ) → memb y (all_tags (pooled (records first) (records second))) ≡ true
-      → memb y (table_of heads tails n ids) ≡ true
+      → memb y (table_of index n) ≡ true
   pub noted : NumbersNoted (records first) used
   pub counted : BlocksCounted used counts
   pub size : length slots ≡ max_sets
@@ -26,9 +27,9 @@ pub record PoolFillReady (first second heads tails : List ℕ) (n : ℕ) (ids ra
   pub once : NumbersOnce (records first)
   pub once_second : NumbersOnce (of_side Right (records second))
   pub short : total_length (records first) < pooled_mark
-  pub few : length (flatten (sets_of_side Right (table_of heads tails n ids) (pooled (records first) (records second)))) ≤ max_entries
+  pub few : length (flatten (sets_of_side Right (table_of index n) (pooled (records first) (records second)))) ≤ max_entries
   pub for_numbers : length (numbers_of Right (pooled (records first) (records second))) ≤ length numbers
   pub for_ends :
-      length (ends_from 0 (sets_of_side Right (table_of heads tails n ids) (pooled (records first) (records second)))) ≤ length ends
+      length (ends_from 0 (sets_of_side Right (table_of index n) (pooled (records first) (records second)))) ≤ length ends
   pub for_items :
-      length (flatten (sets_of_side Right (table_of heads tails n ids) (pooled (records first) (records second)))) ≤ length items
+      length (flatten (sets_of_side Right (table_of index n) (pooled (records first) (records second)))) ≤ length items

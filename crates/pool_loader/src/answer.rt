@@ -2,23 +2,23 @@
 ghost use Rattle.std.specs.Prelude.{◌≡◌};
 ghost use Rattle.pool_loader.specs.answer.Deciding.{decided, LimitedIf};
 
-use sets::{Refusal, Tested};
-use tag_file::LoadAnswer;
+use sets::Refusal;
+use tag_file::{Loaded, Repeats};
 use tag_loader::lent_lists::{LoadRoom, has_room};
 
 // The answer, by that of the first passes, the first pooled set that is too long, and the lengths of the lists.
-pub fn decide(answer: LoadAnswer, long: Tested, room: LoadRoom) -> LoadAnswer
+pub fn decide(
+    answer: Result<(Loaded, Repeats), Refusal>,
+    long: Result<(), Refusal>,
+    room: LoadRoom,
+) -> Result<(Loaded, Repeats), Refusal>
     requires { LimitedIf answer }
     ensures { result ≡ decided answer long room }
 {
-    let LoadAnswer::Loaded(total, repeats) = answer else {
-        return answer;
-    };
+    let (total, repeats) = answer?;
     if !has_room(total, room) {
-        return LoadAnswer::Refused(Refusal::ShortOutput);
+        return Err(Refusal::ShortOutput);
     }
-    match long {
-        Tested::Failed(why) => LoadAnswer::Refused(why),
-        Tested::Passed => LoadAnswer::Loaded(total, repeats),
-    }
+    long?;
+    Ok((total, repeats))
 }

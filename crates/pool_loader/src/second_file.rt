@@ -9,10 +9,10 @@ use crate::answer::decide;
 use pool_fill::fill_right;
 use pool_scan::right_slots::{BLOCKS, NUMBER_WORDS, index_right};
 use pool_scan::scan_second;
-use sets::{MAX_SETS, Side};
-use tag_file::LoadAnswer;
+use sets::{MAX_SETS, Refusal, Side};
+use tag_file::{Loaded, Repeats};
 use tag_index::tag_items::rank_ids;
-use tag_index::{HINT_SLOTS, INDEX_ROOM};
+use tag_index::{INDEX_ROOM, TagIndex};
 use tag_loader::fill::fill_side;
 use tag_loader::lent_lists::{LoadRoom, clear_lists};
 use tag_loader::tag_table::fill_tags;
@@ -20,29 +20,24 @@ use tag_loader::tag_table::fill_tags;
 // The answer: the first file's, or after the pass over the second that of both, by the lengths of the lists. It leaves the slots of
 // the pooled sets.
 fn judge(
-    answer: LoadAnswer,
+    answer: Result<(Loaded, Repeats), Refusal>,
     first: &[u8],
     second: &[u8],
-    heads: &mut [usize; INDEX_ROOM],
-    tails: &mut [u32; INDEX_ROOM],
-    ids: &mut [u16; INDEX_ROOM],
-    hints: &mut [u16; HINT_SLOTS],
+    index: &mut TagIndex,
     used: &mut [u64; NUMBER_WORDS],
     counts: &mut [u16; BLOCKS],
     slots: &mut [u32; MAX_SETS],
     room: LoadRoom,
-) -> LoadAnswer
-    requires { JudgeReady answer first.now heads.old tails.old ids.old used.old counts.old slots.old }
-    ensures { Judged first.now second.now heads.new tails.new ids.new
+) -> Result<(Loaded, Repeats), Refusal>
+    requires { JudgeReady answer first.now index.old used.old counts.old slots.old }
+    ensures { Judged first.now second.now index.new
         used.new counts.new slots.new room result }
 {
-    let LoadAnswer::Loaded(total, repeats) = answer else {
+    let Ok((total, repeats)) = answer else {
         return answer;
     };
     index_right(first, used, counts, slots);
-    let scanned = scan_second(
-        first, second, total, repeats, used, counts, slots, heads, tails, ids, hints,
-    );
+    let scanned = scan_second(first, second, total, repeats, used, counts, slots, index);
     let found = scanned.answer;
     let long = scanned.long;
     decide(found, long, room)
@@ -52,10 +47,7 @@ fn judge(
 fn fill_pooled(
     first: &[u8],
     second: &[u8],
-    heads: &[usize; INDEX_ROOM],
-    tails: &[u32; INDEX_ROOM],
-    ids: &[u16; INDEX_ROOM],
-    hints: &[u16; HINT_SLOTS],
+    index: &TagIndex,
     n: usize,
     used: &[u64; NUMBER_WORDS],
     counts: &[u16; BLOCKS],
@@ -68,22 +60,19 @@ fn fill_pooled(
     right_ends: &mut [u32],
     right_items: &mut [u16],
 )
-    requires { PoolFillable first.now second.now heads.now tails.now ids.now n used.now counts.now slots.old
+    requires { PoolFillable first.now second.now index.now n used.now counts.now slots.old
         (lists_now tags left_numbers left_ends left_items right_numbers right_ends right_items) }
     ensures { AllFilled (pooled_records first.now second.now)
         (lent_lists tags left_numbers left_ends left_items right_numbers right_ends right_items)
         (returned_lists tags left_numbers left_ends left_items right_numbers right_ends right_items) }
 {
     let mut ranks = [0u16; INDEX_ROOM];
-    rank_ids(ids, n, &mut ranks);
-    fill_tags(heads, tails, ids, n, tags);
+    rank_ids(&index.ids, n, &mut ranks);
+    fill_tags(index, n, tags);
     fill_side(
         first,
-        heads,
-        tails,
-        ids,
+        index,
         &ranks,
-        hints,
         n,
         Side::Left,
         left_numbers,
@@ -93,11 +82,8 @@ fn fill_pooled(
     fill_right(
         first,
         second,
-        heads,
-        tails,
-        ids,
+        index,
         &ranks,
-        hints,
         n,
         used,
         counts,
@@ -108,15 +94,14 @@ fn fill_pooled(
     );
 }
 
-// Goes on from the pass over the first file: the second file, the answer, and the lists, zeros or what the files fill.
+// Goes on from the pass over the first file: the second file, the answer, and the lists, zeros or what the files fill. It is never
+// inlined, so that its slots take stack only while it runs (D-78).
+#[inline(never)]
 pub fn pool_second(
-    answer: LoadAnswer,
+    answer: Result<(Loaded, Repeats), Refusal>,
     first: &[u8],
     second: &[u8],
-    heads: &mut [usize; INDEX_ROOM],
-    tails: &mut [u32; INDEX_ROOM],
-    ids: &mut [u16; INDEX_ROOM],
-    hints: &mut [u16; HINT_SLOTS],
+    index: &mut TagIndex,
     tags: &mut [u8],
     left_numbers: &mut [u16],
     left_ends: &mut [u32],
@@ -124,8 +109,8 @@ pub fn pool_second(
     right_numbers: &mut [u16],
     right_ends: &mut [u32],
     right_items: &mut [u16],
-) -> LoadAnswer
-    requires { Scanned first.now heads.old tails.old ids.old answer }
+) -> Result<(Loaded, Repeats), Refusal>
+    requires { Scanned first.now index.old answer }
     ensures { PooledCall first.now second.now
         (lent_lists tags left_numbers left_ends left_items right_numbers right_ends right_items)
         (returned_lists tags left_numbers left_ends left_items right_numbers right_ends right_items) result }
@@ -146,16 +131,13 @@ pub fn pool_second(
         answer,
         first,
         second,
-        heads,
-        tails,
-        ids,
-        hints,
+        index,
         &mut used,
         &mut counts,
         &mut slots,
         room,
     );
-    let LoadAnswer::Loaded(total, _) = judged else {
+    let Ok((total, _)) = judged else {
         clear_lists(
             tags,
             left_numbers,
@@ -171,10 +153,7 @@ pub fn pool_second(
     fill_pooled(
         first,
         second,
-        heads,
-        tails,
-        ids,
-        hints,
+        index,
         n,
         &used,
         &counts,

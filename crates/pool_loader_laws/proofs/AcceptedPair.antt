@@ -7,6 +7,7 @@ use mathlib.Core.List.{List, []}
 use mathlib.Core.Bool.{true, false}
 use lib.Dec.{ltb}
 use lib.ListN.{length, get_or}
+use Rattle.std.specs.Prelude.{Result, Ok}
 use Rattle.lists.specs.Lists.{all}
 use Rattle.sets.specs.Limits.{half_words}
 use Rattle.sets.specs.Lent.{filled_over}
@@ -14,8 +15,6 @@ use Rattle.sets.specs.declared.Side.{Side}
 use Rattle.sets.specs.declared.Side.TheVariants.{Right}
 use Rattle.tag_file.specs.declared.Loaded.{Loaded}
 use Rattle.tag_file.specs.declared.Repeats.{Repeats}
-use Rattle.tag_file.specs.declared.LoadAnswer.{LoadAnswer}
-use Rattle.tag_file.specs.declared.LoadAnswer.TheVariants as load
 use Rattle.tag_file.specs.Records.{total_length, records}
 use Rattle.tag_file.specs.Loading.{Lists, too_many, filled, lent_after}
 use Rattle.tag_round_trip.specs.Trips.{Fills}
@@ -28,11 +27,12 @@ use Rattle.pool_loader_spec.proofs.Answers.{Accepted, answer_accepted}
 use Rattle.pool_loader_spec.proofs.SecondFaults.{second_covers}
 use Rattle.pool_loader_laws.proofs.PooledFaults.{SecondFree, second_free, pooled_free}
 use Rattle.pool_loader_laws.proofs.PooledSets.{none_overlong, pooled-sets_few, pooled_fit, pooled_numbers}
+use Rattle.sets.specs.declared.Refusal.{Refusal}
 
 -- ---- the lists
 
 -- the seven lists after a call, as one
-pub pooled_lists_lem : {first second : List ℕ} {before after : Lists} {answer : LoadAnswer}
+pub pooled_lists_lem : {first second : List ℕ} {before after : Lists} {answer : Result (Loaded × Repeats) Refusal}
     → PooledCall first second before after answer → after ≡ pooled_lists first second before
 pooled_lists_lem c = rw (c.tags, c.left_numbers, c.left_ends, c.left_items, c.right_numbers, c.right_ends, c.right_items)
 
@@ -47,8 +47,8 @@ pub record FilledLists (part before after : Lists) : Type 0 where
   pub right_items : after.right_items ≡ filled_over part.right_items before.right_items
 
 module _ (first second : List ℕ) {before after : Lists} {totals : Loaded} {repeats : Repeats}
-    (call : PooledCall first second before after (load.Loaded totals repeats)) where
-  answer_is : pooled_answer first second before ≡ load.Loaded totals repeats
+    (call : PooledCall first second before after (Ok (totals, repeats))) where
+  answer_is : pooled_answer first second before ≡ Ok (totals, repeats)
   answer_is = sym call.answered
 
   pub pair_accepted : Accepted first second before totals repeats
@@ -67,7 +67,7 @@ module _ (first second : List ℕ) {before after : Lists} {totals : Loaded} {rep
       }
     where
       over : (part lent : List ℕ) → lent_after (pooled_answer first second before) part lent ≡ filled_over part lent
-      over part lent = ap (λ (a : LoadAnswer). lent_after a part lent) answer_is
+      over part lent = ap (λ (a : Result (Loaded × Repeats) Refusal). lent_after a part lent) answer_is
 
   -- the filled parts hold what the pooled records give
   pub pair_fills : Fills (pooled_records first second) totals after

@@ -5,6 +5,7 @@ use mathlib.Core.List.{List, [], ◌∷◌, ◌++◌, map}
 use mathlib.Core.Bool.{true, false, not}
 use native.Mathlib.Omega.{arith}
 use lib.ListN.{length, length-map}
+use Rattle.std.specs.Prelude.{Ok}
 use Rattle.lists.specs.Lists.{memb, distinct}
 use Rattle.lists.proofs.Bools.{by_test}
 use Rattle.lists.proofs.Mapping.{map_at}
@@ -12,7 +13,6 @@ use Rattle.lists.proofs.Membership.{Place, memb_place}
 use Rattle.sets.specs.Limits.{max_sets, max_entries}
 use Rattle.sets.specs.declared.Side.{Side}
 use Rattle.sets.specs.declared.Side.TheVariants.{Left, Right}
-use Rattle.sets.specs.declared.Tested.TheVariants.{Passed}
 use Rattle.tag_file.specs.Records.{TagRecord, records, same_side, of_side, entries_of}
 use Rattle.tag_file.specs.Loading.{number_used, too_many, numbers_of}
 use Rattle.tag_file.proofs.FaultFree.{FaultFree, few_places, few_entries, few_tags}
@@ -34,12 +34,12 @@ pub record SecondFree (first second : List TagRecord) : Type 0 where
   pub few : too_many Right (pooled first second) ≡ false
 
 few_step : (first : List TagRecord) (base : ℕ) (seen : List TagRecord) (r : TagRecord) → too_many Right (pooled first seen) ≡ false
-    → second_fault_of first base seen r ≡ Passed → too_many Right (pooled first (seen ++ (r ∷ []))) ≡ false
+    → second_fault_of first base seen r ≡ Ok tt → too_many Right (pooled first (seen ++ (r ∷ []))) ≡ false
 few_step first base seen r so clear =
     by_test (same_side Right r.side) (λ t. clear_few first base seen r t clear)
     (λ f. ap (too_many Right) (pooled_left first seen r f) ∙ so)
 
-pub second_free : (first : List TagRecord) (base : ℕ) (file : List ℕ) → FaultFree first → second_fault first base file ≡ Passed
+pub second_free : (first : List TagRecord) (base : ℕ) (file : List ℕ) → FaultFree first → second_fault first base file ≡ Ok tt
     → SecondFree first (records file)
 second_free first base file so clear =
     record {

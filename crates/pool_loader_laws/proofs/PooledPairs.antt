@@ -9,18 +9,17 @@ use borrow.Author.Tests.{ltb-true}
 use native.Mathlib.Omega.{arith}
 use lib.Dec.{ltb}
 use lib.ListN.{length, get_or, take, length-map}
+use Rattle.std.specs.Prelude.{Ok}
 use Rattle.lists.specs.Lists.{one, distinct}
 use Rattle.sets.specs.Collections.{contained}
 use Rattle.sets.specs.declared.Side.TheVariants.{Left, Right}
 use Rattle.inputs.specs.Input.{Input}
 use Rattle.join_spec.specs.declared.Counts.{Counts}
-use Rattle.join_spec.specs.declared.JoinAnswer.TheVariants.{Joined}
 use Rattle.join_spec.specs.Query.{Settings}
 use Rattle.join_spec.specs.Answer.{RunCall}
 use Rattle.join_spec.proofs.PairListLaws.{pair_occurs}
 use Rattle.tag_file.specs.declared.Loaded.{Loaded}
 use Rattle.tag_file.specs.declared.Repeats.{Repeats}
-use Rattle.tag_file.specs.declared.LoadAnswer.TheVariants as load
 use Rattle.tag_file.specs.Records.{TagRecord, records, of_side}
 use Rattle.tag_file.specs.Loading.{Lists, numbers_of}
 use Rattle.pool_loader_spec.specs.Pooling.{pooled, pooled_records, PooledCall}
@@ -59,7 +58,7 @@ contained-pooled first second once once_more l r =
     (tags_pooled_lem first second once once_more r (ltb-true r (length (of_side Right (pooled first second))) within)))))
 
 module _ (first second : List ℕ) {lent got : Lists} {loaded : Loaded} {repeats : Repeats}
-    (pools : PooledCall first second lent got (load.Loaded loaded repeats)) where
+    (pools : PooledCall first second lent got (Ok (loaded, repeats))) where
   -- the numbers at a place: the first file's left record's, and the borrower's
   pub pair_left_number : (l : ℕ) → l < loaded.left_sets → get_or got.left_numbers l 0 ≡ (record_of Left (records first) l).number
   pair_left_number l within =
@@ -76,7 +75,7 @@ module _ (first second : List ℕ) {lent got : Lists} {loaded : Loaded} {repeats
 
   -- a pair of places stands in the list once where the left record has a tag and all its tags are the borrower's, else not at all
   module _ (i : Input) (over : OverLoaded loaded got i) (s : Settings) {counts : Counts} {work before work' after : List ℕ}
-      (runs : RunCall i s work before work' after (Joined counts)) where
+      (runs : RunCall i s work before work' after (Ok counts)) where
     pub pooled_pairs : (l r : ℕ)
         → pair_occurs l r (take (2 * counts.pairs) after) ≡ one (tags_pooled (records first) (records second) l r)
     pooled_pairs l r =

@@ -8,6 +8,7 @@ use native.Mathlib.Omega.{arith}
 use borrow.Author.Tests.{leb-true, le-leb, ltb-false, not-true}
 use lib.Dec.{leb, ltb}
 use lib.ListN.{length, get_or}
+use Rattle.std.specs.Prelude.{Ok}
 use Rattle.lists.specs.Lists.{keep, onto, all, distinct}
 use Rattle.lists.proofs.Bools.{and_left, and_right, and_both}
 use Rattle.lists.proofs.Filtering.{all_keep}
@@ -17,7 +18,6 @@ use Rattle.sets.specs.Refusals.{refuse_if}
 use Rattle.sets.specs.declared.Side.{Side}
 use Rattle.sets.specs.declared.Side.TheVariants.{Left, Right}
 use Rattle.sets.specs.declared.Refusal.TheVariants.{Overlong}
-use Rattle.sets.specs.declared.Tested.TheVariants.{Passed}
 use Rattle.sets.proofs.Testing.{both_passed, refuse_passed}
 use Rattle.tag_file.specs.Format.{tag_length}
 use Rattle.tag_file.specs.Records.{TagRecord, total_length, same_side, of_side, collapse, insert_all, all_tags}
@@ -37,7 +37,7 @@ use Rattle.pool_loader_laws.proofs.BorrowerTags.{tags_pooled_lem, same_tags, by_
 -- ---- sets that are not too long
 
 -- what no record of the second file is, where none was found
-pub none_overlong : (first : List TagRecord) (base : ℕ) (seen rs : List TagRecord) → first_overlong first base seen rs ≡ Passed
+pub none_overlong : (first : List TagRecord) (base : ℕ) (seen rs : List TagRecord) → first_overlong first base seen rs ≡ Ok tt
     → all (λ r. not (is_overlong first r)) rs ≡ true
 unfolding first_overlong all
 none_overlong first base seen [] e = refl

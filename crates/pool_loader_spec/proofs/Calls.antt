@@ -2,11 +2,14 @@
 use mathlib.Core.Path.{refl}
 use mathlib.Core.List.{List}
 use Prim.Native.Nat.{ℕ}
-use Rattle.tag_file.specs.declared.LoadAnswer.{LoadAnswer}
+use Rattle.std.specs.Prelude.{Result}
 use Rattle.tag_file.specs.Loading.{Lists}
 use Rattle.pool_loader_spec.specs.Pooling.{pooled_answer, PooledCall}
+use Rattle.sets.specs.declared.Refusal.{Refusal}
+use Rattle.tag_file.specs.declared.Loaded.{Loaded}
+use Rattle.tag_file.specs.declared.Repeats.{Repeats}
 
-pub call_defined : {first second : List ℕ} {before after : Lists} {answer : LoadAnswer} → PooledCall first second before after answer
+pub call_defined : {first second : List ℕ} {before after : Lists} {answer : Result (Loaded × Repeats) Refusal} → PooledCall first second before after answer
     → PooledCall first second before after (pooled_answer first second before)
 call_defined c =
     record {

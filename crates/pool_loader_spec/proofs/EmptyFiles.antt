@@ -6,26 +6,28 @@ use Prim.Native.Nat.{ℕ}
 use mathlib.Core.List.{List, [], ◌∷◌}
 use native.Mathlib.Nat.{add-zero}
 use lib.ListN.{length}
+use Rattle.std.specs.Prelude.{Result, Ok}
 use Rattle.lists.specs.Lists.{keep, sum, any}
 use Rattle.sets.specs.declared.Side.TheVariants.{Left, Right}
-use Rattle.sets.specs.declared.Tested.TheVariants.{Passed}
-use Rattle.tag_file.specs.declared.LoadAnswer.{LoadAnswer}
 use Rattle.tag_file.specs.Records.{TagRecord, records_from, records, of_side}
 use Rattle.tag_file.specs.Repeats.{repeats_of, repeat_totals}
 use Rattle.tag_file.specs.Loading.{Lists, load_answer, lists_after, LoadCall}
 use Rattle.pool_loader_spec.specs.Pooling.{pooled, second_fault, first_second_fault, first_overlong}
 use Rattle.pool_loader_spec.specs.Pooling.{pooled_records, pooled_repeats, pooled_answer, pooled_lists, PooledCall}
 use Rattle.pool_loader_spec.proofs.OneMore.{pooled_none}
+use Rattle.sets.specs.declared.Refusal.{Refusal}
+use Rattle.tag_file.specs.declared.Loaded.{Loaded}
+use Rattle.tag_file.specs.declared.Repeats.{Repeats}
 
 -- ---- an empty second file
 
 -- a second file without bytes has no fault, and no set that is too long
 module _ (rs : List TagRecord) (base : ℕ) where
-  pub second_fault_nil : second_fault rs base [] ≡ Passed
+  pub second_fault_nil : second_fault rs base [] ≡ Ok tt
   unfolding second_fault first_second_fault records_from sum
   second_fault_nil = refl
 
-  pub first_overlong_nil : first_overlong rs base [] (records []) ≡ Passed
+  pub first_overlong_nil : first_overlong rs base [] (records []) ≡ Ok tt
   unfolding first_overlong records_from
   first_overlong_nil = refl
 
@@ -52,7 +54,7 @@ module _ (first : List ℕ) where
   pooled_lists_nil : (lent : Lists) → pooled_lists first [] lent ≡ lists_after first lent
   pooled_lists_nil lent = rw (pooled_answer_nil lent, pooled_records_nil)
 
-  module _ {before after : Lists} {answer : LoadAnswer} where
+  module _ {before after : Lists} {answer : Result (Loaded × Repeats) Refusal} where
     -- such a call is a load of the first file, and the other way round
     pub call_nil : PooledCall first [] before after answer → LoadCall first before after answer
     call_nil c =

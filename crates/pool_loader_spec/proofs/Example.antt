@@ -3,13 +3,12 @@ use mathlib.Core.Path.{◌≡◌, refl}
 use Prim.Native.Nat.{ℕ, ◌+◌}
 use mathlib.Core.List.{List, [], ◌∷◌, ◌++◌, flatten}
 use lib.ListN.{replicate}
+use Rattle.std.specs.Prelude.{Err, Ok}
 use Rattle.lists.specs.Lists.{keep, memb, sum, range, upto, any, prefix}
 use Rattle.sets.specs.Limits.{max_set_length}
 use Rattle.sets.specs.declared.Side.{Side}
 use Rattle.sets.specs.declared.Side.TheVariants.{Left, Right}
 use Rattle.sets.specs.declared.Refusal.TheVariants.{Malformed, NumberUsed, ShortOutput, Overlong}
-use Rattle.sets.specs.declared.Tested.TheVariants.{Passed, Failed}
-use Rattle.tag_file.specs.declared.LoadAnswer.TheVariants as load
 use Rattle.tag_file.specs.Format.{value_from, bytes_of, tag_bytes, mark}
 use Rattle.tag_file.specs.Reading.{read_at, tags_at}
 use Rattle.tag_file.specs.Records.{TagRecord, records_from, insert, insert_all, all_tags, items_of}
@@ -45,8 +44,7 @@ lent =
 
 -- one repeat, of right set 9 in the second file; its tag 1, read on both pads, is none
 example_answer : pooled_answer first second lent
-    ≡ load.Loaded (record { left_sets = 1; right_sets = 3; left_entries = 2; right_entries = 4; tag_count = 4 })
-    (record { left = 0; right = 1 })
+    ≡ Ok (record { left_sets = 1; right_sets = 3; left_entries = 2; right_entries = 4; tag_count = 4 }, record { left = 0; right = 1 })
 unfolding first second lent head tag pooled_answer file_fault first_fault fault_of too_many second_fault first_second_fault second_fault_of
     first_overlong pooled room_for read_at tags_at records_from value_from insert insert_all all_tags items_of keep memb sum any prefix
     range ends_from flatten tag_bytes bytes_of repeats_in
@@ -64,27 +62,27 @@ example_lists = refl
 -- ---- the ways to refuse
 
 -- the second file is cut short in its second record, at byte place 17; the first file has 63 bytes
-example_cut : pooled_answer first ((head Left 7 1 ++ tag 8) ++ head Right 6 1) lent ≡ load.Refused (Malformed (63 + 17))
+example_cut : pooled_answer first ((head Left 7 1 ++ tag 8) ++ head Right 6 1) lent ≡ Err (Malformed (63 + 17))
 unfolding first lent head tag pooled_answer file_fault first_fault fault_of too_many second_fault first_second_fault second_fault_of
     pooled read_at tags_at records_from value_from insert insert_all all_tags keep memb sum any prefix
 example_cut = refl
 
 -- right set 9 twice in the second file, whether or not the first has it; a left set's number twice there is no fault
 example_used : pooled_answer first (head Left 7 0 ++ (head Left 7 0 ++ (head Right 9 0 ++ head Right 9 0))) lent
-    ≡ load.Refused (NumberUsed (63 + 15))
+    ≡ Err (NumberUsed (63 + 15))
 unfolding first lent head tag pooled_answer file_fault first_fault fault_of too_many second_fault first_second_fault second_fault_of
     pooled read_at tags_at records_from value_from insert insert_all all_tags keep memb sum any prefix
 example_used = refl
 
 -- the first file's fault comes first, with its own place
-example_first : pooled_answer (head Right 9 0 ++ head Right 9 0) (head Right 6 1) lent ≡ load.Refused (NumberUsed 5)
+example_first : pooled_answer (head Right 9 0 ++ head Right 9 0) (head Right 6 1) lent ≡ Err (NumberUsed 5)
 unfolding lent head tag pooled_answer file_fault first_fault fault_of too_many read_at tags_at records_from value_from insert insert_all
     all_tags keep memb sum any prefix
 example_first = refl
 
 -- no room for the third right set
 example_short : pooled_answer first second (lists_of (replicate 48 0) (0 ∷ []) (0 ∷ []) (0 ∷ 0 ∷ []) (0 ∷ 0 ∷ []) (0 ∷ 0 ∷ 0 ∷ [])
-    (0 ∷ 0 ∷ 0 ∷ 0 ∷ [])) ≡ load.Refused ShortOutput
+    (0 ∷ 0 ∷ 0 ∷ 0 ∷ [])) ≡ Err ShortOutput
 unfolding first second lent head tag pooled_answer file_fault first_fault fault_of too_many second_fault first_second_fault second_fault_of
     pooled room_for read_at tags_at records_from value_from insert insert_all all_tags items_of keep memb sum any prefix range
     ends_from flatten tag_bytes bytes_of
@@ -95,13 +93,13 @@ example_short = refl
 full : List TagRecord
 full = record { side = Right; number = 9; tags = upto max_set_length } ∷ []
 
-example_full : first_overlong full 63 [] (record { side = Right; number = 9; tags = 254 ∷ 0 ∷ [] } ∷ []) ≡ Passed
+example_full : first_overlong full 63 [] (record { side = Right; number = 9; tags = 254 ∷ 0 ∷ [] } ∷ []) ≡ Ok tt
 unfolding full first_overlong range insert insert_all all_tags keep sum
 example_full = refl
 
 example_overlong :
     first_overlong full 63 []
     (record { side = Left; number = 9; tags = 5000 ∷ [] } ∷ record { side = Right; number = 9; tags = 0 ∷ max_set_length ∷ [] } ∷ [])
-    ≡ Failed (Overlong (63 + 17))
+    ≡ Err (Overlong (63 + 17))
 unfolding full first_overlong range insert insert_all all_tags keep sum
 example_overlong = refl

@@ -7,6 +7,7 @@ use Prim.Native.Nat.{ℕ}
 use borrow.Author.Tests.{eqb-true, not-false}
 use lib.Dec.{eqb}
 use lib.ListN.{length}
+use Rattle.std.specs.Prelude.{Result, Err, Ok, ⊤}
 use Rattle.lists.specs.Lists.{keep, all, memb, distinct}
 use Rattle.lists.proofs.Bools.{and_left, by_test, true-false}
 use Rattle.lists.proofs.Distinct.{distinct_last, distinct_before}
@@ -18,8 +19,6 @@ use Rattle.sets.specs.declared.Side.{Side}
 use Rattle.sets.specs.declared.Side.TheVariants.{Right}
 use Rattle.sets.specs.declared.Refusal.{Refusal}
 use Rattle.sets.specs.declared.Refusal.TheVariants.{Malformed, NumberUsed, TooMany, Overlong}
-use Rattle.sets.specs.declared.Tested.{Tested}
-use Rattle.sets.specs.declared.Tested.TheVariants.{Passed, Failed}
 use Rattle.tag_file.specs.Records.{TagRecord, total_length, records, same_side, of_side}
 use Rattle.tag_file.specs.Loading.{number_used, too_many, numbers_of}
 use Rattle.tag_file.proofs.FaultFree.{used_memb, side_other, numbers_own}
@@ -29,13 +28,13 @@ use Rattle.pool_loader_spec.specs.Pooling.{pooled, place_after, second_fault_of,
 
 -- a left set's record has no fault
 pub left_clear : (first : List TagRecord) (base : ℕ) (seen : List TagRecord) (r : TagRecord) → same_side Right r.side ≡ false
-    → second_fault_of first base seen r ≡ Passed
+    → second_fault_of first base seen r ≡ Ok tt
 unfolding second_fault_of
 left_clear first base seen r left = rw left refl
 
 -- ---- a fault makes zeros
 
-clearing_second : (first : List TagRecord) (base : ℕ) (seen rs : List TagRecord) (last : Tested) → clearing last ≡ true
+clearing_second : (first : List TagRecord) (base : ℕ) (seen rs : List TagRecord) (last : Result ⊤ Refusal) → clearing last ≡ true
     → clearing (first_second_fault first base seen rs last) ≡ true
 unfolding first_second_fault second_fault_of
 clearing_second first base seen [] last e = e
@@ -47,7 +46,7 @@ clearing_second first base seen (r ∷ rs) last e =
     place : ℕ
     place = place_after base (total_length seen)
 
-    tested : (used many : Bool) → clearing (unless Failed (refuse_if used (NumberUsed place)) (refuse_if many (TooMany place))) ≡ true
+    tested : (used many : Bool) → clearing (unless Err (refuse_if used (NumberUsed place)) (refuse_if many (TooMany place))) ≡ true
     tested used many =
         clearing_both (refuse_if used (NumberUsed place)) (refuse_if many (TooMany place)) (clearing_if used (NumberUsed place) refl)
         (clearing_if many (TooMany place) refl)
@@ -58,7 +57,7 @@ clearing_second first base seen (r ∷ rs) last e =
     left : same_side Right r.side ≡ false → clearing (second_fault_of first base seen r) ≡ true
     left f = ap clearing (left_clear first base seen r f)
 
-pub second_clears : (first : List TagRecord) (base : ℕ) (file : List ℕ) (why : Refusal) → second_fault first base file ≡ Failed why
+pub second_clears : (first : List TagRecord) (base : ℕ) (file : List ℕ) (why : Refusal) → second_fault first base file ≡ Err why
     → clears why ≡ true
 unfolding second_fault
 second_clears first base file why e =
@@ -76,16 +75,16 @@ clearing_long first base seen (r ∷ rs) =
     (clearing_if (is_overlong first r) (Overlong place) refl) (clearing_long first base (seen ++ (r ∷ [])) rs)
 
 pub long_clears : (first : List TagRecord) (base : ℕ) (seen rs : List TagRecord) (why : Refusal)
-    → first_overlong first base seen rs ≡ Failed why → clears why ≡ true
+    → first_overlong first base seen rs ≡ Err why → clears why ≡ true
 long_clears first base seen rs why e = sym (ap clearing e) ∙ clearing_long first base seen rs
 
 -- ---- without a fault
 
 -- what each record without a fault keeps holds of all the file's records; and the reading ended without one
 pub second_walk : (first : List TagRecord) (base : ℕ) (P : List TagRecord → Type 0)
-    → ((seen : List TagRecord) (r : TagRecord) → P seen → second_fault_of first base seen r ≡ Passed → P (seen ++ (r ∷ [])))
-    → (seen rs : List TagRecord) (last : Tested) → P seen → first_second_fault first base seen rs last ≡ Passed
-    → P (seen ++ rs) × (last ≡ Passed)
+    → ((seen : List TagRecord) (r : TagRecord) → P seen → second_fault_of first base seen r ≡ Ok tt → P (seen ++ (r ∷ [])))
+    → (seen rs : List TagRecord) (last : Result ⊤ Refusal) → P seen → first_second_fault first base seen rs last ≡ Ok tt
+    → P (seen ++ rs) × (last ≡ Ok tt)
 unfolding first_second_fault
 second_walk first base P step seen [] last so e = (subst P (sym (append-nil seen)) so, e)
 second_walk first base P step seen (r ∷ rs) last so e =
@@ -99,7 +98,7 @@ and_second false b e t = true-false t refl
 
 -- a right set's record without a fault
 module _ (first : List TagRecord) (base : ℕ) (seen : List TagRecord) (r : TagRecord) (right : same_side Right r.side ≡ true)
-    (clear : second_fault_of first base seen r ≡ Passed) where
+    (clear : second_fault_of first base seen r ≡ Ok tt) where
   tests : (number_used seen r ≡ false) × (too_many Right (pooled first (seen ++ (r ∷ []))) ≡ false)
   unfolding second_fault_of
   tests =
@@ -115,7 +114,7 @@ module _ (first : List TagRecord) (base : ℕ) (seen : List TagRecord) (r : TagR
   clear_few = tests.1
 
 numbers_step : (first : List TagRecord) (base : ℕ) (seen : List TagRecord) (r : TagRecord) → distinct (numbers_of Right seen) ≡ true
-    → second_fault_of first base seen r ≡ Passed → distinct (numbers_of Right (seen ++ (r ∷ []))) ≡ true
+    → second_fault_of first base seen r ≡ Ok tt → distinct (numbers_of Right (seen ++ (r ∷ []))) ≡ true
 numbers_step first base seen r so clear = by_test (same_side Right r.side) right left
   where
     right : same_side Right r.side ≡ true → distinct (numbers_of Right (seen ++ (r ∷ []))) ≡ true
@@ -128,20 +127,20 @@ numbers_step first base seen r so clear = by_test (same_side Right r.side) right
     left : same_side Right r.side ≡ false → distinct (numbers_of Right (seen ++ (r ∷ []))) ≡ true
     left f = ap (λ (l : List TagRecord). distinct (map (λ s. s.number) l)) (side_other Right seen r f) ∙ so
 
-module _ (first : List TagRecord) (base : ℕ) (file : List ℕ) (clear : second_fault first base file ≡ Passed) where
-  abbrev last : Tested
+module _ (first : List TagRecord) (base : ℕ) (file : List ℕ) (clear : second_fault first base file ≡ Ok tt) where
+  abbrev last : Result ⊤ Refusal
   last =
       refuse_if (not (eqb (total_length (records file)) (length file)))
       (Malformed (place_after base (total_length (records file))))
 
   -- of any property that each record keeps
   pub second_holds : (P : List TagRecord → Type 0)
-      → ((seen : List TagRecord) (r : TagRecord) → P seen → second_fault_of first base seen r ≡ Passed → P (seen ++ (r ∷ []))) → P []
-      → P (records file) × (last ≡ Passed)
+      → ((seen : List TagRecord) (r : TagRecord) → P seen → second_fault_of first base seen r ≡ Ok tt → P (seen ++ (r ∷ []))) → P []
+      → P (records file) × (last ≡ Ok tt)
   unfolding second_fault
   second_holds P step start = second_walk first base P step [] (records file) last start clear
 
-  numbers_all : (distinct (numbers_of Right (records file)) ≡ true) × (last ≡ Passed)
+  numbers_all : (distinct (numbers_of Right (records file)) ≡ true) × (last ≡ Ok tt)
   unfolding keep distinct
   numbers_all = second_holds (λ seen. distinct (numbers_of Right seen) ≡ true) (numbers_step first base) refl
 

@@ -1,20 +1,18 @@
 -- The pooled load of two tag files: the records that they give together, the first fault of the pair, the answer, and the lent
 -- lists at the end. Document 02, C-11. A right set is a stack, of one borrower; the files are those of two pads.
-use Rattle.std.specs.Prelude.{ℕ, ◌+◌, ◌%◌, ◌≡◌, List, [], ◌∷◌, ◌++◌, map, Bool, not, ◌&&◌, eqb, ltb, length}
+use Rattle.std.specs.Prelude.{ℕ, ◌+◌, ◌%◌, ◌≡◌, List, [], ◌∷◌, ◌++◌, map, Bool, not, ◌&&◌, eqb, ltb, length, Result, Err, Ok, ⊤}
 use Rattle.lists.specs.Lists.{keep}
 use Rattle.sets.specs.Limits.{max_set_length}
 use Rattle.sets.specs.Refusals.{refuse_if, unless}
 use Rattle.sets.specs.declared.Side.{Side}
 use Rattle.sets.specs.declared.Side.TheVariants.{Left, Right}
 use Rattle.sets.specs.declared.Refusal.TheVariants.{Malformed, NumberUsed, TooMany, ShortOutput, Overlong}
-use Rattle.sets.specs.declared.Tested.{Tested}
-use Rattle.sets.specs.declared.Tested.TheVariants.{Passed, Failed}
 use Rattle.tag_file.specs.declared.Repeats.{Repeats}
-use Rattle.tag_file.specs.declared.LoadAnswer.{LoadAnswer}
-use Rattle.tag_file.specs.declared.LoadAnswer.TheVariants as load
 use Rattle.tag_file.specs.Records.{TagRecord, total_length, records, same_side, of_side, all_tags, collapse}
 use Rattle.tag_file.specs.Repeats.{repeats_of}
 use Rattle.tag_file.specs.Loading.{number_used, too_many, file_fault, Lists, filled, room_for, totals_of, lists_by}
+use Rattle.sets.specs.declared.Refusal.{Refusal}
+use Rattle.tag_file.specs.declared.Loaded.{Loaded}
 
 -- ---- the records of both files
 
@@ -44,20 +42,20 @@ place_after base place = (base + place) % 18446744073709551616
 
 -- the test of a whole record of the second file after those seen in it: a left set's has no fault; a right set's has 2 within its
 -- file, and then 3 over the pooled records
-unfoldable pub second_fault_of : List TagRecord → ℕ → List TagRecord → TagRecord → Tested
+unfoldable pub second_fault_of : List TagRecord → ℕ → List TagRecord → TagRecord → Result ⊤ Refusal
 second_fault_of first base seen r =
-    unless Failed (refuse_if (same_side Right r.side && number_used seen r) (NumberUsed (place_after base (total_length seen))))
+    unless Err (refuse_if (same_side Right r.side && number_used seen r) (NumberUsed (place_after base (total_length seen))))
     (refuse_if (same_side Right r.side && too_many Right (pooled first (seen ++ (r ∷ []))))
     (TooMany (place_after base (total_length seen))))
 
 -- the first fault of records of the second file that follow those seen, and else what the reading ended with
-unfoldable pub first_second_fault : List TagRecord → ℕ → List TagRecord → List TagRecord → Tested → Tested
+unfoldable pub first_second_fault : List TagRecord → ℕ → List TagRecord → List TagRecord → Result ⊤ Refusal → Result ⊤ Refusal
 first_second_fault first base seen [] last = last
 first_second_fault first base seen (r ∷ rs) last =
-    unless Failed (second_fault_of first base seen r) (first_second_fault first base (seen ++ (r ∷ [])) rs last)
+    unless Err (second_fault_of first base seen r) (first_second_fault first base (seen ++ (r ∷ [])) rs last)
 
 -- the first fault of the second file: of its whole records, and else at the place where they end, unless the file ends there
-unfoldable pub second_fault : List TagRecord → ℕ → List ℕ → Tested
+unfoldable pub second_fault : List TagRecord → ℕ → List ℕ → Result ⊤ Refusal
 second_fault first base file =
     first_second_fault first base [] (records file)
     (refuse_if (not (eqb (total_length (records file)) (length file))) (Malformed (place_after base (total_length (records file)))))
@@ -70,10 +68,10 @@ is_overlong first r =
     same_side Right r.side && ltb max_set_length (length (collapse (all_tags (keep (same_set r) first) ++ r.tags)))
 
 -- the first record of the second file that does, among those that follow the ones seen
-unfoldable pub first_overlong : List TagRecord → ℕ → List TagRecord → List TagRecord → Tested
-first_overlong first base seen [] = Passed
+unfoldable pub first_overlong : List TagRecord → ℕ → List TagRecord → List TagRecord → Result ⊤ Refusal
+first_overlong first base seen [] = Ok tt
 first_overlong first base seen (r ∷ rs) =
-    unless Failed (refuse_if (is_overlong first r) (Overlong (place_after base (total_length seen))))
+    unless Err (refuse_if (is_overlong first r) (Overlong (place_after base (total_length seen))))
     (first_overlong first base (seen ++ (r ∷ [])) rs)
 
 -- ---- repeats
@@ -91,20 +89,20 @@ pooled_records first second = pooled (records first) (records second)
 
 -- the answer: the first file's first fault; the second's; then 4 over the pooled records; then 10; else how much was filled, and the
 -- repeats
-unfoldable pub pooled_answer : List ℕ → List ℕ → Lists → LoadAnswer
+unfoldable pub pooled_answer : List ℕ → List ℕ → Lists → Result (Loaded × Repeats) Refusal
 pooled_answer first second lent =
-    unless load.Refused (file_fault first)
-    (unless load.Refused (second_fault (records first) (length first) second)
-    (unless load.Refused (refuse_if (not (room_for (filled (pooled_records first second)) lent)) ShortOutput)
-    (unless load.Refused (first_overlong (records first) (length first) [] (records second))
-    (load.Loaded (totals_of (pooled_records first second)) (pooled_repeats (records first) (records second))))))
+    unless Err (file_fault first)
+    (unless Err (second_fault (records first) (length first) second)
+    (unless Err (refuse_if (not (room_for (filled (pooled_records first second)) lent)) ShortOutput)
+    (unless Err (first_overlong (records first) (length first) [] (records second))
+    (Ok ((totals_of (pooled_records first second)), (pooled_repeats (records first) (records second)))))))
 
 -- the seven lent lists at the end
 abbrev pub pooled_lists : List ℕ → List ℕ → Lists → Lists
 pooled_lists first second lent = lists_by (pooled_answer first second lent) (filled (pooled_records first second)) lent
 
 -- a pooled load of two files into seven lent lists: what is answered, and each list afterwards
-pub record PooledCall (first second : List ℕ) (before after : Lists) (answer : LoadAnswer) : Type 0 where
+pub record PooledCall (first second : List ℕ) (before after : Lists) (answer : Result (Loaded × Repeats) Refusal) : Type 0 where
   pub answered : answer ≡ pooled_answer first second before
   pub tags : after.tags ≡ (pooled_lists first second before).tags
   pub left_numbers : after.left_numbers ≡ (pooled_lists first second before).left_numbers

@@ -1,11 +1,11 @@
 -- The state of the pass with one more right set of the second file: pooled with one of the first, or behind the others.
-use Rattle.std.proofs.Common.{◌≡◌, ℕ, ◌+◌, ◌-◌, ◌≤◌, Bool, true, false, ◌||◌, ltb, List, [], ◌∷◌, ◌++◌, length, sym, refl, ap, ◌∙◌, subst, arith, ltb-false}
+use Rattle.std.proofs.Common.{◌≡◌, ℕ, ◌+◌, ◌-◌, true, false, ◌||◌, ltb, List, [], ◌∷◌, ◌++◌, length, sym, ap, ◌∙◌, subst, arith, ltb-false}
 use Rattle.lists.proofs.Bools.{or_left_false, or_right_false}
 use Rattle.sets.specs.Limits.{max_items, max_sets, max_entries}
 use Rattle.sets.specs.declared.Side.{Side}
 use Rattle.sets.specs.declared.Side.TheVariants.{Left, Right}
 use Rattle.tag_file.specs.declared.Loaded.{Loaded}
-use Rattle.tag_file.specs.Records.{TagRecord, same_side, of_side, insert_all, collapse, tag_table, entries_of}
+use Rattle.tag_file.specs.Records.{TagRecord, same_side, of_side, insert_all, tag_table, entries_of}
 use Rattle.tag_file.specs.Loading.{too_many, totals_of}
 use Rattle.pool_loader_spec.proofs.OneMore.{Grown}
 use Rattle.pool_loader_spec.proofs.Growing.{table_grown, sets_grown, entries_other, entries_grown}
@@ -18,21 +18,22 @@ use Rattle.tag_scan.proofs.Taking.{taken_over, taken_next}
 use Rattle.pool_scan.specs.declared.union.United.{United}
 use Rattle.pool_scan.specs.union.Union.{TakenIn}
 use Rattle.pool_scan.specs.counting.Counting.{united_by}
+use Rattle.tag_index.specs.declared.TagIndex.{TagIndex}
 
 -- what is known of the records with one more right set: whether they pass a limit, and if not, that they are taken in
-pub record OneTaken (is : List TagRecord) (total : Loaded) (heads tails ids : List ℕ) : Type 0 where
+pub record OneTaken (is : List TagRecord) (total : Loaded) (index : TagIndex) : Type 0 where
   pub over : passes total.right_sets total.right_entries total.tag_count ≡ too_many Right is
-  pub taken : too_many Right is ≡ false → Taken is total heads tails ids
+  pub taken : too_many Right is ≡ false → Taken is total index
 
 -- behind the others
-module _ {was : List TagRecord} {total : Loaded} {heads tails ids : List ℕ} (t : Taken was total heads tails ids)
-    (s : TagRecord) (right : s.side ≡ Right) {u : United} {now-heads now-tails now-ids : List ℕ}
-    (i : TakenIn [] s.tags heads tails total.tag_count ids u now-heads now-tails now-ids) where
+module _ {was : List TagRecord} {total : Loaded} {index : TagIndex} (t : Taken was total index)
+    (s : TagRecord) (right : s.side ≡ Right) {u : United} {now-index : TagIndex}
+    (i : TakenIn [] s.tags index total.tag_count u now-index) where
   abbrev grown : Side → Loaded
   grown side = grown_by total side u.tag_count u.all
 
   pub alone_taken : {is : List TagRecord} → is ≡ was ++ (s ∷ [])
-      → OneTaken is (united_by total u false) now-heads now-tails now-ids
+      → OneTaken is (united_by total u false) now-index
   alone_taken {is} e =
       let told : is_over (united_by total u false) Right ≡ too_many Right (was ++ (s ∷ [])) =
       subst (λ (side : Side). is_over (grown side) side ≡ too_many side (was ++ (s ∷ []))) right
@@ -41,17 +42,17 @@ module _ {was : List TagRecord} {total : Loaded} {heads tails ids : List ℕ} (t
       record {
         over = told ∙ ap (too_many Right) (sym e);
         taken = λ few.
-            subst (λ (rs : List TagRecord). Taken rs (united_by total u false) now-heads now-tails now-ids) (sym e)
+            subst (λ (rs : List TagRecord). Taken rs (united_by total u false) now-index) (sym e)
             (taken_next t s i.sorted i.table i.all_counted (ap grown (sym right))
             (subst (λ (side : Side). is_over (grown side) side ≡ false) (sym right) (told ∙ ap (too_many Right) (sym e) ∙ few)));
       }
 
 -- pooled with one of the first file
-module _ {was : List TagRecord} {total : Loaded} {heads tails ids : List ℕ} (t : Taken was total heads tails ids)
-    (r : TagRecord) (right : r.side ≡ Right) (new : List ℕ) {u : United} {now-heads now-tails now-ids : List ℕ}
-    (i : TakenIn r.tags new heads tails total.tag_count ids u now-heads now-tails now-ids) {is : List TagRecord}
+module _ {was : List TagRecord} {total : Loaded} {index : TagIndex} (t : Taken was total index)
+    (r : TagRecord) (right : r.side ≡ Right) (new : List ℕ) {u : United} {now-index : TagIndex}
+    (i : TakenIn r.tags new index total.tag_count u now-index) {is : List TagRecord}
     (g : Grown was is r new) where
-  table_met : table_of now-heads now-tails u.tag_count now-ids ≡ tag_table is
+  table_met : table_of now-index u.tag_count ≡ tag_table is
   table_met = i.table ∙ ap (λ (l : List ℕ). insert_all l new) t.table ∙ sym (table_grown g)
 
   counts_met : united_by total u true ≡ totals_of is
@@ -78,7 +79,7 @@ module _ {was : List TagRecord} {total : Loaded} {heads tails ids : List ℕ} (t
       let tags : u.tag_count ≡ length (tag_table is) = sym (sorted_size i.sorted) ∙ ap length table_met in
       rw (sets, others, entries, grew, tags)
 
-  pub met_taken : OneTaken is (united_by total u true) now-heads now-tails now-ids
+  pub met_taken : OneTaken is (united_by total u true) now-index
   met_taken =
       let told : is_over (united_by total u true) Right ≡ too_many Right is =
       ap (λ (q : Loaded). is_over q Right) counts_met ∙ over_too_many Right is

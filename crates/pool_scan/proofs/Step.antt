@@ -1,8 +1,8 @@
 -- A right set of the second file in the pass: what it asks for before its tags are taken in, and what holds of the pooled records, the
 -- slots and its length once they are. It is one that the first file has, or one that it has not.
-use Rattle.std.proofs.Common.{◌≡◌, ℕ, ◌+◌, ◌<◌, ◌≤◌, Bool, true, false, ◌&&◌, eqb, List, [], ◌∷◌, ◌++◌, length, get_or, set, sym, refl, ap, ◌∙◌, subst, append_assoc, arith, length-set, eq-eqb, eqb-true}
+use Rattle.std.proofs.Common.{◌≡◌, ℕ, ◌+◌, ◌<◌, ◌≤◌, Bool, true, false, eqb, List, [], ◌∷◌, ◌++◌, length, get_or, set, sym, refl, ap, ◌∙◌, subst, arith, length-set, eq-eqb, eqb-true}
 use Rattle.lists.specs.Lists.{keep, any, memb}
-use Rattle.lists.proofs.Bools.{by_test, true-false, and_right, and_both, or_left_false, or_right_false, refuted}
+use Rattle.lists.proofs.Bools.{by_test, and_right, and_both, or_left_false, or_right_false, refuted}
 use Rattle.lists.proofs.Throughout.{any_append}
 use Rattle.bit_sets.specs.BitSets.{member}
 use Rattle.sets.specs.Limits.{max_sets, max_set_length, half_words}
@@ -11,8 +11,8 @@ use Rattle.sets.specs.declared.Side.TheVariants.{Right}
 use Rattle.tag_file.specs.declared.Loaded.{Loaded}
 use Rattle.tag_file.specs.declared.Repeats.{Repeats}
 use Rattle.tag_file.specs.declared.ReadAnswer.TheVariants.{Record}
-use Rattle.tag_file.specs.Reading.{read_at, past_tags, tags_at}
-use Rattle.tag_file.specs.Records.{TagRecord, total_length, records, same_side, all_tags, collapse, tag_table}
+use Rattle.tag_file.specs.Reading.{read_at, tags_at}
+use Rattle.tag_file.specs.Records.{TagRecord, total_length, records, same_side, all_tags, collapse}
 use Rattle.tag_file.specs.Loading.{number_used}
 use Rattle.tag_file.proofs.FoundRecords.{ReadFound, read_found, found_number}
 use Rattle.tag_file.proofs.RecordLaws.{same_side_lem, read_past, read_within}
@@ -33,11 +33,12 @@ use Rattle.pool_scan.specs.Second.{SecondReady}
 use Rattle.pool_scan.proofs.Counts.{OneTaken, alone_taken, met_taken}
 use Rattle.pool_scan.proofs.Passing.{Passing, this}
 use Rattle.pool_scan.proofs.Words.{word_apart, word_met, own_none, own_one, noted_tells}
+use Rattle.tag_index.specs.declared.TagIndex.{TagIndex}
 
 -- what holds once the tags of a record are taken in
 pub record Stepped (first : List ℕ) (seen : List TagRecord) (s : TagRecord) (used : List ℕ) (total : Loaded) (u : United)
-    (now-heads now-tails now-ids now-slots : List ℕ) : Type 0 where
-  pub one : OneTaken (pooled (records first) (seen ++ (s ∷ []))) (united_by total u u.met) now-heads now-tails now-ids
+    (now-index : TagIndex) (now-slots : List ℕ) : Type 0 where
+  pub one : OneTaken (pooled (records first) (seen ++ (s ∷ []))) (united_by total u u.met) now-index
   pub size : length now-slots ≡ max_sets
   pub words : AtSlots (slot_word (seen ++ (s ∷ []))) (records first) used now-slots
   pub own : List ℕ
@@ -45,10 +46,10 @@ pub record Stepped (first : List ℕ) (seen : List TagRecord) (s : TagRecord) (u
   pub counted : u.all ≡ length (collapse (own ++ s.tags))
   pub distinct : u.second ≡ length (collapse s.tags)
 
-module _ {first second used counts heads₀ tails₀ ids₀ slots₀ : List ℕ} {total₀ : Loaded} {found₀ : Repeats}
-    (ready : SecondReady first total₀ found₀ heads₀ tails₀ ids₀ used counts slots₀) (byte : (i : ℕ) → get_or first i 0 < 256)
-    {noted heads tails ids slots : List ℕ} {counted : Counted} {at : ℕ}
-    (p : Passing first second noted used heads tails ids slots counted at)
+module _ {first second used counts : List ℕ} {index₀ : TagIndex} {slots₀ : List ℕ} {total₀ : Loaded} {found₀ : Repeats}
+    (ready : SecondReady first total₀ found₀ index₀ used counts slots₀) (byte : (i : ℕ) → get_or first i 0 < 256)
+    {noted : List ℕ} {index : TagIndex} {slots : List ℕ} {counted : Counted} {at : ℕ}
+    (p : Passing first second noted used index slots counted at)
     {side : Side} {n c q next : ℕ} (e : read_at second at ≡ Record side n c q next)
     (right : same_side Right side ≡ true) (small : n < half_words) (free : member noted n ≡ false) where
   abbrev total : Loaded
@@ -110,22 +111,22 @@ module _ {first second used counts heads₀ tails₀ ids₀ slots₀ : List ℕ}
         ap (keep (same_set s)) f.split
         ∙ met_only f.before r f.after p.seen s right same new (λ b t a is. once b t a (f.split ∙ is))
 
-    known : (y : ℕ) → memb y (tags_at found.count first found.place) ≡ true → memb y (table_of heads tails total.tag_count ids) ≡ true
+    known : (y : ℕ) → memb y (tags_at found.count first found.place) ≡ true → memb y (table_of index total.tag_count) ≡ true
     known y m =
         ap (memb y) p.taken.table ∙ memb-collapse y (all_tags (pooled A p.seen))
         ∙ ap (λ (l : List TagRecord). memb y (all_tags l)) grew.stood
         ∙ memb_around grew.before r grew.after y (ap (memb y) found.tags ∙ m)
 
-    pub step_there : KnownRecordAt first (get_or slots (number_slot used n) 0) (table_of heads tails total.tag_count ids)
+    pub step_there : KnownRecordAt first (get_or slots (number_slot used n) 0) (table_of index total.tag_count)
     step_there = record { count = found.count; start = found.place; there = there; known = known }
 
     pub step_slot : number_slot used n < max_sets
     step_slot = slot_below used ready.slotted.noted n small met
 
-  pub step_ready : c ≤ max_set_length → UniteReady first second n q c total.tag_count heads tails ids used counts slots
+  pub step_ready : c ≤ max_set_length → UniteReady first second n q c total.tag_count index used counts slots
   step_ready few =
       record {
-        index = record { sorted = p.taken.sorted; small = p.taken.limited.tags };
+        index_ready = record { sorted = p.taken.sorted; small = p.taken.limited.tags };
         tags_inside = record { inside = omega (arith, read_past second at e, read_within second at e); few = few };
         wide = ready.slotted.noted.wide;
         small = small;
@@ -135,8 +136,8 @@ module _ {first second used counts heads₀ tails₀ ids₀ slots₀ : List ℕ}
         there = step_there;
       }
 
-  module _ {u : United} {now-heads now-tails now-ids now-slots : List ℕ}
-      (t : Taking first second n q c total.tag_count heads tails ids used slots u now-heads now-tails now-ids now-slots) where
+  module _ {u : United} {now-index : TagIndex} {now-slots : List ℕ}
+      (t : Taking first second n q c total.tag_count index used slots u now-index now-slots) where
     counts_as : (b : Bool) → member used n ≡ b → united_by total u u.met ≡ united_by total u b
     counts_as b is = ap (united_by total u) (t.told ∙ is)
 
@@ -147,12 +148,12 @@ module _ {first second used counts heads₀ tails₀ ids₀ slots₀ : List ℕ}
         (λ out. ((t.alone out).less, (t.alone out).few))
 
     -- one that the first file has not
-    step_alone : member used n ≡ false → Stepped first p.seen s used total u now-heads now-tails now-ids now-slots
+    step_alone : member used n ≡ false → Stepped first p.seen s used total u now-index now-slots
     unfolding any
     step_alone out =
         let unused : number_used A s ≡ false = missed_right ready.slotted.noted n small out s right refl in
         record {
-          one = subst (λ (l : Loaded). OneTaken (pooled A (p.seen ++ (s ∷ []))) l now-heads now-tails now-ids) (sym (counts_as false out))
+          one = subst (λ (l : Loaded). OneTaken (pooled A (p.seen ++ (s ∷ []))) l now-index) (sym (counts_as false out))
               (alone_taken p.taken s (sym (same_side_lem Right side right)) (t.alone out) (pooled_new A p.seen s right unused));
           size = ap length (t.kept out) ∙ p.size;
           words = λ b w a split side-w.
@@ -171,13 +172,13 @@ module _ {first second used counts heads₀ tails₀ ids₀ slots₀ : List ℕ}
             (sym (any_append (λ x. same_set x s) b (w ∷ a)) ∙ ap (λ (l : List TagRecord). number_used l s) (sym split) ∙ unused))
 
     -- one that it has
-    step_met : member used n ≡ true → Stepped first p.seen s used total u now-heads now-tails now-ids now-slots
+    step_met : member used n ≡ true → Stepped first p.seen s used total u now-index now-slots
     step_met met =
         let w = f met in
-        let i = subst (λ (l : List ℕ). TakenIn l (tags_at c second q) heads tails total.tag_count ids u now-heads now-tails now-ids)
+        let i = subst (λ (l : List ℕ). TakenIn l (tags_at c second q) index total.tag_count u now-index)
         (sym (found met).tags) (t.met met (found met).count (found met).place (there met)) in
         record {
-          one = subst (λ (l : Loaded). OneTaken (pooled A (p.seen ++ (s ∷ []))) l now-heads now-tails now-ids) (sym (counts_as true met))
+          one = subst (λ (l : Loaded). OneTaken (pooled A (p.seen ++ (s ∷ []))) l now-index) (sym (counts_as true met))
               (met_taken p.taken w.this (sym (same_side_lem Right w.this.side w.right)) (tags_at c second q) i (grew met));
           size = ap length (t.noted met) ∙ length-set slots (number_slot used n) (pooled_mark + u.all) ∙ p.size;
           words = subst (λ (l : List ℕ). AtSlots (slot_word (p.seen ++ (s ∷ []))) A used l) (sym (written met w))
@@ -200,5 +201,5 @@ module _ {first second used counts heads₀ tails₀ ids₀ slots₀ : List ℕ}
             refuted (same_set x s)
             (λ yes. other (eqb-true x.number n (and_right (same_side x.side side) (eqb x.number n) yes) ∙ sym (f met).number))
 
-    pub stepped : Stepped first p.seen s used total u now-heads now-tails now-ids now-slots
+    pub stepped : Stepped first p.seen s used total u now-index now-slots
     stepped = by_test (member used n) step_met step_alone

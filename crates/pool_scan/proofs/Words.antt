@@ -9,13 +9,13 @@ use Rattle.bit_sets.specs.BitSets.{member, Inserted}
 use Rattle.bit_sets.proofs.Members.{no_member}
 use Rattle.sets.specs.Limits.{max_set_length, half_words}
 use Rattle.sets.specs.declared.Side.{Side}
-use Rattle.sets.specs.declared.Side.TheVariants.{Left, Right}
+use Rattle.sets.specs.declared.Side.TheVariants.{Right}
 use Rattle.tag_file.specs.Records.{TagRecord, total_length, same_side, of_side, all_tags, collapse}
 use Rattle.tag_file.specs.Loading.{number_used}
 use Rattle.tag_file.proofs.FaultFree.{same_side-sym, side_own, side_other}
 use Rattle.tag_file.proofs.RecordLaws.{same_side_lem}
 use Rattle.pool_loader_spec.specs.Pooling.{same_set, united_with, is_overlong}
-use Rattle.pool_loader_spec.proofs.OneMore.{with_tags, none_of, used_keep, united_apart, united_one, same_set_comm}
+use Rattle.pool_loader_spec.proofs.OneMore.{none_of, used_keep, united_apart, united_one, same_set_comm}
 use Rattle.pool_scan.specs.right_slots.Slots.{number_words, slot_word, pooled_mark}
 
 -- ---- whether a number is used, with one more record

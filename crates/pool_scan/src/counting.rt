@@ -1,31 +1,29 @@
 // What the pass over the second of two pooled files counts: the sets, entries and tags of both files, their repeats, and the first set
 // that is too long as a union. A set of both files is counted once; its repeats by the second file's record alone.
-ghost use Rattle.std.specs.Prelude.{◌≡◌, ◌+◌, ◌≤◌, nat_lt};
+ghost use Rattle.std.specs.Prelude.{◌≡◌, ◌+◌, ◌≤◌, nat_lt, Err};
 ghost use Rattle.sets.specs.Limits.{max_set_length};
 ghost use Rattle.sets.specs.Refusals.{refuse_if, unless};
 ghost use Rattle.sets.specs.declared.Refusal.TheVariants.{Overlong};
-ghost use Rattle.sets.specs.declared.Tested.TheVariants.{Failed};
-ghost use Rattle.tag_file.specs.declared.LoadAnswer.TheVariants.{Refused};
 ghost use Rattle.tag_scan.specs.totals.Totals.{Limited};
 ghost use Rattle.pool_scan.specs.counting.Counting.{counted_from, united_by, counted_by, accepted_by, CountReady};
 
 use crate::union::United;
-use sets::{MAX_SET_LENGTH, Refusal, Tested};
-use tag_file::{LoadAnswer, Loaded, Repeats};
+use sets::{MAX_SET_LENGTH, Refusal};
+use tag_file::{Loaded, Repeats};
 
 // The counts so far, the repeats, and the first record whose pooled set is too long.
 #[derive(Clone, Copy)]
 pub struct Counted {
     pub total: Loaded,
     pub repeats: Repeats,
-    pub long: Tested,
+    pub long: Result<(), Refusal>,
 }
 
 // What the pass answers: the first fault, or the counts; and the first record whose pooled set is too long.
 #[derive(Clone, Copy)]
 pub struct Second {
-    pub answer: LoadAnswer,
-    pub long: Tested,
+    pub answer: Result<(Loaded, Repeats), Refusal>,
+    pub long: Result<(), Refusal>,
 }
 
 // What is counted before the second file: what the first file has.
@@ -35,7 +33,7 @@ pub fn count_from(before: Loaded, found: Repeats) -> Counted
     Counted {
         total: before,
         repeats: found,
-        long: Tested::Passed,
+        long: Ok(()),
     }
 }
 
@@ -65,19 +63,14 @@ fn grown_by(total: Loaded, united: United) -> Loaded
 }
 
 // The first pooled set that is too long: the one before, or this one.
-fn first_long(before: Tested, all: usize, place: usize) -> Tested
-    ensures { result ≡ unless Failed before (refuse_if (nat_lt max_set_length all) (Overlong place)) }
+fn first_long(before: Result<(), Refusal>, all: usize, place: usize) -> Result<(), Refusal>
+    ensures { result ≡ unless Err before (refuse_if (nat_lt max_set_length all) (Overlong place)) }
 {
-    match before {
-        Tested::Failed(why) => Tested::Failed(why),
-        Tested::Passed => {
-            if all > MAX_SET_LENGTH {
-                Tested::Failed(Refusal::Overlong(place))
-            } else {
-                Tested::Passed
-            }
-        }
+    before?;
+    if all > MAX_SET_LENGTH {
+        return Err(Refusal::Overlong(place));
     }
+    Ok(())
 }
 
 // One more right set of the second file, of so many tags, whose record is at a place.
@@ -102,11 +95,11 @@ pub fn count_set(before: Counted, united: United, count: usize, place: usize) ->
 
 // The answer when a record is at fault.
 pub fn refused(why: Refusal) -> Second
-    ensures { result.answer ≡ Refused why }
+    ensures { result.answer ≡ Err why }
 {
     Second {
-        answer: LoadAnswer::Refused(why),
-        long: Tested::Passed,
+        answer: Err(why),
+        long: Ok(()),
     }
 }
 
@@ -118,7 +111,7 @@ pub fn accepted(counted: Counted) -> Second
     let repeats = counted.repeats;
     let long = counted.long;
     Second {
-        answer: LoadAnswer::Loaded(total, repeats),
+        answer: Ok((total, repeats)),
         long,
     }
 }

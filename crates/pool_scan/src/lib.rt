@@ -14,8 +14,8 @@ use crate::right_slots::NUMBER_WORDS;
 use crate::union::unite;
 use sets::{Refusal, Side};
 use std::num::wrapping_add_usize;
-use tag_file::{Loaded, ReadAnswer, Repeats, is_side, read_record};
-use tag_index::{HINT_SLOTS, INDEX_ROOM};
+use tag_file::{Loaded, ReadAnswer, Repeats, read_record};
+use tag_index::TagIndex;
 use tag_scan::totals::is_past;
 
 pub mod counting;
@@ -39,14 +39,10 @@ pub fn scan_second(
     used: &[u64],
     counts: &[u16],
     slots: &mut [u32],
-    heads: &mut [usize; INDEX_ROOM],
-    tails: &mut [u32; INDEX_ROOM],
-    ids: &mut [u16; INDEX_ROOM],
-    hints: &mut [u16; HINT_SLOTS],
+    index: &mut TagIndex,
 ) -> Second
-    requires { SecondReady first.now before found heads.old tails.old ids.old used.now counts.now slots.old }
-    ensures { SecondScanned first.now second.now heads.new tails.new
-        ids.new used.now slots.new result }
+    requires { SecondReady first.now before found index.old used.now counts.now slots.old }
+    ensures { SecondScanned first.now second.now index.new used.now slots.new result }
 {
     let mut noted = [0u64; NUMBER_WORDS];
     let mut counted = count_from(before, found);
@@ -67,15 +63,14 @@ pub fn scan_second(
             }
             return refused(Refusal::Malformed(place));
         };
-        if is_side(Side::Right, side) {
+        if side == Side::Right {
             if claim(&mut noted, number) {
                 return refused(Refusal::NumberUsed(place));
             }
             let so_far = counted.total;
             let n = so_far.tag_count;
             let united = unite(
-                first, second, number, tags_at, count, used, counts, slots, heads, tails, ids,
-                hints, n,
+                first, second, number, tags_at, count, used, counts, slots, index, n,
             );
             counted = count_set(counted, united, count, place);
             let total = counted.total;

@@ -11,7 +11,7 @@ ghost use Rattle.pool_scan.specs.right_slots.Slots.{Slotted, Slottable};
 
 use bit_sets::{insert, ones_below, ones_of};
 use sets::Side;
-use tag_file::{ReadAnswer, is_side, read_record};
+use tag_file::{ReadAnswer, read_record};
 
 // How many numbers 16 bits have.
 pub const HALF_WORDS: usize = 65536;
@@ -66,7 +66,7 @@ fn note_numbers(file: &[u8], used: &mut [u64])
             return;
         };
         at = next;
-        if !is_side(Side::Right, side) {
+        if side != Side::Right {
             continue;
         }
         insert(used, number as usize);
@@ -91,9 +91,9 @@ fn count_blocks(used: &[u64], counts: &mut [u16])
     ensures { BlocksCounted used.now counts.new }
 {
     let mut total: usize = 0;
-    for b in 0..counts.len() {
-        counts[b] = total as u16;
-        total = total + block_ones(used, b);
+    for (b, count) in counts.iter_mut().enumerate() {
+        *count = total as u16;
+        total += block_ones(used, b);
     }
 }
 
@@ -120,7 +120,7 @@ fn put_places(file: &[u8], used: &[u64], counts: &[u16], slots: &mut [u32])
         };
         let here = at;
         at = next;
-        if !is_side(Side::Right, side) {
+        if side != Side::Right {
             continue;
         }
         let slot = number_slot(used, counts, number);

@@ -10,9 +10,9 @@ ghost use Rattle.pool_scan.specs.union.Union.{UniteReady, Taking};
 use crate::right_slots::{POOLED_MARK, number_slot};
 use bit_sets::contains;
 use tag_file::{ReadAnswer, read_record};
+use tag_index::TagIndex;
 use tag_index::own_tags::add_beside;
 use tag_index::tag_adding::{Added, SEEN_WORDS, add_tags};
-use tag_index::{HINT_SLOTS, INDEX_ROOM};
 
 // The tags of a set of the second file: how many the index has with them, how many distinct ones the first file's set of its number had,
 // how many the second's record has, how many both have together, and whether there is one.
@@ -26,21 +26,12 @@ pub struct United {
 }
 
 // Adds the tags of the record at a place of the first file, the first of a set.
-fn add_first(
-    first: &[u8],
-    at: usize,
-    heads: &mut [usize; INDEX_ROOM],
-    tails: &mut [u32; INDEX_ROOM],
-    ids: &mut [u16; INDEX_ROOM],
-    seen: &mut [u64],
-    hints: &mut [u16; HINT_SLOTS],
-    n: usize,
-) -> Added
-    requires index_ready { IndexReady heads.old tails.old n ids.old }
+fn add_first(first: &[u8], at: usize, index: &mut TagIndex, seen: &mut [u64], n: usize) -> Added
+    requires index_ready { IndexReady index.old n }
     requires seen_value { seen.old ≡ replicate seen_words 0 }
     ensures { (count start : ℕ) → WholeRecordAt first.now at count start
-        → AllAdded [] first.now start count n heads.old tails.old ids.old
-        result.tag_count result.distinct heads.new tails.new ids.new seen.new }
+        → AllAdded [] first.now start count n index.old
+        result.tag_count result.distinct index.new seen.new }
 {
     let answer = read_record(first, at);
     let sum = Added {
@@ -54,37 +45,24 @@ fn add_first(
             count,
             tags_at,
             next: _,
-        } => add_tags(first, heads, tails, ids, seen, hints, tags_at, count, sum),
+        } => add_tags(first, index, seen, tags_at, count, sum),
         ReadAnswer::NoMore => sum,
         ReadAnswer::Refused(_) => sum,
     }
 }
 
 // Takes in the tags of a right set of the second file that is not in the first file.
-fn add_alone(
-    second: &[u8],
-    start: usize,
-    count: usize,
-    heads: &mut [usize; INDEX_ROOM],
-    tails: &mut [u32; INDEX_ROOM],
-    ids: &mut [u16; INDEX_ROOM],
-    hints: &mut [u16; HINT_SLOTS],
-    n: usize,
-) -> United
-    requires index_ready { IndexReady heads.old tails.old n ids.old }
+fn add_alone(second: &[u8], start: usize, count: usize, index: &mut TagIndex, n: usize) -> United
+    requires index_ready { IndexReady index.old n }
     requires tags_inside { TagsInside second.now start count }
-    ensures { AddedAlone (tags_at count second.now start)
-        heads.old tails.old n ids.old result
-        heads.new tails.new ids.new }
+    ensures { AddedAlone (tags_at count second.now start) index.old n result index.new }
 {
     let mut seen = [0u64; SEEN_WORDS];
     let sum = Added {
         tag_count: n,
         distinct: 0,
     };
-    let added = add_tags(
-        second, heads, tails, ids, &mut seen, hints, start, count, sum,
-    );
+    let added = add_tags(second, index, &mut seen, start, count, sum);
     United {
         tag_count: added.tag_count,
         first: 0,
@@ -101,24 +79,17 @@ fn add_both(
     second: &[u8],
     start: usize,
     count: usize,
-    heads: &mut [usize; INDEX_ROOM],
-    tails: &mut [u32; INDEX_ROOM],
-    ids: &mut [u16; INDEX_ROOM],
-    hints: &mut [u16; HINT_SLOTS],
+    index: &mut TagIndex,
     n: usize,
 ) -> United
-    requires index_ready { IndexReady heads.old tails.old n ids.old }
+    requires index_ready { IndexReady index.old n }
     requires tags_inside { TagsInside second.now start count }
-    requires known_record_at { KnownRecordAt first.now at (table_of heads.old tails.old n ids.old) }
-    ensures { AddedBoth first.now at (tags_at count second.now start)
-        heads.old tails.old n ids.old result
-        heads.new tails.new ids.new }
+    requires known_record_at { KnownRecordAt first.now at (table_of index.old n) }
+    ensures { AddedBoth first.now at (tags_at count second.now start) index.old n result index.new }
 {
     let mut seen = [0u64; SEEN_WORDS];
-    let before = add_first(first, at, heads, tails, ids, &mut seen, hints, n);
-    let both = add_beside(
-        second, heads, tails, ids, &mut seen, hints, start, count, before,
-    );
+    let before = add_first(first, at, index, &mut seen, n);
+    let both = add_beside(second, index, &mut seen, start, count, before);
     United {
         tag_count: both.tag_count,
         first: before.distinct,
@@ -139,24 +110,20 @@ pub fn unite(
     used: &[u64],
     counts: &[u16],
     slots: &mut [u32],
-    heads: &mut [usize; INDEX_ROOM],
-    tails: &mut [u32; INDEX_ROOM],
-    ids: &mut [u16; INDEX_ROOM],
-    hints: &mut [u16; HINT_SLOTS],
+    index: &mut TagIndex,
     n: usize,
 ) -> United
-    requires { UniteReady first.now second.now number start count n heads.old tails.old ids.old
+    requires { UniteReady first.now second.now number start count n index.old
         used.now counts.now slots.old }
-    ensures { Taking first.now second.now number start count n
-        heads.old tails.old ids.old used.now slots.old result
-        heads.new tails.new ids.new slots.new }
+    ensures { Taking first.now second.now number start count n index.old used.now slots.old result
+        index.new slots.new }
 {
     if !contains(used, number as usize) {
-        return add_alone(second, start, count, heads, tails, ids, hints, n);
+        return add_alone(second, start, count, index, n);
     }
     let slot = number_slot(used, counts, number);
     let at = slots[slot] as usize;
-    let united = add_both(first, at, second, start, count, heads, tails, ids, hints, n);
+    let united = add_both(first, at, second, start, count, index, n);
     slots[slot] = POOLED_MARK + united.all as u32;
     united
 }

@@ -35,17 +35,9 @@ pub record Walked (file : List ℕ) (start k j : ℕ) : Type 0 where
   pub none : (m : ℕ) → j ≤ m → m < k → tag_of file start m ≡ tag_of file start k → ⊥
 
 module _ {file : List ℕ} {start k : ℕ} {links : List ℕ} (l : Linked file start (k + 1) links) where
-  pub walked_start : {j : ℕ} → j ≡ get_or links k 0 → Walked file start k j
-  walked_start {j} e =
-      let last : LastIn file start (bucket_of (tag_of file start k)) k j = rw e (l.link k (omega arith)) in
-      record { within = last.within; here = last.here; none = λ m from below same. last.none m from below (ap bucket_of same) }
-
   module _ {j : ℕ} (w : Walked file start k j) (some : 0 < j) {next : ℕ} (e : next ≡ get_or links (j - 1) 0) where
     linked : LastIn file start (bucket_of (tag_of file start (j - 1))) (j - 1) next
     linked = rw e (l.link (j - 1) (omega (arith, w.within)))
-
-    pub walked_less : next < j
-    walked_less = omega (arith, linked.within)
 
     pub walked_step : (tag_of file start (j - 1) ≡ tag_of file start k → ⊥) → Walked file start k next
     walked_step other =

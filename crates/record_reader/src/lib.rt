@@ -26,14 +26,8 @@ fn bucket_of(tag: Tag) -> usize
     (tag.hi % BUCKETS + tag.lo) % BUCKETS
 }
 
-// A link: one more than the index of a tag in its record, or 0 for none.
-fn widen_link(x: u16) -> usize
-    ensures { result ≡ x }
-{
-    x as usize
-}
-
 // Chains the tag k of a record, whose first tag is at start: it links to the last tag of its bucket so far, and is the last one now.
+// A link is one more than the index of a tag in its record, or 0 for none.
 fn link(
     file: &[u8],
     start: usize,
@@ -57,14 +51,14 @@ fn is_repeat(file: &[u8], start: usize, k: usize, links: &[u16; MAX_SET_LENGTH])
     ensures { result ≡ memb (tag_of file.now start k) (tags_at k file.now start) }
 {
     let tag = tag_at(file, start + TAG_LENGTH * k);
-    let mut j = widen_link(links[k]);
+    let mut j = usize::from(links[k]);
     while j > 0 {
         let i = j - 1;
         let other = tag_at(file, start + TAG_LENGTH * i);
         if is_same(other, tag) {
             return true;
         }
-        j = widen_link(links[i]);
+        j = usize::from(links[i]);
     }
     false
 }
@@ -78,13 +72,11 @@ fn count_repeats(file: &[u8], start: usize, count: usize) -> usize
     let mut last = [0u16; BUCKETS];
     let mut links = [0u16; MAX_SET_LENGTH];
     let mut repeats = 0;
-    let mut k = 0;
-    while k < count {
+    for k in 0..count {
         link(file, start, k, &mut last, &mut links);
         if is_repeat(file, start, k, &links) {
             repeats += 1;
         }
-        k += 1;
     }
     repeats
 }

@@ -1,6 +1,6 @@
 -- The item entries of a collection without a bad set, as one list: the first `entries ends` items. They are below T, and an item
 -- occurs among them once for each set that holds it.
-use mathlib.Core.Path.{◌≡◌, refl, ◌∙◌}
+use mathlib.Core.Path.{◌≡◌, refl, sym, ◌∙◌}
 use mathlib.Core.List.{List, [], ◌∷◌, ◌++◌}
 use mathlib.Core.Bool.{true}
 use Prim.Native.Nat.{ℕ, suc, ◌+◌, ◌-◌, ◌<◌, ◌≤◌}
@@ -9,12 +9,13 @@ use native.Mathlib.Omega.{arith}
 use lib.Dec.{eqb, ltb}
 use lib.ListN.{length, get_or, take, drop}
 use lib.Seq.{take-add, drop-drop}
+use Rattle.std.specs.Prelude.{Some, None, slice_get}
+use Rattle.std.proofs.lemmas.Option.{none-some, slice_get_within, slice_get-get_or, get_or_from_slice_get}
 use Rattle.lists.specs.Lists.{count, all, memb}
 use Rattle.lists.proofs.Throughout.{all_append}
 use Rattle.lists.proofs.Counting.{count_append, count-distinct}
 use Rattle.lists.proofs.Rising.{rising-distinct}
 use Rattle.sets.specs.Collections.{between, sets_from, sets_of, first_bad_from, first_bad, last_end, entries}
-use Rattle.sets.specs.declared.Verdict.TheVariants.{Good}
 use Rattle.sets.proofs.Between.{between_nil}
 use Rattle.sets.proofs.Good.{good_cons, good_rest, last_above}
 
@@ -36,6 +37,17 @@ unfolding last_end
 entries_none [] none = refl
 entries_none (end ∷ ends) none = absurd (omega arith)
 
+-- the entries by what the slice's last element is found to be
+pub entries_some : (ends : List ℕ) (end : ℕ) → Some end ≡ slice_get ends (length ends - 1) → end ≡ entries ends
+entries_some ends end e =
+    let within = slice_get_within ends (length ends - 1) end (sym e) in
+    sym (entries_at ends (omega arith) ∙ get_or_from_slice_get ends (length ends - 1) end 0 (sym e))
+
+pub entries_empty : (ends : List ℕ) → None ≡ slice_get ends (length ends - 1) → 0 ≡ entries ends
+unfolding last_end
+entries_empty [] e = refl
+entries_empty (end ∷ ends) e = absurd (none-some _ (e ∙ slice_get-get_or (end ∷ ends) (length (end ∷ ends) - 1) 0 (omega arith)))
+
 pub between_append : (start mid end : ℕ) (l : List ℕ) → start ≤ mid → mid ≤ end
     → between start end l ≡ between start mid l ++ between mid end l
 between_append start mid end l low high =
@@ -43,7 +55,7 @@ between_append start mid end l low high =
     let there : start + (mid - start) ≡ mid = omega arith in
     rw (whole, take-add (mid - start) (end - mid) (drop start l), drop-drop (mid - start) start l, there)
 
-entries_from_below : (T k start : ℕ) (ends items : List ℕ) → first_bad_from T k start ends items ≡ Good
+entries_from_below : (T k start : ℕ) (ends items : List ℕ) → first_bad_from T k start ends items ≡ None
     → all (λ i. ltb i T) (between start (last_end start ends) items) ≡ true
 unfolding last_end all
 entries_from_below T k start [] items e = rw (between_nil start start items (omega arith))
@@ -57,12 +69,12 @@ entries_from_below T k start (end ∷ ends) items e =
 whole : (e : ℕ) (items : List ℕ) → between 0 e items ≡ take e items
 whole e items = rw (sub-zero e)
 
-pub entries_below : (T : ℕ) (ends items : List ℕ) → first_bad T ends items ≡ Good
+pub entries_below : (T : ℕ) (ends items : List ℕ) → first_bad T ends items ≡ None
     → all (λ i. ltb i T) (take (entries ends) items) ≡ true
 entries_below T ends items e = rw (whole (entries ends) items) at (entries_from_below T 0 0 ends items e)
 
 -- how many sets hold an item is how often it occurs among the entries
-count-sets_from : (T k start i : ℕ) (ends items : List ℕ) → first_bad_from T k start ends items ≡ Good
+count-sets_from : (T k start i : ℕ) (ends items : List ℕ) → first_bad_from T k start ends items ≡ None
     → count (memb i) (sets_from start ends items) ≡ count (eqb i) (between start (last_end start ends) items)
 unfolding last_end sets_from count
 count-sets_from T k start i [] items e = rw (between_nil start start items (omega arith))
@@ -76,6 +88,6 @@ count-sets_from T k start i (end ∷ ends) items e =
       count-sets_from T (suc k) end i ends items rest,
     )
 
-pub count-sets : (T i : ℕ) (ends items : List ℕ) → first_bad T ends items ≡ Good
+pub count-sets : (T i : ℕ) (ends items : List ℕ) → first_bad T ends items ≡ None
     → count (memb i) (sets_of ends items) ≡ count (eqb i) (take (entries ends) items)
 count-sets T i ends items e = rw (whole (entries ends) items) at (count-sets_from T 0 0 i ends items e)

@@ -10,23 +10,23 @@ use borrow.Author.Tests.{ltb-true, leb-true, leb-false, le-leb, lt-leb, not-fals
 use lib.Dec.{leb, ltb, lit≤}
 use lib.ListN.{length, get_or, drop, drop_of_length-le}
 use lib.Seq.{drop-cons, get_or-take, get_or-drop}
+use Rattle.std.specs.Prelude.{None, Some}
 use Rattle.lists.specs.Lists.{all, rising}
 use Rattle.lists.proofs.Bools.{by_test, and_left, and_right, and_both, or_left_false, or_right_false}
 use Rattle.lists.proofs.Throughout.{all_at}
 use Rattle.sets.specs.Limits.{max_sets, max_entries, max_set_length}
 use Rattle.sets.specs.Collections.{between, sets_from, sets_of, good_items, good_end, bad_set}
 use Rattle.sets.specs.Collections.{first_bad_from, first_bad, last_end, entries}
-use Rattle.sets.specs.declared.Verdict.TheVariants.{Good, Bad}
 use Rattle.sets.proofs.Between.{length-between}
 
 -- the walk from place k on: its end, a bad set, and the next place
 module _ (T : ℕ) (ends items : List ℕ) (k start : ℕ) where
-  pub first_bad_end : length ends ≤ k → first_bad_from T k start (drop k ends) items ≡ Good
+  pub first_bad_end : length ends ≤ k → first_bad_from T k start (drop k ends) items ≡ None
   unfolding first_bad_from
   first_bad_end past = rw (drop_of_length-le ends {i = k} past)
 
   pub first_bad-stop : k < length ends → bad_set T k start (get_or ends k 0) items ≡ true
-      → first_bad_from T k start (drop k ends) items ≡ Bad k
+      → first_bad_from T k start (drop k ends) items ≡ Some k
   unfolding first_bad_from
   first_bad-stop below bad = rw (drop-cons ends k 0 below, bad)
 
@@ -107,55 +107,55 @@ set_item T start end items k good e low high =
 
 -- the walk that ends Good over the ends that are left: what holds of the first set, and that the rest is Good
 unfolds_cons : (T k start end : ℕ) (ends items : List ℕ) (b : Bool) → bad_set T k start end items ≡ b
-    → first_bad_from T k start (end ∷ ends) items ≡ cond b (Bad k) (first_bad_from T (suc k) end ends items)
+    → first_bad_from T k start (end ∷ ends) items ≡ cond b (Some k) (first_bad_from T (suc k) end ends items)
 unfolding first_bad_from
 unfolds_cons T k start end ends items b e = rw e
 
-good_first : (T k start end : ℕ) (ends items : List ℕ) → first_bad_from T k start (end ∷ ends) items ≡ Good
+good_first : (T k start end : ℕ) (ends items : List ℕ) → first_bad_from T k start (end ∷ ends) items ≡ None
     → bad_set T k start end items ≡ false
 good_first T k start end ends items e =
     by_test (bad_set T k start end items)
     (λ bad.
-    let clash : Bad k ≡ Good = sym (unfolds_cons T k start end ends items true bad) ∙ e in
+    let clash : Some k ≡ None = sym (unfolds_cons T k start end ends items true bad) ∙ e in
     let z : ◌≡◌ {A = ℕ} 0 1 = cc in
     absurd (omega arith))
     (λ good. good)
 
-pub good_cons : (T k start end : ℕ) (ends items : List ℕ) → first_bad_from T k start (end ∷ ends) items ≡ Good
+pub good_cons : (T k start end : ℕ) (ends items : List ℕ) → first_bad_from T k start (end ∷ ends) items ≡ None
     → GoodSet T k start end items
 good_cons T k start end ends items e = good_set T k start end items (good_first T k start end ends items e)
 
-pub good_rest : (T k start end : ℕ) (ends items : List ℕ) → first_bad_from T k start (end ∷ ends) items ≡ Good
-    → first_bad_from T (suc k) end ends items ≡ Good
+pub good_rest : (T k start end : ℕ) (ends items : List ℕ) → first_bad_from T k start (end ∷ ends) items ≡ None
+    → first_bad_from T (suc k) end ends items ≡ None
 good_rest T k start end ends items e =
     sym (unfolds_cons T k start end ends items false (good_first T k start end ends items e)) ∙ e
 
 -- the same in a loop over the places: what holds at k, and that it goes on so from k + 1
 module _ (T : ℕ) (ends items : List ℕ) (k start : ℕ) (below : k < length ends)
-    (e : first_bad_from T k start (drop k ends) items ≡ Good) where
-  good_drop : first_bad_from T k start (get_or ends k 0 ∷ drop (suc k) ends) items ≡ Good
+    (e : first_bad_from T k start (drop k ends) items ≡ None) where
+  good_drop : first_bad_from T k start (get_or ends k 0 ∷ drop (suc k) ends) items ≡ None
   good_drop = rw (drop-cons ends k 0 below) at e
 
   pub good_step : GoodSet T k start (get_or ends k 0) items
   good_step = good_cons T k start (get_or ends k 0) (drop (suc k) ends) items good_drop
 
-  pub good_next : first_bad_from T (k + 1) (get_or ends k 0) (drop (k + 1) ends) items ≡ Good
+  pub good_next : first_bad_from T (k + 1) (get_or ends k 0) (drop (k + 1) ends) items ≡ None
   good_next = rw (add-one k) (good_rest T k start (get_or ends k 0) (drop (suc k) ends) items good_drop)
 
 -- no set ends past the items
-end_within_from : (T j start : ℕ) (ends items : List ℕ) → first_bad_from T j start ends items ≡ Good → (k : ℕ) → k < length ends
+end_within_from : (T j start : ℕ) (ends items : List ℕ) → first_bad_from T j start ends items ≡ None → (k : ℕ) → k < length ends
     → get_or ends k 0 ≤ length items
 end_within_from T j start [] items e k below = absurd (omega arith)
 end_within_from T j start (end ∷ ends) items e zero below = (good_cons T j start end ends items e).within
 end_within_from T j start (end ∷ ends) items e (suc k) below =
     end_within_from T (suc j) end ends items (good_rest T j start end ends items e) k (omega arith)
 
-pub end_within_lem : (T : ℕ) (ends items : List ℕ) → first_bad T ends items ≡ Good → (k : ℕ) → k < length ends
+pub end_within_lem : (T : ℕ) (ends items : List ℕ) → first_bad T ends items ≡ None → (k : ℕ) → k < length ends
     → get_or ends k 0 ≤ length items
 end_within_lem T ends items e = end_within_from T 0 0 ends items e
 
 -- at most 4,096 sets
-good_places_from : (T j start : ℕ) (ends items : List ℕ) → first_bad_from T j start ends items ≡ Good → j ≤ max_sets
+good_places_from : (T j start : ℕ) (ends items : List ℕ) → first_bad_from T j start ends items ≡ None → j ≤ max_sets
     → j + length ends ≤ max_sets
 good_places_from T j start [] items e low = omega arith
 good_places_from T j start (end ∷ ends) items e low =
@@ -163,11 +163,11 @@ good_places_from T j start (end ∷ ends) items e low =
     let rest = good_places_from T (suc j) end ends items (good_rest T j start end ends items e) (omega arith) in
     omega arith
 
-pub good_places : (T : ℕ) (ends items : List ℕ) → first_bad T ends items ≡ Good → length ends ≤ max_sets
+pub good_places : (T : ℕ) (ends items : List ℕ) → first_bad T ends items ≡ None → length ends ≤ max_sets
 good_places T ends items e = omega (arith, good_places_from T 0 0 ends items e (lit≤ tt))
 
 -- the last end: no end is above it, and it is within the limits
-pub last_above : (T j start : ℕ) (ends items : List ℕ) → first_bad_from T j start ends items ≡ Good → start ≤ last_end start ends
+pub last_above : (T j start : ℕ) (ends items : List ℕ) → first_bad_from T j start ends items ≡ None → start ≤ last_end start ends
 unfolding last_end
 last_above T j start [] items e = omega arith
 last_above T j start (end ∷ ends) items e =
@@ -179,7 +179,7 @@ pub record GoodEntries (last : ℕ) (items : List ℕ) : Type 0 where
   pub few : last ≤ max_entries
   pub within : last ≤ length items
 
-good_last : (T j start : ℕ) (ends items : List ℕ) → first_bad_from T j start ends items ≡ Good → GoodEntries start items
+good_last : (T j start : ℕ) (ends items : List ℕ) → first_bad_from T j start ends items ≡ None → GoodEntries start items
     → GoodEntries (last_end start ends) items
 unfolding last_end
 good_last T j start [] items e start-good = start-good
@@ -188,11 +188,11 @@ good_last T j start (end ∷ ends) items e start-good =
     good_last T (suc j) end ends items (good_rest T j start end ends items e)
     (record { few = here.entries; within = here.within })
 
-pub good_entries : (T : ℕ) (ends items : List ℕ) → first_bad T ends items ≡ Good → GoodEntries (entries ends) items
+pub good_entries : (T : ℕ) (ends items : List ℕ) → first_bad T ends items ≡ None → GoodEntries (entries ends) items
 good_entries T ends items e = good_last T 0 0 ends items e (record { few = omega arith; within = omega arith })
 
 -- every set passes its test
-pub all_good_from : (T j start : ℕ) (ends items : List ℕ) → first_bad_from T j start ends items ≡ Good
+pub all_good_from : (T j start : ℕ) (ends items : List ℕ) → first_bad_from T j start ends items ≡ None
     → all (good_items T) (sets_from start ends items) ≡ true
 unfolding all sets_from
 all_good_from T j start [] items e = refl
@@ -200,5 +200,5 @@ all_good_from T j start (end ∷ ends) items e =
     and_both (good_cons T j start end ends items e).good
     (all_good_from T (suc j) end ends items (good_rest T j start end ends items e))
 
-pub all_good : (T : ℕ) (ends items : List ℕ) → first_bad T ends items ≡ Good → all (good_items T) (sets_of ends items) ≡ true
+pub all_good : (T : ℕ) (ends items : List ℕ) → first_bad T ends items ≡ None → all (good_items T) (sets_of ends items) ≡ true
 all_good T ends items e = all_good_from T 0 0 ends items e

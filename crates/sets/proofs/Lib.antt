@@ -1,4 +1,4 @@
--- Laws of the definitions of collections, rank tables and marks, by topic; `count_entries` has its folder beside them.
+-- Laws of the definitions of collections, rank tables and marks, by topic; `Sets` has its folder beside them.
 -- `between`, and the number of sets
 pub mod Between
 -- what a collection without a bad set has

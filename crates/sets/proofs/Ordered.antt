@@ -7,6 +7,7 @@ use mathlib.Core.Bool.{Bool, true, ◌&&◌}
 use lib.Dec.{eqb, ltb, leb}
 use lib.ListN.{length, get_or}
 use borrow.Author.Tests.{eqb-true, eq-eqb, ltb-true, lt-ltb}
+use Rattle.std.specs.Prelude.{None}
 use Rattle.lists.specs.Lists.{all, any, memb, subset, upto, rising}
 use Rattle.lists.proofs.Bools.{and_left, and_right, and_both, same_test}
 use Rattle.lists.proofs.Throughout.{all_elim, any_intro, any_elim, subset_elim, subset_intro, all_weaken}
@@ -17,7 +18,6 @@ use Rattle.lists.proofs.Rising.{rising-keep, rising-range}
 use Rattle.sets.specs.Limits.{max_set_length}
 use Rattle.sets.specs.Collections.{sets_of, good_items, first_bad}
 use Rattle.sets.specs.Ordered.{is_permutation, ordered}
-use Rattle.sets.specs.declared.Verdict.TheVariants.{Good}
 use Rattle.sets.proofs.Good.{all_good}
 use Rattle.sets.proofs.Permutation.{permutation_below, permutation_injective}
 
@@ -26,7 +26,7 @@ abbrev pub below : ℕ → List ℕ → Bool
 below T set = all (λ i. ltb i T) set
 
 -- the items of a collection without a bad set are below T
-pub items_below : (T : ℕ) (ends items : List ℕ) → first_bad T ends items ≡ Good → all (below T) (sets_of ends items) ≡ true
+pub items_below : (T : ℕ) (ends items : List ℕ) → first_bad T ends items ≡ None → all (below T) (sets_of ends items) ≡ true
 items_below T ends items good =
     all_weaken (good_items T) (below T) (sets_of ends items)
     (λ set passes.

@@ -1,10 +1,9 @@
 -- Collections: a list of ends and a list of items. Which set is bad, and where the first bad one is. Document 01, "Sets and settings",
 -- first paragraph. A left set is a kit there, and a right set a stack.
-use Rattle.std.specs.Prelude.{ℕ, suc, ◌-◌, List, [], ◌∷◌, Bool, not, cond, ◌&&◌, ◌||◌, ltb, leb, length, take, drop}
+use Rattle.std.specs.Prelude.{ℕ, suc, ◌-◌, List, [], ◌∷◌, Bool, not, cond, ◌&&◌, ◌||◌, ltb, leb, length, take, drop, Option, None, Some}
 use Rattle.lists.specs.Lists.{all, rising, subset}
+use Rattle.sets.specs.declared.Sets.{Sets}
 use Rattle.sets.specs.Limits.{max_sets, max_entries, max_set_length}
-use Rattle.sets.specs.declared.Verdict.{Verdict}
-use Rattle.sets.specs.declared.Verdict.TheVariants.{Good, Bad}
 
 -- the items from one end up to the next
 abbrev pub between : ℕ → ℕ → List ℕ → List ℕ
@@ -24,6 +23,10 @@ pub record Collection : Type 0 where
   pub ends : List ℕ
   pub items : List ℕ
 
+-- the collection that is lent
+abbrev pub lent_sets : Sets → Collection
+lent_sets sets = record { ends = sets.ends.now; items = sets.items.now }
+
 abbrev pub sets_in : Collection → List (List ℕ)
 sets_in c = sets_of c.ends c.items
 
@@ -41,14 +44,18 @@ bad_set T k start end items =
     leb max_sets k || not (good_end start end items && good_items T (between start end items))
 
 -- the first bad place from place k on
-unfoldable pub first_bad_from : ℕ → ℕ → ℕ → List ℕ → List ℕ → Verdict
-first_bad_from T k start [] items = Good
+unfoldable pub first_bad_from : ℕ → ℕ → ℕ → List ℕ → List ℕ → Option ℕ
+first_bad_from T k start [] items = None
 first_bad_from T k start (end ∷ ends) items =
-    cond (bad_set T k start end items) (Bad k) (first_bad_from T (suc k) end ends items)
+    cond (bad_set T k start end items) (Some k) (first_bad_from T (suc k) end ends items)
 
 -- the first bad place of a collection, or that there is none
-abbrev pub first_bad : ℕ → List ℕ → List ℕ → Verdict
+abbrev pub first_bad : ℕ → List ℕ → List ℕ → Option ℕ
 first_bad T ends items = first_bad_from T 0 0 ends items
+
+-- the same of a collection as one
+abbrev pub first_bad_in : ℕ → Collection → Option ℕ
+first_bad_in T c = first_bad T c.ends c.items
 
 -- the last of the ends, or start if there is none
 unfoldable pub last_end : ℕ → List ℕ → ℕ

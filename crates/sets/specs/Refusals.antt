@@ -1,15 +1,11 @@
 -- The refusal table of document 01, "When no list is made", a row a refusal; the words that every answer begins with; and tests in a
 -- row: the first that refuses decides.
-use Rattle.std.specs.Prelude.{ℕ, List, ◌∷◌, Bool, true, false, cond, replicate}
+use Rattle.std.specs.Prelude.{ℕ, List, ◌∷◌, Bool, true, false, cond, replicate, Option, None, Some, Result, Err, Ok, ⊤}
 use Rattle.sets.specs.declared.Side.{Side}
 use Rattle.sets.specs.declared.Side.TheVariants.{Left, Right}
 use Rattle.sets.specs.declared.Refusal.{Refusal}
 use Rattle.sets.specs.declared.Refusal.TheVariants.{Malformed, NumberUsed, TooMany, ShortOutput, BadSet, BadSettings}
 use Rattle.sets.specs.declared.Refusal.TheVariants.{ShortWork, Spent, ShortPairs, Overlong}
-use Rattle.sets.specs.declared.Verdict.{Verdict}
-use Rattle.sets.specs.declared.Verdict.TheVariants.{Good, Bad}
-use Rattle.sets.specs.declared.Tested.{Tested}
-use Rattle.sets.specs.declared.Tested.TheVariants.{Passed, Failed}
 
 -- a row: the number, the two numbers that return with it, and whether the outputs become zeros or stay as they were
 pub record Row : Type 0 where
@@ -55,15 +51,15 @@ abbrev pub accepted_words : List ℕ → List ℕ
 accepted_words values = 0 ∷ 0 ∷ 0 ∷ values
 
 -- a test that fails with this refusal if something is wrong
-abbrev pub refuse_if : Bool → Refusal → Tested
-refuse_if wrong why = cond wrong (Failed why) Passed
+abbrev pub refuse_if : Bool → Refusal → Result ⊤ Refusal
+refuse_if wrong why = cond wrong (Err why) (Ok tt)
 
 -- the test of a side's sets, by its first bad one
-abbrev pub no_bad_set : Side → Verdict → Tested
-no_bad_set side Good = Passed
-no_bad_set side (Bad place) = Failed (BadSet side place)
+abbrev pub no_bad_set : Side → Option ℕ → Result ⊤ Refusal
+no_bad_set side None = Ok tt
+no_bad_set side (Some place) = Err (BadSet side place)
 
 -- the refusal of a failed test, or else what follows
-abbrev pub unless : {A : Type 0} → (Refusal → A) → Tested → A → A
-unless refused Passed next = next
-unless refused (Failed why) next = refused why
+abbrev pub unless : {A : Type 0} → (Refusal → A) → Result ⊤ Refusal → A → A
+unless refused (Ok _) next = next
+unless refused (Err why) next = refused why

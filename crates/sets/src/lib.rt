@@ -3,6 +3,10 @@
 
 #![tactic(auto)]
 
+ghost use Rattle.std.specs.Prelude.{◌≡◌, length};
+ghost use Rattle.sets.specs.Collections.{entries, lent_sets};
+ghost use Rattle.sets.specs.Refusals.{side_number, row_of};
+
 // The greatest count of items, T.
 pub const MAX_ITEMS: u32 = 4096;
 // The greatest number of sets in a collection.
@@ -15,10 +19,37 @@ pub const MAX_SET_LENGTH: usize = 255;
 pub const MAX_LIMIT: u32 = 255;
 
 // The two collections of a join: left sets (kits) and right sets (stacks).
-#[derive(Clone, Copy)]
+#[derive(Clone, Copy, PartialEq, Eq)]
 pub enum Side {
     Left,
     Right,
+}
+
+// A collection of sets as it is lent: for each set where its items end, and the items of all sets, set by set.
+#[derive(Clone, Copy)]
+pub struct Sets<'a> {
+    pub ends: &'a [u32],
+    pub items: &'a [u16],
+}
+
+impl<'a> Sets<'a> {
+    // How many sets there are.
+    pub fn len(&self) -> usize
+        ensures { result ≡ length (lent_sets self.now).ends }
+    {
+        self.ends.len()
+    }
+
+    // How many item entries they have.
+    pub fn entries(&self) -> usize
+        ensures { result ≡ entries (lent_sets self.now).ends }
+    {
+        let ends = self.ends;
+        match ends.last() {
+            Some(end) => *end as usize,
+            None => 0,
+        }
+    }
 }
 
 // Why an operation gave no result: one variant for each row of the refusal table. A `usize` is the byte place of the record at fault,
@@ -37,20 +68,6 @@ pub enum Refusal {
     Overlong(usize),
 }
 
-// Whether a collection has a bad set, and the place of the first.
-#[derive(Clone, Copy)]
-pub enum Verdict {
-    Good,
-    Bad(usize),
-}
-
-// What a test of an input finds: nothing wrong, or why it is refused.
-#[derive(Clone, Copy)]
-pub enum Tested {
-    Passed,
-    Failed(Refusal),
-}
-
 // The three words that every answer begins with: the number of a refusal, and what returns with it.
 #[derive(Clone, Copy)]
 pub struct Head {
@@ -59,17 +76,15 @@ pub struct Head {
     pub second: u64,
 }
 
-ghost use Rattle.std.specs.Prelude.{◌≡◌};
-ghost use Rattle.sets.specs.Collections.{entries};
-ghost use Rattle.sets.specs.Refusals.{side_number, row_of};
-
 // The number of a side.
-pub fn side_word(side: Side) -> u64
-    ensures { result ≡ side_number side }
-{
-    match side {
-        Side::Left => 0,
-        Side::Right => 1,
+impl From<Side> for u64 {
+    ghost from_gives = { λ side number. number ≡ side_number side };
+
+    fn from(side: Side) -> u64 {
+        match side {
+            Side::Left => 0,
+            Side::Right => 1,
+        }
     }
 }
 
@@ -100,7 +115,7 @@ pub fn head_of(why: Refusal) -> Head
         },
         Refusal::BadSet(side, place) => Head {
             number: 5,
-            first: side_word(side),
+            first: u64::from(side),
             second: place as u64,
         },
         Refusal::BadSettings => Head {
@@ -129,15 +144,4 @@ pub fn head_of(why: Refusal) -> Head
             second: 0,
         },
     }
-}
-
-// How many item entries a collection has.
-pub fn count_entries(ends: &[u32]) -> usize
-    ensures { result ≡ entries ends.now }
-{
-    let n = ends.len();
-    if n == 0 {
-        return 0;
-    }
-    ends[n - 1] as usize
 }

@@ -13,7 +13,7 @@ use lib.Seq.{drop-cons, drop-drop, get_or-drop}
 use Rattle.lists.proofs.Bools.{by_test}
 use Rattle.lists.proofs.Slices.{frame_less, frame_at}
 use Rattle.sets.specs.Limits.{full_words}
-use Rattle.sets.specs.Collections.{between, sets_from, sets_of}
+use Rattle.sets.specs.Collections.{Collection, between, sets_from, sets_of, sets_in}
 use Rattle.sets.specs.Signatures.{signature}
 use Rattle.sets.proofs.Between.{length-sets}
 use Rattle.signatures.specs.Signing.{double, DoubleStored, Signed, BothRoom, BothSigned}
@@ -87,17 +87,15 @@ signing_end {at} {ends} {items} {was} {is} {start} {k} signing past =
     subst (λ (n : ℕ). Signed at n (sets_of ends items) was is) here signing.signed
 
 -- the right sets first, the left sets above them
-pub both_signed : {right left : ℕ} {right_ends right_items left_ends left_items w v u : List ℕ}
-    → BothRoom right left right_ends right_items left_ends left_items w
-    → Signed right (length right_ends) (sets_of right_ends right_items) w v
-    → Signed left (length left_ends) (sets_of left_ends left_items) v u
-    → BothSigned right left (sets_of right_ends right_items) (sets_of left_ends left_items) w u
-both_signed {right} {left} {right_ends} {right_items} {left_ends} {left_items} {w} {v} {u} room low high =
+pub both_signed : {right left : ℕ} {rights lefts : Collection} {w v u : List ℕ} → BothRoom right left rights lefts w
+    → Signed right (length rights.ends) (sets_in rights) w v → Signed left (length lefts.ends) (sets_in lefts) v u
+    → BothSigned right left (sets_in rights) (sets_in lefts) w u
+both_signed {right} {left} {rights} {lefts} {w} {v} {u} room low high =
     record {
       frame = frame_less right left v u (omega (arith, room.above)) high.frame ∙ low.frame;
       size = high.size ∙ low.size;
       right = λ s h.
-          let below : s < length right_ends = omega (arith, length-sets 0 right_ends right_items) in
+          let below : s < length rights.ends = omega (arith, length-sets 0 rights.ends rights.items) in
           double_stays left (right + 2 * s) v u high.frame (omega (arith, room.above)) ∙ low.signatures s below;
-      left = λ k h. high.signatures k (omega (arith, length-sets 0 left_ends left_items));
+      left = λ k h. high.signatures k (omega (arith, length-sets 0 lefts.ends lefts.items));
     }

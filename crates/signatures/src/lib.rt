@@ -4,13 +4,14 @@
 #![tactic(auto)]
 
 ghost use Rattle.std.specs.Prelude.{◌≡◌, ◌+◌, ◌≤◌, length};
-ghost use Rattle.sets.specs.Collections.{between, sets_of};
+ghost use Rattle.sets.specs.Collections.{between, lent_sets, sets_in};
 ghost use Rattle.sets.specs.Signatures.{signature};
 ghost use Rattle.signatures.specs.item_bits.Bits.{position_table};
 ghost use Rattle.signatures.specs.Signing.{double, DoubleStored, SigningRoom, Signed};
 ghost use Rattle.signatures.specs.Signing.{BothRoom, BothSigned};
 
 use crate::item_bits::{position_of, position_table};
+use sets::Sets;
 
 pub mod item_bits;
 
@@ -24,11 +25,9 @@ pub fn sign_set(items: &[u16], table: &[u8; 256], start: usize, end: usize) -> u
     ensures { result ≡ signature (between start end items.now) }
 {
     let mut mark: u64 = 0;
-    let mut i = start;
-    while i < end {
+    for i in start..end {
         let bit = position_of(table, items[i]);
         mark = mark | (1u64 << bit);
-        i += 1;
     }
     mark
 }
@@ -53,15 +52,16 @@ pub fn double_at(work: &[u32], at: usize) -> u64
 }
 
 // The signatures of a collection.
-fn sign_sets(work: &mut [u32], ends: &[u32], items: &[u16], table: &[u8; 256], at: usize)
-    requires room { SigningRoom at ends.now items.now work.old }
+fn sign_sets(work: &mut [u32], sets: &Sets, table: &[u8; 256], at: usize)
+    requires room { SigningRoom at (lent_sets sets.now) work.old }
     requires positions { table.now ≡ position_table }
-    ensures { Signed at (length ends.now) (sets_of ends.now items.now)
+    ensures { Signed at (length (lent_sets sets.now).ends) (sets_in (lent_sets sets.now))
         work.old work.new }
 {
+    let items = sets.items;
     let mut start: usize = 0;
-    for k in 0..ends.len() {
-        let end = ends[k] as usize;
+    for (k, end) in sets.ends.iter().enumerate() {
+        let end = *end as usize;
         let mark = sign_set(items, table, start, end);
         store_double(work, at + 2 * k, mark);
         start = end;
@@ -71,19 +71,16 @@ fn sign_sets(work: &mut [u32], ends: &[u32], items: &[u16], table: &[u8; 256], a
 // The signatures of both collections, those of the left sets above those of the right sets.
 pub fn sign_collections(
     work: &mut [u32],
-    right_ends: &[u32],
-    right_items: &[u16],
-    left_ends: &[u32],
-    left_items: &[u16],
+    rights: &Sets,
+    lefts: &Sets,
     right_at: usize,
     left_at: usize,
 )
-    requires { BothRoom right_at left_at right_ends.now right_items.now left_ends.now left_items.now
-        work.old }
-    ensures { BothSigned right_at left_at (sets_of right_ends.now right_items.now)
-        (sets_of left_ends.now left_items.now) work.old work.new }
+    requires { BothRoom right_at left_at (lent_sets rights.now) (lent_sets lefts.now) work.old }
+    ensures { BothSigned right_at left_at (sets_in (lent_sets rights.now)) (sets_in (lent_sets lefts.now))
+        work.old work.new }
 {
     let table = position_table();
-    sign_sets(work, right_ends, right_items, &table, right_at);
-    sign_sets(work, left_ends, left_items, &table, left_at);
+    sign_sets(work, rights, &table, right_at);
+    sign_sets(work, lefts, &table, left_at);
 }

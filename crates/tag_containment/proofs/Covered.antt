@@ -8,17 +8,16 @@ use native.Mathlib.Omega.{arith}
 use borrow.Author.Tests.{eqb-true}
 use lib.Dec.{eqb}
 use lib.ListN.{length}
+use Rattle.std.specs.Prelude.{Ok}
 use Rattle.lists.specs.Lists.{sum}
 use Rattle.sets.specs.declared.Side.{Side}
 use Rattle.sets.specs.declared.Side.TheVariants.{Left, Right}
 use Rattle.sets.specs.declared.Refusal.TheVariants.{Malformed}
-use Rattle.sets.specs.declared.Tested.TheVariants.{Passed}
 use Rattle.tag_file.specs.Reading.{marked, whole_at, record_at, read_at, tags_at}
 use Rattle.tag_file.specs.Records.{onward, records_from, total_length, records}
 use Rattle.tag_file.specs.Loading.{Lists, refusal_of, file_fault, LoadCall}
 use Rattle.tag_file.specs.declared.Loaded.{Loaded}
 use Rattle.tag_file.specs.declared.Repeats.{Repeats}
-use Rattle.tag_file.specs.declared.LoadAnswer.TheVariants as load
 use Rattle.tag_file.specs.declared.ReadAnswer.{ReadAnswer}
 use Rattle.tag_file.specs.declared.ReadAnswer.TheVariants.{Record, NoMore, Refused}
 use Rattle.tag_file.proofs.AnswerLaws.{accepted}
@@ -65,7 +64,7 @@ module _ (file : List ℕ) where
       here again (Refused why) e = none_here at (ap is_record e)
 
 -- an answer that is neither a whole record nor a refusal
-no_more : (a : ReadAnswer) → is_record a ≡ false → refusal_of a ≡ Passed → a ≡ NoMore
+no_more : (a : ReadAnswer) → is_record a ≡ false → refusal_of a ≡ Ok tt → a ≡ NoMore
 unfolding is_record
 no_more (Record s n c p next) none clear = let z : ◌≡◌ {A = ℕ} 0 1 = cc in absurd (omega arith)
 no_more NoMore none clear = refl
@@ -103,7 +102,7 @@ module _ (file : List ℕ) (at : ℕ) where
       at_end false t e = left (marked Left file at) e
 
 -- the reading of a file without a fault ends at the file's end
-module _ (file : List ℕ) (clear : file_fault file ≡ Passed) where
+module _ (file : List ℕ) (clear : file_fault file ≡ Ok tt) where
   pub reading_ends : read_at file (total_length (records file)) ≡ NoMore
   unfolding file_fault
   reading_ends =
@@ -117,6 +116,6 @@ module _ (file : List ℕ) (clear : file_fault file ≡ Passed) where
 
 -- the same of a load that is accepted
 pub load_covers : (file : List ℕ) {before after : Lists} {loaded : Loaded} {repeats : Repeats}
-    → LoadCall file before after (load.Loaded loaded repeats) → total_length (records file) ≡ length file
+    → LoadCall file before after (Ok (loaded, repeats)) → total_length (records file) ≡ length file
 load_covers file {before} {after} {loaded} {repeats} call =
     records_cover file (accepted file before loaded repeats (sym call.answered)).clear

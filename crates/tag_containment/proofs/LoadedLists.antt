@@ -8,6 +8,7 @@ use mathlib.Core.Bool.{true}
 use native.Mathlib.Omega.{arith}
 use lib.ListN.{length, get_or, take, drop, length-append, take-append-drop}
 use lib.Seq.{get_or-take, take-take}
+use Rattle.std.specs.Prelude.{Ok}
 use Rattle.lists.specs.Lists.{distinct}
 use Rattle.lists.proofs.Mapping.{map_at}
 use Rattle.sets.specs.Collections.{sets_from, sets_of}
@@ -16,7 +17,6 @@ use Rattle.sets.specs.declared.Side.TheVariants.{Left, Right}
 use Rattle.inputs.specs.Input.{Input, input_of, left_sets, right_sets}
 use Rattle.tag_file.specs.declared.Loaded.{Loaded}
 use Rattle.tag_file.specs.declared.Repeats.{Repeats}
-use Rattle.tag_file.specs.declared.LoadAnswer.TheVariants as load
 use Rattle.tag_file.specs.Records.{TagRecord, records, of_side, all_tags, tag_table, sets_of_side}
 use Rattle.tag_file.specs.Repeats.{repeat_totals}
 use Rattle.tag_file.specs.Loading.{Lists, numbers_of, ends_from, filled, totals_of, load_answer, LoadCall}
@@ -119,7 +119,7 @@ module _ {rs : List TagRecord} {loaded : Loaded} {got : Lists} (fills : Fills rs
 -- ---- after a load that is accepted
 
 module _ (file : List ℕ) {lent got : Lists} {loaded : Loaded} {repeats : Repeats}
-    (loads : LoadCall file lent got (load.Loaded loaded repeats)) where
+    (loads : LoadCall file lent got (Ok (loaded, repeats))) where
   load_accepted : LoadAccepted file lent loaded repeats
   load_accepted = accepted file lent loaded repeats (sym loads.answered)
 

@@ -7,6 +7,7 @@ use mathlib.Core.Bool.{Bool, true, false, ◌&&◌}
 use borrow.Author.Tests.{ltb-true}
 use lib.Dec.{ltb}
 use lib.ListN.{length, get_or, take, length-map}
+use Rattle.std.specs.Prelude.{Ok}
 use Rattle.lists.specs.Lists.{one}
 use Rattle.lists.proofs.Mapping.{map_at}
 use Rattle.sets.specs.Collections.{contained}
@@ -14,14 +15,12 @@ use Rattle.sets.specs.declared.Side.{Side}
 use Rattle.sets.specs.declared.Side.TheVariants.{Left, Right}
 use Rattle.inputs.specs.Input.{Input, left_sets, right_sets}
 use Rattle.join_spec.specs.declared.Counts.{Counts}
-use Rattle.join_spec.specs.declared.JoinAnswer.TheVariants.{Joined}
 use Rattle.join_spec.specs.Query.{Settings}
 use Rattle.join_spec.specs.Answer.{RunCall}
 use Rattle.join_spec.proofs.PairListLaws.{pair_occurs}
 use Rattle.join_spec.proofs.Calls.{call_once}
 use Rattle.tag_file.specs.declared.Loaded.{Loaded}
 use Rattle.tag_file.specs.declared.Repeats.{Repeats}
-use Rattle.tag_file.specs.declared.LoadAnswer.TheVariants as load
 use Rattle.tag_file.specs.Records.{TagRecord, records, of_side, tag_table, items_of, sets_of_side}
 use Rattle.tag_file.specs.Loading.{Lists, LoadCall}
 use Rattle.tag_round_trip.specs.Trips.{Fills}
@@ -63,7 +62,7 @@ sets_tags rs l r lefts rights left right =
     (contained-records rs Left l (ltb-true l A in_left) (record_of Right rs r).tags))))
 
 module _ {loaded : Loaded} {got : Lists} (i : Input) (over : OverLoaded loaded got i) (s : Settings) {counts : Counts}
-    {work before work' after : List ℕ} (runs : RunCall i s work before work' after (Joined counts)) where
+    {work before work' after : List ℕ} (runs : RunCall i s work before work' after (Ok counts)) where
   -- over lists that hold what records give
   pub fills_pairs : {rs : List TagRecord} → Fills rs loaded got → (l r : ℕ)
       → pair_occurs l r (take (2 * counts.pairs) after) ≡ one (tags_contained rs l r)
@@ -72,9 +71,9 @@ module _ {loaded : Loaded} {got : Lists} (i : Input) (over : OverLoaded loaded g
       ∙ ap one (sets_tags rs l r (left_sets i) (right_sets i) (fills_left_sets fills i over) (fills_right_sets fills i over))
 
 module _ (file : List ℕ) {lent got : Lists} {loaded : Loaded} {repeats : Repeats}
-    (loads : LoadCall file lent got (load.Loaded loaded repeats))
+    (loads : LoadCall file lent got (Ok (loaded, repeats)))
     (i : Input) (over : OverLoaded loaded got i) (s : Settings) {counts : Counts} {work before work' after : List ℕ}
-    (runs : RunCall i s work before work' after (Joined counts)) where
+    (runs : RunCall i s work before work' after (Ok counts)) where
   -- a pair of places stands in the list once where the left record has a tag and all its tags are the right one's too, else not at all
   pub loaded_pairs : (l r : ℕ) → pair_occurs l r (take (2 * counts.pairs) after) ≡ one (tags_contained (records file) l r)
   loaded_pairs l r = fills_pairs i over s runs (load_fills file loads) l r

@@ -10,19 +10,18 @@ use lib.Arith.{digits_div, digits_mod}
 use lib.Dec.{eqb}
 use lib.ListN.{length, get_or, take, drop, take-append-drop}
 use lib.Seq.{drop-cons, drop-drop, drop-length, take-add}
+use Rattle.std.specs.Prelude.{Ok}
 use Rattle.lists.specs.Lists.{prefix, sum}
 use Rattle.lists.proofs.Bools.{and_left, and_right}
 use Rattle.sets.specs.declared.Side.{Side}
 use Rattle.sets.specs.declared.Side.TheVariants.{Left, Right}
 use Rattle.sets.specs.declared.Refusal.TheVariants.{Malformed}
-use Rattle.sets.specs.declared.Tested.TheVariants.{Passed}
 use Rattle.tag_file.specs.Format.{tag_length, tag_bytes, mark, record_bytes}
 use Rattle.tag_file.specs.Reading.{marked, whole_at, record_at, read_at, tags_at}
 use Rattle.tag_file.specs.Records.{onward, records_from, total_length, records}
 use Rattle.tag_file.specs.Loading.{Lists, file_fault, LoadCall}
 use Rattle.tag_file.specs.declared.Loaded.{Loaded}
 use Rattle.tag_file.specs.declared.Repeats.{Repeats}
-use Rattle.tag_file.specs.declared.LoadAnswer.TheVariants as load
 use Rattle.tag_file.specs.declared.ReadAnswer.{ReadAnswer}
 use Rattle.tag_file.specs.declared.ReadAnswer.TheVariants.{Record, NoMore, Refused}
 use Rattle.tag_file.proofs.AnswerLaws.{accepted}
@@ -153,7 +152,7 @@ module _ (file : List ℕ) (low : (i : ℕ) → get_or file i 0 < 256) where
       here again (Refused why) e = let same : at ≡ at + 0 = omega arith in ap (λ (k : ℕ). drop k file) same
 
   -- a file without a fault is the bytes of its records
-  pub file_bytes : file_fault file ≡ Passed → bytes_of_records (records file) ≡ file
+  pub file_bytes : file_fault file ≡ Ok tt → bytes_of_records (records file) ≡ file
   file_bytes clear =
       let whole : 0 + total_length (records file) ≡ length file = omega (arith, records_cover file clear) in
       sym (bytes_from (length file) 0 ∙ ap (λ (k : ℕ). bytes_of_records (records file) ++ drop k file) whole
@@ -161,6 +160,6 @@ module _ (file : List ℕ) (low : (i : ℕ) → get_or file i 0 < 256) where
 
   -- the same of a load that is accepted
   pub load_bytes : {before after : Lists} {loaded : Loaded} {repeats : Repeats}
-      → LoadCall file before after (load.Loaded loaded repeats) → bytes_of_records (records file) ≡ file
+      → LoadCall file before after (Ok (loaded, repeats)) → bytes_of_records (records file) ≡ file
   load_bytes {before} {after} {loaded} {repeats} call =
       file_bytes (accepted file before loaded repeats (sym call.answered)).clear

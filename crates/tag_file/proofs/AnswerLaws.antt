@@ -1,55 +1,69 @@
 -- The loader's answer: what an accepted load says of the file and of the lists, when a load is accepted and when it is refused;
 -- what room for all lists says of each; and the lists after a call as one.
-use mathlib.Core.Path.{◌≡◌, refl, ap}
+use mathlib.Core.Path.{◌≡◌, refl, sym, ap}
 use Prim.Native.Nat.{ℕ, ◌≤◌}
 use mathlib.Core.List.{List}
 use mathlib.Core.Bool.{Bool, true, false, not, ◌&&◌}
 use native.Mathlib.Omega.{arith}
 use borrow.Author.Tests.{leb-true}
 use lib.ListN.{length}
+use Rattle.std.specs.Prelude.{Result, Err, Ok, ⊤}
 use Rattle.lists.proofs.Bools.{and_left, and_right}
 use Rattle.sets.specs.Refusals.{refuse_if, unless}
 use Rattle.sets.specs.declared.Refusal.{Refusal}
 use Rattle.sets.specs.declared.Refusal.TheVariants.{ShortOutput}
-use Rattle.sets.specs.declared.Tested.{Tested}
-use Rattle.sets.specs.declared.Tested.TheVariants.{Passed, Failed}
 use Rattle.tag_file.specs.Records.{records}
 use Rattle.tag_file.specs.Repeats.{repeat_totals}
 use Rattle.tag_file.specs.Loading.{Lists, file_fault, filled, fits, room_for, totals_of, load_answer, lists_after, LoadCall}
 use Rattle.tag_file.specs.declared.Loaded.{Loaded}
 use Rattle.tag_file.specs.declared.Repeats.{Repeats}
-use Rattle.tag_file.specs.declared.LoadAnswer.{LoadAnswer}
-use Rattle.tag_file.specs.declared.LoadAnswer.TheVariants as load
+
+-- what a load answers that fills so much, with so many repeats
+abbrev pub load_of : Loaded → Repeats → Result (Loaded × Repeats) Refusal
+load_of given found = Ok (given, found)
+
+abbrev filled_in : Result (Loaded × Repeats) Refusal → Loaded → Loaded
+filled_in (Ok load) none = load.0
+filled_in (Err why) none = none
+
+abbrev repeats_in : Result (Loaded × Repeats) Refusal → Repeats → Repeats
+repeats_in (Ok load) none = load.1
+repeats_in (Err why) none = none
+
+-- two loads that are the same have the same totals and the same repeats
+pub same_load : {given totals : Loaded} {found repeats : Repeats}
+    → ◌≡◌ {A = Result (Loaded × Repeats) Refusal} (Ok (given, found)) (Ok (totals, repeats)) → (given ≡ totals) × (found ≡ repeats)
+same_load {given} {totals} {found} {repeats} e = (ap (λ r. filled_in r given) e, ap (λ r. repeats_in r found) e)
 
 -- an answer after one test: a refusal is the test's, and what is accepted has passed it
-pub tested_refused : (t : Tested) (given : Loaded) (found : Repeats) (why : Refusal)
-    → unless load.Refused t (load.Loaded given found) ≡ load.Refused why → t ≡ Failed why
-tested_refused Passed given found why e = let z : ◌≡◌ {A = ℕ} 0 1 = cc in absurd (omega arith)
-tested_refused (Failed w) given found why e = ap Failed cc
+pub tested_refused : (t : Result ⊤ Refusal) (given : Loaded) (found : Repeats) (why : Refusal)
+    → unless {A = Result (Loaded × Repeats) Refusal} Err t (Ok (given, found)) ≡ Err why → t ≡ Err why
+tested_refused (Ok _) given found why e = let z : ◌≡◌ {A = ℕ} 0 1 = cc in absurd (omega arith)
+tested_refused (Err w) given found why e = ap Err cc
 
-pub tested_loaded : (t : Tested) (given : Loaded) (found : Repeats) (totals : Loaded) (repeats : Repeats)
-    → unless load.Refused t (load.Loaded given found) ≡ load.Loaded totals repeats
-    → (t ≡ Passed) × (totals ≡ given) × (repeats ≡ found)
-tested_loaded Passed given found totals repeats e = (refl, cc, cc)
-tested_loaded (Failed w) given found totals repeats e = let z : ◌≡◌ {A = ℕ} 0 1 = cc in absurd (omega arith)
+pub tested_loaded : (t : Result ⊤ Refusal) (given : Loaded) (found : Repeats) (totals : Loaded) (repeats : Repeats)
+    → unless {A = Result (Loaded × Repeats) Refusal} Err t (Ok (given, found)) ≡ Ok (totals, repeats)
+    → (t ≡ Ok tt) × (totals ≡ given) × (repeats ≡ found)
+tested_loaded (Ok _) given found totals repeats e = let same = same_load e in (refl, sym same.0, sym same.1)
+tested_loaded (Err w) given found totals repeats e = let z : ◌≡◌ {A = ℕ} 0 1 = cc in absurd (omega arith)
 
 -- no fault, room in every list, the totals, and the repeats of the file's records
 pub record LoadAccepted (file : List ℕ) (lent : Lists) (totals : Loaded) (repeats : Repeats) : Type 0 where
-  pub clear : file_fault file ≡ Passed
+  pub clear : file_fault file ≡ Ok tt
   pub room : room_for (filled (records file)) lent ≡ true
   pub counted : totals_of (records file) ≡ totals
   pub repeated : repeat_totals (records file) ≡ repeats
 
-accepted_if : (fault : Tested) (room : Bool) (given totals : Loaded) (found repeats : Repeats)
-    → unless load.Refused fault (unless load.Refused (refuse_if (not room) ShortOutput) (load.Loaded given found))
-    ≡ load.Loaded totals repeats
-    → (fault ≡ Passed) × (room ≡ true) × (given ≡ totals) × (found ≡ repeats)
-accepted_if (Failed why) room given totals found repeats e = let z : ◌≡◌ {A = ℕ} 0 1 = cc in absurd (omega arith)
-accepted_if Passed false given totals found repeats e = let z : ◌≡◌ {A = ℕ} 0 1 = cc in absurd (omega arith)
-accepted_if Passed true given totals found repeats e = (refl, refl, cc, cc)
+accepted_if : (fault : Result ⊤ Refusal) (room : Bool) (given totals : Loaded) (found repeats : Repeats)
+    → unless {A = Result (Loaded × Repeats) Refusal} Err fault (unless Err (refuse_if (not room) ShortOutput) (Ok (given, found)))
+    ≡ Ok (totals, repeats)
+    → (fault ≡ Ok tt) × (room ≡ true) × (given ≡ totals) × (found ≡ repeats)
+accepted_if (Err why) room given totals found repeats e = let z : ◌≡◌ {A = ℕ} 0 1 = cc in absurd (omega arith)
+accepted_if (Ok _) false given totals found repeats e = let z : ◌≡◌ {A = ℕ} 0 1 = cc in absurd (omega arith)
+accepted_if (Ok _) true given totals found repeats e = let same = same_load e in (refl, refl, same.0, same.1)
 
 module _ (file : List ℕ) (lent : Lists) where
-  pub accepted : (totals : Loaded) (repeats : Repeats) → load_answer file lent ≡ load.Loaded totals repeats
+  pub accepted : (totals : Loaded) (repeats : Repeats) → load_answer file lent ≡ Ok (totals, repeats)
       → LoadAccepted file lent totals repeats
   unfolding load_answer
   accepted totals repeats e =
@@ -57,17 +71,17 @@ module _ (file : List ℕ) (lent : Lists) where
       (repeat_totals (records file)) repeats e in
       record { clear = parts.0; room = parts.1; counted = parts.2; repeated = parts.3 }
 
-  module _ (clear : file_fault file ≡ Passed) where
+  module _ (clear : file_fault file ≡ Ok tt) where
     pub accepts : room_for (filled (records file)) lent ≡ true
-        → load_answer file lent ≡ load.Loaded (totals_of (records file)) (repeat_totals (records file))
+        → load_answer file lent ≡ Ok ((totals_of (records file)), (repeat_totals (records file)))
     unfolding load_answer
     accepts room = rw (clear, room)
 
-    pub refuses_short : room_for (filled (records file)) lent ≡ false → load_answer file lent ≡ load.Refused ShortOutput
+    pub refuses_short : room_for (filled (records file)) lent ≡ false → load_answer file lent ≡ Err ShortOutput
     unfolding load_answer
     refuses_short short = rw (clear, short)
 
-  pub refuses_fault : (why : Refusal) → file_fault file ≡ Failed why → load_answer file lent ≡ load.Refused why
+  pub refuses_fault : (why : Refusal) → file_fault file ≡ Err why → load_answer file lent ≡ Err why
   unfolding load_answer
   refuses_fault why fault = rw fault
 
@@ -109,13 +123,13 @@ room_each part lent t =
     }
 
 -- the seven lists after a call, as one
-pub call_lists : {file : List ℕ} {before after : Lists} {answer : LoadAnswer} → LoadCall file before after answer
+pub call_lists : {file : List ℕ} {before after : Lists} {answer : Result (Loaded × Repeats) Refusal} → LoadCall file before after answer
     → after ≡ lists_after file before
 call_lists c =
     rw (c.tags, c.left_numbers, c.left_ends, c.left_items, c.right_numbers, c.right_ends, c.right_items)
 
 -- a call, with the answer as it is defined
-pub call_defined : {file : List ℕ} {before after : Lists} {answer : LoadAnswer} → LoadCall file before after answer
+pub call_defined : {file : List ℕ} {before after : Lists} {answer : Result (Loaded × Repeats) Refusal} → LoadCall file before after answer
     → LoadCall file before after (load_answer file before)
 call_defined c =
     record {

@@ -7,6 +7,7 @@ use native.Mathlib.Omega.{arith}
 use borrow.Author.Tests.{ltb-false}
 use lib.Dec.{eqb, ltb}
 use lib.ListN.{length}
+use Rattle.std.specs.Prelude.{Result, Ok, ⊤}
 use Rattle.lists.specs.Lists.{keep, onto, memb, any, sum, distinct}
 use Rattle.lists.proofs.Bools.{by_test, or_left_false, or_right_false, eqb_comm}
 use Rattle.lists.proofs.Distinct.{distinct_last, distinct_before}
@@ -14,14 +15,13 @@ use Rattle.lists.proofs.Filtering.{keep_append}
 use Rattle.sets.specs.Limits.{max_items, max_sets, max_entries}
 use Rattle.sets.specs.declared.Side.{Side}
 use Rattle.sets.specs.declared.Side.TheVariants.{Left, Right}
-use Rattle.sets.specs.declared.Tested.{Tested}
-use Rattle.sets.specs.declared.Tested.TheVariants.{Passed}
 use Rattle.sets.proofs.Testing.{both_passed}
 use Rattle.tag_file.specs.Reading.{read_at}
 use Rattle.tag_file.specs.Records.{TagRecord, total_length, records, same_side, of_side, insert_all, all_tags, tag_table, entries_of}
 use Rattle.tag_file.specs.Loading.{number_used, too_many, fault_of, first_fault, refusal_of, file_fault, numbers_of}
 use Rattle.tag_file.proofs.FaultLaws.{fault_clear}
 use Rattle.tag_file.proofs.RecordLaws.{same_side_lem}
+use Rattle.sets.specs.declared.Refusal.{Refusal}
 
 -- what holds of records without a fault: on each side no number twice, and the limits
 pub record FaultFree (rs : List TagRecord) : Type 0 where
@@ -121,8 +121,8 @@ free_step seen r so unused few =
 
 -- ---- from no fault to what holds
 
-pub free_from : (seen rs : List TagRecord) (last : Tested) → FaultFree seen → first_fault seen rs last ≡ Passed
-    → FaultFree (seen ++ rs) × (last ≡ Passed)
+pub free_from : (seen rs : List TagRecord) (last : Result ⊤ Refusal) → FaultFree seen → first_fault seen rs last ≡ Ok tt
+    → FaultFree (seen ++ rs) × (last ≡ Ok tt)
 unfolding first_fault
 free_from seen [] last so e = (rw append-nil so, e)
 free_from seen (r ∷ rs) last so e =
@@ -136,7 +136,7 @@ unfolding distinct keep sum insert_all all_tags
 free_nil = record { numbers = λ side. refl; places = λ side. omega arith; entries = λ side. omega arith; tags = omega arith }
 
 -- of a file without a fault
-pub file_free : (file : List ℕ) → file_fault file ≡ Passed → FaultFree (records file)
+pub file_free : (file : List ℕ) → file_fault file ≡ Ok tt → FaultFree (records file)
 unfolding file_fault
 file_free file clear = (free_from [] (records file) (refusal_of (read_at file (total_length (records file)))) free_nil clear).0
 

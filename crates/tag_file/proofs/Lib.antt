@@ -10,3 +10,4 @@ pub mod AnswerLaws
 pub mod Bytes
 pub mod ItemCount
 pub mod RepeatLaws
+pub mod Sides

@@ -7,6 +7,7 @@ use Prim.Native.Nat.{ℕ, ◌+◌, ◌*◌, ◌-◌, ◌≤◌}
 use native.Mathlib.Nat.{add-zero}
 use native.Mathlib.Omega.{arith}
 use lib.ListN.{length, length-append}
+use Rattle.std.specs.Prelude.{Ok}
 use Rattle.lists.specs.Lists.{one, onto, keep, sum, memb, rising}
 use Rattle.lists.proofs.Rising.{rising_same}
 use Rattle.lists.proofs.Filtering.{keep_append}
@@ -19,7 +20,6 @@ use Rattle.tag_file.specs.Repeats.{repeats_in, repeats_of, reads_of}
 use Rattle.tag_file.specs.Loading.{Lists, load_answer}
 use Rattle.tag_file.specs.declared.Loaded.{Loaded}
 use Rattle.tag_file.specs.declared.Repeats.{Repeats}
-use Rattle.tag_file.specs.declared.LoadAnswer.TheVariants as load
 use Rattle.tag_file.proofs.AnswerLaws.{accepted}
 use Rattle.tag_file.proofs.Tables.{rising-collapse, memb-collapse, collapse_last, length-insert_all_bound}
 
@@ -103,7 +103,7 @@ module _ (side : Side) where
 -- ---- of a load that is accepted: for each side entries and repeats are the reads
 
 pub loaded_reads : (file : List ℕ) (lent : Lists) (totals : Loaded) (repeats : Repeats)
-    → load_answer file lent ≡ load.Loaded totals repeats
+    → load_answer file lent ≡ Ok (totals, repeats)
     → (totals.left_entries + repeats.left ≡ reads_of Left (records file))
     × (totals.right_entries + repeats.right ≡ reads_of Right (records file))
 loaded_reads file lent totals repeats e =

@@ -4,5 +4,4 @@ pub mod Reading
 pub mod Records
 pub mod Repeats
 pub mod Loading
-pub mod Inner
 pub mod answers

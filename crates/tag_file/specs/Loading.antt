@@ -1,27 +1,26 @@
 -- The loader: the first record at fault, the seven lists that are filled, the answer, and what each lent list holds at the end.
 -- Document 01, "Tag file", and rows 1 to 4 of "When no list is made": "the first record at fault decides, by 1, 2, 3; then 4".
-use Rattle.std.specs.Prelude.{ℕ, ◌+◌, ◌≡◌, Bool, not, ◌&&◌, ◌||◌, eqb, leb, ltb, length}
+use Rattle.std.specs.Prelude.{ℕ, ◌+◌, ◌≡◌, Bool, not, ◌&&◌, ◌||◌, eqb, leb, ltb, length, Result, Err, Ok, ⊤}
 use mathlib.Core.List.{List, [], ◌∷◌, ◌++◌, map, flatten}
-use Rattle.std.specs.Borrow.{Bor, MutBor}
+use Rattle.std.specs.Borrow.{MutBor}
 use Rattle.lists.specs.Lists.{any}
-use Rattle.lists.specs.Lent.{Lent, LentMut}
+use Rattle.lists.specs.Lent.{LentMut}
 use Rattle.sets.specs.Limits.{max_items, max_sets, max_entries}
 use Rattle.sets.specs.Refusals.{refuse_if, unless}
 use Rattle.sets.specs.Lent.{filled_over, after_refusal}
 use Rattle.sets.specs.declared.Side.{Side}
 use Rattle.sets.specs.declared.Side.TheVariants.{Left, Right}
 use Rattle.sets.specs.declared.Refusal.TheVariants.{NumberUsed, TooMany, ShortOutput}
-use Rattle.sets.specs.declared.Tested.{Tested}
-use Rattle.sets.specs.declared.Tested.TheVariants.{Passed, Failed}
+use Rattle.tag_file.specs.declared.Lists as declared
 use Rattle.tag_file.specs.declared.Loaded.{Loaded}
-use Rattle.tag_file.specs.declared.LoadAnswer.{LoadAnswer}
-use Rattle.tag_file.specs.declared.LoadAnswer.TheVariants as load
 use Rattle.tag_file.specs.Format.{tag_bytes}
 use Rattle.tag_file.specs.Reading.{read_at}
 use Rattle.tag_file.specs.Records.{TagRecord, total_length, records, same_side, of_side, tag_table, entries_of, sets_of_side}
 use Rattle.tag_file.specs.Repeats.{repeat_totals}
 use Rattle.tag_file.specs.declared.ReadAnswer.{ReadAnswer}
 use Rattle.tag_file.specs.declared.ReadAnswer.TheVariants.{Record, NoMore, Refused}
+use Rattle.sets.specs.declared.Refusal.{Refusal}
+use Rattle.tag_file.specs.declared.Repeats.{Repeats}
 
 -- whether a record of the same side has this number
 abbrev pub number_used : List TagRecord → TagRecord → Bool
@@ -33,24 +32,24 @@ too_many side rs =
     ltb max_sets (length (of_side side rs)) || (ltb max_entries (entries_of side rs) || ltb max_items (length (tag_table rs)))
 
 -- the test of a whole record that follows those seen: 2 before 3, with its byte place
-unfoldable pub fault_of : List TagRecord → TagRecord → Tested
+unfoldable pub fault_of : List TagRecord → TagRecord → Result ⊤ Refusal
 fault_of seen r =
-    unless Failed (refuse_if (number_used seen r) (NumberUsed (total_length seen)))
+    unless Err (refuse_if (number_used seen r) (NumberUsed (total_length seen)))
     (refuse_if (too_many r.side (seen ++ (r ∷ []))) (TooMany (total_length seen)))
 
 -- the first fault of records that follow those seen, or else what the reading ended with
-unfoldable pub first_fault : List TagRecord → List TagRecord → Tested → Tested
+unfoldable pub first_fault : List TagRecord → List TagRecord → Result ⊤ Refusal → Result ⊤ Refusal
 first_fault seen [] last = last
-first_fault seen (r ∷ rs) last = unless Failed (fault_of seen r) (first_fault (seen ++ (r ∷ [])) rs last)
+first_fault seen (r ∷ rs) last = unless Err (fault_of seen r) (first_fault (seen ++ (r ∷ [])) rs last)
 
 -- the refusal that the reading ended with; at the file's end there is none
-abbrev pub refusal_of : ReadAnswer → Tested
-refusal_of (Refused why) = Failed why
-refusal_of NoMore = Passed
-refusal_of (Record side number count place next) = Passed
+abbrev pub refusal_of : ReadAnswer → Result ⊤ Refusal
+refusal_of (Refused why) = Err why
+refusal_of NoMore = Ok tt
+refusal_of (Record side number count place next) = Ok tt
 
 -- the first fault of a file: of its whole records, or else at the place where they end
-unfoldable pub file_fault : List ℕ → Tested
+unfoldable pub file_fault : List ℕ → Result ⊤ Refusal
 file_fault file = first_fault [] (records file) (refusal_of (read_at file (total_length (records file))))
 
 -- the seven lists: the tag table as bytes, and for each side the record numbers, the ends and the items
@@ -118,19 +117,19 @@ totals_of rs =
     }
 
 -- the loader's answer: the first record at fault by 1, 2, 3; then 4; else how much was filled, and the repeats
-unfoldable pub load_answer : List ℕ → Lists → LoadAnswer
+unfoldable pub load_answer : List ℕ → Lists → Result (Loaded × Repeats) Refusal
 load_answer file lent =
-    unless load.Refused (file_fault file)
-    (unless load.Refused (refuse_if (not (room_for (filled (records file)) lent)) ShortOutput)
-    (load.Loaded (totals_of (records file)) (repeat_totals (records file))))
+    unless Err (file_fault file)
+    (unless Err (refuse_if (not (room_for (filled (records file)) lent)) ShortOutput)
+    (Ok ((totals_of (records file)), (repeat_totals (records file)))))
 
 -- a lent list at the end: filled from its beginning and as before beyond, or as the refusal leaves it
-abbrev pub lent_after : LoadAnswer → List ℕ → List ℕ → List ℕ
-lent_after (load.Loaded totals repeats) part lent = filled_over part lent
-lent_after (load.Refused why) part lent = after_refusal why lent
+abbrev pub lent_after : Result (Loaded × Repeats) Refusal → List ℕ → List ℕ → List ℕ
+lent_after (Ok (totals, repeats)) part lent = filled_over part lent
+lent_after (Err why) part lent = after_refusal why lent
 
 -- the seven lent lists at the end, by the answer and what it fills
-abbrev pub lists_by : LoadAnswer → Lists → Lists → Lists
+abbrev pub lists_by : Result (Loaded × Repeats) Refusal → Lists → Lists → Lists
 lists_by answer part lent =
     record {
       tags = lent_after answer part.tags lent.tags;
@@ -178,20 +177,14 @@ lists_now tags left_numbers left_ends left_items right_numbers right_ends right_
     lists_of tags.now left_numbers.now left_ends.now left_items.now
     right_numbers.now right_ends.now right_items.now
 
--- seven lists that are read, as they come and as a `requires` has them
-abbrev pub read_lists : Lent → Lent → Lent → Lent → Lent → Lent → Lent → Lists
-read_lists tags left_numbers left_ends left_items right_numbers right_ends right_items =
-    lists_of tags.entry.now left_numbers.entry.now left_ends.entry.now left_items.entry.now
-    right_numbers.entry.now right_ends.entry.now right_items.entry.now
-
-abbrev pub read_lists_now : Bor (List ℕ) → Bor (List ℕ) → Bor (List ℕ) → Bor (List ℕ) → Bor (List ℕ) → Bor (List ℕ)
-    → Bor (List ℕ) → Lists
-read_lists_now tags left_numbers left_ends left_items right_numbers right_ends right_items =
-    lists_of tags.now left_numbers.now left_ends.now left_items.now
-    right_numbers.now right_ends.now right_items.now
+-- seven lists that are read
+abbrev pub read_lists : declared.Lists → Lists
+read_lists l =
+    lists_of l.tags.now l.left.numbers.now l.left.sets.ends.now l.left.sets.items.now
+    l.right.numbers.now l.right.sets.ends.now l.right.sets.items.now
 
 -- a load of a file into seven lent lists: what is answered, and each list afterwards
-pub record LoadCall (file : List ℕ) (before after : Lists) (answer : LoadAnswer) : Type 0 where
+pub record LoadCall (file : List ℕ) (before after : Lists) (answer : Result (Loaded × Repeats) Refusal) : Type 0 where
   pub answered : answer ≡ load_answer file before
   pub tags : after.tags ≡ (lists_after file before).tags
   pub left_numbers : after.left_numbers ≡ (lists_after file before).left_numbers

@@ -2,8 +2,8 @@
 ghost use Rattle.std.specs.Prelude.{◌≡◌};
 ghost use Rattle.tag_file.specs.answers.Words.{read_words, load_words};
 
-use crate::{LoadAnswer, ReadAnswer, RecordRead};
-use sets::{head_of, side_word};
+use crate::{Loaded, ReadAnswer, RecordRead, Repeats};
+use sets::{Refusal, head_of};
 
 // The words of the reader's answer at the C boundary.
 pub fn read_words(read: RecordRead) -> [u64; 10]
@@ -23,7 +23,7 @@ pub fn read_words(read: RecordRead) -> [u64; 10]
                 0,
                 0,
                 0,
-                side_word(side),
+                u64::from(side),
                 number as u64,
                 count as u64,
                 tags_at as u64,
@@ -40,11 +40,11 @@ pub fn read_words(read: RecordRead) -> [u64; 10]
 }
 
 // The words of the loader's answer at the C boundary.
-pub fn load_words(answer: LoadAnswer) -> [u64; 10]
+pub fn load_words(answer: Result<(Loaded, Repeats), Refusal>) -> [u64; 10]
     ensures { result ≡ load_words answer }
 {
     match answer {
-        LoadAnswer::Loaded(loaded, repeats) => [
+        Ok((loaded, repeats)) => [
             0,
             0,
             0,
@@ -56,7 +56,7 @@ pub fn load_words(answer: LoadAnswer) -> [u64; 10]
             repeats.left as u64,
             repeats.right as u64,
         ],
-        LoadAnswer::Refused(why) => {
+        Err(why) => {
             let row = head_of(why);
             [row.number, row.first, row.second, 0, 0, 0, 0, 0, 0, 0]
         }

@@ -2,7 +2,7 @@
 // answers as words at the C boundary. The record reader that counts repeats and the loader have crates of their own.
 #![tactic(auto)]
 
-use sets::{Refusal, Side};
+use sets::{Refusal, Sets, Side};
 
 // The bytes of a tag.
 pub const TAG_LENGTH: usize = 12;
@@ -19,6 +19,21 @@ pub struct Loaded {
     pub tag_count: usize,
 }
 
+// The sets of a side as they are lent, with the number of each.
+#[derive(Clone, Copy)]
+pub struct NumberedSets<'a> {
+    pub numbers: &'a [u16],
+    pub sets: Sets<'a>,
+}
+
+// What a tag file holds, as it is lent to be read: the tag table, and the sets of both sides.
+#[derive(Clone, Copy)]
+pub struct Lists<'a> {
+    pub tags: &'a [u8],
+    pub left: NumberedSets<'a>,
+    pub right: NumberedSets<'a>,
+}
+
 // How many reads of each side's records were repeats: of a tag that the same record had before.
 #[derive(Clone, Copy)]
 pub struct Repeats {
@@ -26,18 +41,9 @@ pub struct Repeats {
     pub right: usize,
 }
 
-// What the loader answers: how much it filled and how many reads were repeats, or why it did not.
-#[derive(Clone, Copy)]
-pub enum LoadAnswer {
-    Loaded(Loaded, Repeats),
-    Refused(Refusal),
-}
-
-ghost use Rattle.std.specs.Prelude.{◌≡◌, ◌+◌, ◌≤◌, ◌<◌, length};
+ghost use Rattle.std.specs.Prelude.{◌≡◌, ◌+◌, ◌≤◌, length};
 ghost use Rattle.tag_file.specs.Format.{head_length};
 ghost use Rattle.tag_file.specs.Reading.{read_at, record_at};
-ghost use Rattle.tag_file.specs.Records.{same_side};
-ghost use Rattle.tag_file.specs.Inner.{ByteAt};
 
 pub mod answers;
 
@@ -63,38 +69,14 @@ pub struct RecordRead {
     pub repeats: usize,
 }
 
-// Whether two sides are the same.
-pub fn is_side(a: Side, b: Side) -> bool
-    ensures { result ≡ same_side a b }
-{
-    match a {
-        Side::Left => match b {
-            Side::Left => true,
-            Side::Right => false,
-        },
-        Side::Right => match b {
-            Side::Left => false,
-            Side::Right => true,
-        },
-    }
-}
-
-// The byte at a place.
-pub fn byte_at(file: &[u8], at: usize) -> usize
-    requires { at < length file.now }
-    ensures { ByteAt file.now at result }
-{
-    file[at] as usize
-}
-
 // A record whose mark is that of the side, and whose head is whole.
 fn record_at(side: Side, file: &[u8], at: usize) -> ReadAnswer
     requires { at + head_length ≤ length file.now }
     ensures { result ≡ record_at side file.now at }
 {
-    let high = byte_at(file, at + 2);
-    let low = byte_at(file, at + 3);
-    let count = byte_at(file, at + 4);
+    let high = usize::from(file[at + 2]);
+    let low = usize::from(file[at + 3]);
+    let count = usize::from(file[at + 4]);
     let tags_at = at + HEAD_LENGTH;
     let room = file.len() - tags_at;
     if TAG_LENGTH * count <= room {
@@ -124,8 +106,8 @@ pub fn read_at(file: &[u8], at: usize) -> ReadAnswer
     if len - at < HEAD_LENGTH {
         return ReadAnswer::Refused(Refusal::Malformed(at));
     }
-    let first = byte_at(file, at);
-    let second = byte_at(file, at + 1);
+    let first = usize::from(file[at]);
+    let second = usize::from(file[at + 1]);
     let mark = first * 256 + second;
     if mark == 0x4B54 {
         return record_at(Side::Left, file, at);

@@ -72,31 +72,27 @@ fn run_files(line: &[u8], at: usize, pooled: bool, first: &[u8], second: &[u8]) 
 
 // The vector of a line, if it is no comment.
 fn run_line(line: &[u8]) {
-    let name = find(line, 0, b'/');
-    if name < line.len() {
-        io::write_all(STDOUT_FILENO, &line[..name]);
-        let numbers = find(line, name + 1, b'/');
-        let mut first = [0u8; FILE_ROOM];
-        let one = read_file(line, numbers + 1, &mut first);
-        let mut second = [0u8; FILE_ROOM];
-        let two = read_file(line, one.end + 1, &mut second);
-        run_files(
-            line,
-            name + 1,
-            one.end < line.len(),
-            &first[..one.length],
-            &second[..two.length],
-        );
-    }
+    let Some(name) = find(line, 0, b'/') else {
+        return;
+    };
+    io::write_all(STDOUT_FILENO, &line[..name]);
+    let numbers = find(line, name + 1, b'/').unwrap_or(line.len());
+    let mut first = [0u8; FILE_ROOM];
+    let one = read_file(line, numbers + 1, &mut first);
+    let mut second = [0u8; FILE_ROOM];
+    let two = read_file(line, one.end + 1, &mut second);
+    run_files(
+        line,
+        name + 1,
+        one.end < line.len(),
+        &first[..one.length],
+        &second[..two.length],
+    );
 }
 
 fn run_lines(text: &[u8]) {
-    let mut at: usize = 0;
-    while at < text.len() {
-        let rest = &text[at..];
-        let end = find(rest, 0, b'\n');
-        run_line(&rest[..end]);
-        at = at + end + 1;
+    for line in text.split(|b| *b == b'\n') {
+        run_line(line);
     }
 }
 

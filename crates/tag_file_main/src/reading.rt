@@ -1,19 +1,16 @@
 // A line of the table, read.
-ghost use Rattle.std.specs.Prelude.{◌≤◌, ◌<◌, length};
+ghost use Rattle.std.specs.Prelude.{◌≤◌, ◌<◌, length, IfSome};
 
-// The place of a byte from `at` on, or the length where it is not.
-pub fn find(text: &[u8], at: usize, byte: u8) -> usize
-    ensures { result ≤ length text.now }
+// The place of a byte from `at` on.
+pub fn find(text: &[u8], at: usize, byte: u8) -> Option<usize>
+    ensures { IfSome result (λ place. place < length text.now) }
 {
-    let n = text.len();
-    let mut i = at;
-    while i < n {
+    for i in at..text.len() {
         if text[i] == byte {
-            return i;
+            return Some(i);
         }
-        i += 1;
     }
-    n
+    None
 }
 
 // A number, and the place after the byte that follows it.
@@ -23,38 +20,26 @@ pub struct Number {
     pub next: usize,
 }
 
-// The number, or the most that it may be.
-pub fn at_most(n: usize, most: usize) -> usize
-    ensures { result ≤ most }
-{
-    if most < n {
-        return most;
-    }
-    n
-}
-
-fn byte_number(b: u8) -> usize
-    ensures { result ≤ 255 }
-{
-    b as usize
-}
-
 // Reads a number that is at most so much.
 fn read_number(text: &[u8], at: usize, most: usize) -> Number
     requires { most ≤ 3072 }
     ensures { result.value ≤ most }
 {
-    let mut i = at;
     let mut v: usize = 0;
-    while i < text.len() {
-        let b = byte_number(text[i]);
-        i += 1;
+    for i in at..text.len() {
+        let b = usize::from(text[i]);
         if b < 48 {
-            return Number { value: v, next: i };
+            return Number {
+                value: v,
+                next: i + 1,
+            };
         }
-        v = at_most(v * 10 + (b - 48), most);
+        v = most.min(v * 10 + (b - 48));
     }
-    Number { value: v, next: i }
+    Number {
+        value: v,
+        next: text.len(),
+    }
 }
 
 // The lengths of the lists that are lent, and how much of a list is shown at most.
@@ -113,8 +98,8 @@ fn read_byte(line: &[u8], at: usize) -> Byte
     let b = line[at];
     if at + 2 < line.len() {
         if b == b'%' {
-            let high = digit(byte_number(line[at + 1]));
-            let low = digit(byte_number(line[at + 2]));
+            let high = digit(usize::from(line[at + 1]));
+            let low = digit(usize::from(line[at + 2]));
             return Byte {
                 value: (high * 16 + low) as u8,
                 next: at + 3,
@@ -139,17 +124,18 @@ pub fn read_file(line: &[u8], at: usize, out: &mut [u8]) -> File
     ensures length_in_bounds { result.length ≤ length out.new }
     ensures end_in_bounds { result.end ≤ length line.now }
 {
-    let end = find(line, at, b'/');
-    let mut n: usize = 0;
+    let end = find(line, at, b'/').unwrap_or(line.len());
     let mut i = at;
-    while n < out.len() {
+    for n in 0..out.len() {
         if end <= i {
             return File { length: n, end };
         }
         let byte = read_byte(line, i);
         out[n] = byte.value;
         i = byte.next;
-        n += 1;
     }
-    File { length: n, end }
+    File {
+        length: out.len(),
+        end,
+    }
 }

@@ -2,5 +2,4 @@
 -- function that needs a proof file has its folder beside them.
 pub mod Search
 pub mod Ids
-pub mod Shift
 pub mod OneTag

@@ -5,7 +5,7 @@ ghost use Rattle.tag_file.specs.Records.{collapse};
 ghost use Rattle.tag_index.specs.tag_adding.Adding.{Adding, SomeAdding, RoomToAdd, AllAdded};
 
 use crate::tag_adding::{Added, SEEN_WORDS, see};
-use crate::{HINT_SLOTS, INDEX_ROOM, take_tag};
+use crate::{TagIndex, take_tag};
 use tag_file::TAG_LENGTH;
 
 // How many tags the index has, how many distinct ones the set has so far, and how many the record has by itself.
@@ -20,36 +20,30 @@ pub struct AddedBeside {
 // that the set had before is one of them.
 pub fn add_beside(
     file: &[u8],
-    heads: &mut [usize; INDEX_ROOM],
-    tails: &mut [u32; INDEX_ROOM],
-    ids: &mut [u16; INDEX_ROOM],
+    index: &mut TagIndex,
     seen: &mut [u64],
-    hints: &mut [u16; HINT_SLOTS],
     start: usize,
     count: usize,
     sum: Added,
 ) -> AddedBeside
-    requires some_adding { SomeAdding heads.old tails.old sum.tag_count sum.distinct ids.old seen.old }
+    requires some_adding { SomeAdding index.old sum.tag_count sum.distinct seen.old }
     requires room_to_add { RoomToAdd file.now start count sum.tag_count sum.distinct }
     ensures by_index { (done : List ℕ)
-        → Adding done heads.old tails.old sum.tag_count sum.distinct ids.old seen.old
-        → AllAdded done file.now start count sum.tag_count heads.old tails.old
-        ids.old result.tag_count result.distinct
-        heads.new tails.new ids.new seen.new }
+        → Adding done index.old sum.tag_count sum.distinct seen.old
+        → AllAdded done file.now start count sum.tag_count index.old
+        result.tag_count result.distinct index.new seen.new }
     ensures own_value { result.own ≡ length (collapse (tags_at count file.now start)) }
 {
     let mut alone = [0u64; SEEN_WORDS];
     let mut tag_count = sum.tag_count;
     let mut distinct = sum.distinct;
     let mut own = 0;
-    let mut k = 0;
-    while k < count {
+    for k in 0..count {
         let place = start + TAG_LENGTH * k;
-        let found = take_tag(file, heads, tails, ids, hints, place, tag_count);
+        let found = take_tag(file, index, place, tag_count);
         tag_count = found.tag_count;
         distinct = distinct + see(seen, found.id);
         own = own + see(&mut alone, found.id);
-        k += 1;
     }
     AddedBeside {
         tag_count,

@@ -4,8 +4,6 @@ ghost use Rattle.sets.specs.Limits.{full_words};
 ghost use Rattle.tag_file.specs.Format.{tag_length, tag_at};
 ghost use Rattle.tag_index.specs.tag_words.Words.{WordIs, TagIs, tag_value};
 
-use tag_file::byte_at;
-
 // How many numbers four bytes have.
 const FULL_WORDS: usize = 4294967296;
 
@@ -21,10 +19,10 @@ fn word_at(file: &[u8], at: usize) -> usize
     requires { at + 4 ≤ length file.now }
     ensures { WordIs file.now at result }
 {
-    let a = byte_at(file, at);
-    let b = byte_at(file, at + 1);
-    let c = byte_at(file, at + 2);
-    let d = byte_at(file, at + 3);
+    let a = usize::from(file[at]);
+    let b = usize::from(file[at + 1]);
+    let c = usize::from(file[at + 2]);
+    let d = usize::from(file[at + 3]);
     ((a * 256 + b) * 256 + c) * 256 + d
 }
 
@@ -59,5 +57,5 @@ pub fn is_same(a: Tag, b: Tag) -> bool
     requires { (a.lo < full_words) × (b.lo < full_words) }
     ensures { result ≡ eqb (tag_value a) (tag_value b) }
 {
-    if a.hi == b.hi { a.lo == b.lo } else { false }
+    a.hi == b.hi && a.lo == b.lo
 }

@@ -4,29 +4,27 @@ use mathlib.Core.List.{List}
 use mathlib.Core.Bool.{Bool, true, false, not}
 use Prim.Native.Nat.{ℕ}
 use borrow.Author.Tests.{not-true, not-false}
-use lib.ListN.{length}
+use Rattle.std.specs.Prelude.{Result, Err, Ok}
 use Rattle.sets.specs.Refusals.{clears}
 use Rattle.sets.specs.declared.Refusal.{Refusal}
 use Rattle.sets.specs.declared.Refusal.TheVariants.{ShortOutput}
-use Rattle.sets.specs.declared.Tested.TheVariants.{Passed}
 use Rattle.tag_file.specs.declared.Loaded.{Loaded}
 use Rattle.tag_file.specs.declared.Repeats.{Repeats}
-use Rattle.tag_file.specs.declared.LoadAnswer.{LoadAnswer}
-use Rattle.tag_file.specs.declared.LoadAnswer.TheVariants as load
 use Rattle.tag_file.specs.Records.{records}
 use Rattle.tag_file.specs.Repeats.{repeat_totals}
 use Rattle.tag_file.specs.Loading.{Lists, file_fault, totals_of, filled, room_for, load_answer, LoadCall}
 use Rattle.tag_file.proofs.FaultLaws.{fault_clears}
-use Rattle.tag_file.proofs.AnswerLaws.{tested_refused, tested_loaded, accepts, refuses_short, refuses_fault}
+use Rattle.tag_file.proofs.AnswerLaws.{load_of, tested_refused, tested_loaded, accepts, refuses_short, refuses_fault}
 use Rattle.tag_scan.specs.totals.Totals.{Limited}
 use Rattle.tag_scan.specs.Scan.{Scanned}
 use Rattle.tag_loader.specs.lent_lists.LentLists.{room_in, has_room, AllCleared}
 use Rattle.tag_loader.specs.Passes.{AllFilled, Fillable}
 use Rattle.tag_loader.proofs.Rooms.{room_counted}
+use Rattle.tag_index.specs.declared.TagIndex.{TagIndex}
 
 -- a refusal that makes zeros
-call_refused : {file : List ℕ} {before after : Lists} {answer : LoadAnswer} (why : Refusal)
-    → load_answer file before ≡ load.Refused why → clears why ≡ true → answer ≡ load.Refused why → AllCleared before after
+call_refused : {file : List ℕ} {before after : Lists} {answer : Result (Loaded × Repeats) Refusal} (why : Refusal)
+    → load_answer file before ≡ Err why → clears why ≡ true → answer ≡ Err why → AllCleared before after
     → LoadCall file before after answer
 call_refused why is zeros e z =
     record {
@@ -41,21 +39,21 @@ call_refused why is zeros e z =
     }
 
 -- a file at fault: the refusal of the first pass is the answer
-pub call_fault : {file heads tails ids : List ℕ} {before after : Lists} {r : LoadAnswer} (why : Refusal)
-    → Scanned file heads tails ids r → r ≡ load.Refused why → AllCleared before after → LoadCall file before after r
-call_fault {file} {heads} {tails} {ids} {before} {after} {r} why s e z =
+pub call_fault : {file : List ℕ} {index : TagIndex} {before after : Lists} {r : Result (Loaded × Repeats) Refusal} (why : Refusal)
+    → Scanned file index r → r ≡ Err why → AllCleared before after → LoadCall file before after r
+call_fault {file} {index} {before} {after} {r} why s e z =
     let fault =
     tested_refused (file_fault file) (totals_of (records file)) (repeat_totals (records file)) why (sym s.answer ∙ e) in
     call_refused why (refuses_fault file before why fault) (fault_clears file why fault) e z
 
 -- no fault: the totals and the repeats are the file's
 pub record Sound (file : List ℕ) (total : Loaded) (repeats : Repeats) : Type 0 where
-  pub clean : file_fault file ≡ Passed
+  pub clean : file_fault file ≡ Ok tt
   pub counts : total ≡ totals_of (records file)
   pub repeated : repeats ≡ repeat_totals (records file)
 
-module _ {file heads tails ids : List ℕ} {r : LoadAnswer} {total : Loaded} {repeats : Repeats}
-    (s : Scanned file heads tails ids r) (e : r ≡ load.Loaded total repeats) where
+module _ {file : List ℕ} {index : TagIndex} {r : Result (Loaded × Repeats) Refusal} {total : Loaded} {repeats : Repeats}
+    (s : Scanned file index r) (e : r ≡ Ok (total, repeats)) where
   sound : Sound file total repeats
   sound =
       let all =
@@ -71,7 +69,7 @@ module _ {file heads tails ids : List ℕ} {r : LoadAnswer} {total : Loaded} {re
 
     -- a list is too short
     pub call_short : {b : Bool} {after : Lists} → b ≡ has_room total (room_in lent) → not b ≡ true → AllCleared lent after
-        → LoadCall file lent after (load.Refused ShortOutput)
+        → LoadCall file lent after (Err ShortOutput)
     call_short {b} is short z =
         call_refused ShortOutput (refuses_short file lent sound.clean (sym same_room ∙ sym is ∙ not-true b short)) refl refl z
 
@@ -80,7 +78,7 @@ module _ {file heads tails ids : List ℕ} {r : LoadAnswer} {total : Loaded} {re
       room_here : room_for (filled (records file)) lent ≡ true
       room_here = sym same_room ∙ sym is ∙ not-false b enough
 
-      pub room_fillable : Fillable file heads tails ids total.tag_count lent
+      pub room_fillable : Fillable file index total.tag_count lent
       room_fillable =
           record {
             taken = s.taken sound.clean;
@@ -88,11 +86,11 @@ module _ {file heads tails ids : List ℕ} {r : LoadAnswer} {total : Loaded} {re
             room = room_here;
           }
 
-      pub call_loaded : {after : Lists} → AllFilled (records file) lent after → LoadCall file lent after (load.Loaded total repeats)
+      pub call_loaded : {after : Lists} → AllFilled (records file) lent after → LoadCall file lent after (Ok (total, repeats))
       call_loaded z =
           let accepted = accepts file lent sound.clean room_here in
           record {
-            answered = ap₂ load.Loaded sound.counts sound.repeated ∙ sym accepted;
+            answered = ap₂ load_of sound.counts sound.repeated ∙ sym accepted;
             tags = rw accepted z.tags_filled;
             left_numbers = rw accepted z.left_numbers_filled;
             left_ends = rw accepted z.left_ends_filled;

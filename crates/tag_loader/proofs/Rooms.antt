@@ -22,6 +22,7 @@ use Rattle.tag_index.specs.Index.{table_of, Sorted, Ranked}
 use Rattle.tag_loader.specs.fill.Fill.{FillReady}
 use Rattle.tag_loader.specs.lent_lists.LentLists.{side_fits, room_in, has_room}
 use Rattle.tag_loader.specs.Passes.{Fillable}
+use Rattle.tag_index.specs.declared.TagIndex.{TagIndex}
 
 side_fits_lem : (side : Side) (rs : List TagRecord) (numbers ends items : List ℕ)
     → side_fits (length (of_side side rs)) (entries_of side rs) (length numbers) (length ends) (length items)
@@ -66,47 +67,47 @@ room_counted rs lent =
     regroup a true false d e = refl
     regroup a false c d e = refl
 
-module _ {file heads tails ids : List ℕ} {n : ℕ} {lent : Lists} (f : Fillable file heads tails ids n lent) where
+module _ {file : List ℕ} {index : TagIndex} {n : ℕ} {lent : Lists} (f : Fillable file index n lent) where
   each : RoomForEach (filled (records file)) lent
   each = room_each (filled (records file)) lent f.room
 
-  pub sorted_here : Sorted heads tails n ids
-  sorted_here = subst (λ (k : ℕ). Sorted heads tails k ids) (sym f.count) f.taken.sorted
+  pub sorted_here : Sorted index n
+  sorted_here = subst (λ (k : ℕ). Sorted index k) (sym f.count) f.taken.sorted
 
-  table_here : table_of heads tails n ids ≡ tag_table (records file)
-  table_here = ap (λ (k : ℕ). table_of heads tails k ids) f.count ∙ f.taken.table
+  table_here : table_of index n ≡ tag_table (records file)
+  table_here = ap (λ (k : ℕ). table_of index k) f.count ∙ f.taken.table
 
-  pub tags_room : length (tag_bytes (table_of heads tails n ids)) ≤ length lent.tags
+  pub tags_room : length (tag_bytes (table_of index n)) ≤ length lent.tags
   tags_room = subst (λ (l : List ℕ). length (tag_bytes l) ≤ length lent.tags) (sym table_here) each.tags
 
-  pub tags_filled : (before : List ℕ) {after : List ℕ} → after ≡ filled_over (tag_bytes (table_of heads tails n ids)) before
+  pub tags_filled : (before : List ℕ) {after : List ℕ} → after ≡ filled_over (tag_bytes (table_of index n)) before
       → after ≡ filled_over (tag_bytes (tag_table (records file))) before
   tags_filled before e = e ∙ ap (λ (t : List ℕ). filled_over (tag_bytes t) before) table_here
 
   -- what is filled over the index is what is filled over the file's table
   pub ends_filled : (side : Side) (before : List ℕ) {after : List ℕ}
-      → after ≡ filled_over (ends_from 0 (sets_of_side side (table_of heads tails n ids) (records file))) before
+      → after ≡ filled_over (ends_from 0 (sets_of_side side (table_of index n) (records file))) before
       → after ≡ filled_over (ends_of side (records file)) before
   ends_filled side before e =
       e ∙ ap (λ (t : List ℕ). filled_over (ends_from 0 (sets_of_side side t (records file))) before) table_here
 
   pub items_filled : (side : Side) (before : List ℕ) {after : List ℕ}
-      → after ≡ filled_over (flatten (sets_of_side side (table_of heads tails n ids) (records file))) before
+      → after ≡ filled_over (flatten (sets_of_side side (table_of index n) (records file))) before
       → after ≡ filled_over (flat_items side (records file)) before
   items_filled side before e =
       e ∙ ap (λ (t : List ℕ). filled_over (flatten (sets_of_side side t (records file))) before) table_here
 
   -- the index has the tags of each side
   held_here : (side : Side) (y : ℕ) → memb y (all_tags (of_side side (records file))) ≡ true
-      → memb y (table_of heads tails n ids) ≡ true
+      → memb y (table_of index n) ≡ true
   held_here side y m =
       ap (memb y) table_here ∙ memb-collapse y (all_tags (records file)) ∙ memb_side_tags side (records file) y m
 
-  module _ {ranks : List ℕ} (ranked : Ranked n ids ranks) where
+  module _ {ranks : List ℕ} (ranked : Ranked n index.ids ranks) where
     side_ready : (side : Side) (numbers ends items : List ℕ) → entries_of side (records file) ≤ max_entries
         → length (numbers_of side (records file)) ≤ length numbers → length (ends_of side (records file)) ≤ length ends
         → length (flat_items side (records file)) ≤ length items
-        → FillReady file heads tails n ids ranks side numbers ends items
+        → FillReady file index n ranks side numbers ends items
     side_ready side numbers ends items few for_numbers for_ends for_items =
         let same = ap (λ (t : List ℕ). length (flatten (sets_of_side side t (records file)))) table_here in
         record {
@@ -121,12 +122,12 @@ module _ {file heads tails ids : List ℕ} {n : ℕ} {lent : Lists} (f : Fillabl
           for_items = omega (arith, same);
         }
 
-    pub left_ready : FillReady file heads tails n ids ranks Left lent.left_numbers lent.left_ends lent.left_items
+    pub left_ready : FillReady file index n ranks Left lent.left_numbers lent.left_ends lent.left_items
     left_ready =
         side_ready Left lent.left_numbers lent.left_ends lent.left_items f.taken.limited.left_entries
         each.left_numbers each.left_ends each.left_items
 
-    pub right_ready : FillReady file heads tails n ids ranks Right lent.right_numbers lent.right_ends lent.right_items
+    pub right_ready : FillReady file index n ranks Right lent.right_numbers lent.right_ends lent.right_items
     right_ready =
         side_ready Right lent.right_numbers lent.right_ends lent.right_items f.taken.limited.right_entries
         each.right_numbers each.right_ends each.right_items

@@ -4,6 +4,7 @@ use Rattle.sets.specs.Lent.{filled_over}
 use Rattle.tag_file.specs.Records.{TagRecord, records, tag_table}
 use Rattle.tag_file.specs.Loading.{Lists, totals_of, room_for, filled}
 use Rattle.tag_scan.specs.Scan.{Taken}
+use Rattle.tag_index.specs.declared.TagIndex.{TagIndex}
 
 -- the seven lists hold what records give, and are as before beyond
 pub record AllFilled (rs : List TagRecord) (before after : Lists) : Type 0 where
@@ -16,7 +17,7 @@ pub record AllFilled (rs : List TagRecord) (before after : Lists) : Type 0 where
   pub right_items_filled : after.right_items ≡ filled_over (filled rs).right_items before.right_items
 
 -- the n tags and the counts of a file's records were taken in, and the lists are long enough
-pub record Fillable (file heads tails ids : List ℕ) (n : ℕ) (lent : Lists) : Type 0 where
-  pub taken : Taken (records file) (totals_of (records file)) heads tails ids
+pub record Fillable (file : List ℕ) (index : TagIndex) (n : ℕ) (lent : Lists) : Type 0 where
+  pub taken : Taken (records file) (totals_of (records file)) index
   pub count : n ≡ length (tag_table (records file))
   pub room : room_for (filled (records file)) lent ≡ true

@@ -4,7 +4,6 @@ ghost use Rattle.tag_file.specs.Loading.{lent_lists, returned_lists};
 ghost use Rattle.tag_scan.specs.totals.Totals.{Limited};
 ghost use Rattle.tag_loader.specs.lent_lists.LentLists.{side_fits, SideCleared, AllCleared, has_room};
 
-use lists::{zero_u8, zero_u16, zero_u32};
 use tag_file::{Loaded, TAG_LENGTH};
 
 // Whether lists of these lengths hold the numbers, ends and items of a side.
@@ -19,9 +18,9 @@ fn clear_side(numbers: &mut [u16], ends: &mut [u32], items: &mut [u16])
     ensures { SideCleared numbers.old ends.old items.old
         numbers.new ends.new items.new }
 {
-    zero_u16(numbers);
-    zero_u32(ends);
-    zero_u16(items);
+    numbers.fill(0);
+    ends.fill(0);
+    items.fill(0);
 }
 
 // Fills the seven lists with zeros.
@@ -38,7 +37,7 @@ pub fn clear_lists(
         (lent_lists tags left_numbers left_ends left_items right_numbers right_ends right_items)
         (returned_lists tags left_numbers left_ends left_items right_numbers right_ends right_items) }
 {
-    zero_u8(tags);
+    tags.fill(0);
     clear_side(left_numbers, left_ends, left_items);
     clear_side(right_numbers, right_ends, right_items);
 }

@@ -6,50 +6,29 @@ ghost use Rattle.sets.specs.Lent.{filled_over};
 ghost use Rattle.tag_file.specs.Format.{tag_length, bytes_of, tag_bytes};
 ghost use Rattle.tag_index.specs.Index.{table_of, Sorted};
 
-use tag_index::INDEX_ROOM;
-
-// Writes a number as some bytes, high byte first, from a place on.
-fn put_number(number: usize, width: usize, tags: &mut [u8], at: usize) -> usize
-    requires { at + width ≤ length tags.old }
-    ensures { Put tags.old at (bytes_of width number) result tags.new }
-{
-    let mut rest = number;
-    let mut left = width;
-    while left > 0 {
-        left -= 1;
-        tags[at + left] = (rest % 256) as u8;
-        rest = rest / 256;
-    }
-    at + width
-}
+use tag_index::TagIndex;
 
 // Writes a tag from a place on: its first 8 bytes and its last 4.
 fn put_tag(head: usize, tail: u32, tags: &mut [u8], at: usize) -> usize
     requires { at + tag_length ≤ length tags.old }
     ensures { Put tags.old at (bytes_of tag_length (head * full_words + tail)) result tags.new }
 {
-    let mid = put_number(head, 8, tags, at);
-    put_number(tail as usize, 4, tags, mid)
+    let mid = at + 8;
+    let end = mid + 4;
+    tags[at..mid].copy_from_slice(&head.to_be_bytes());
+    tags[mid..end].copy_from_slice(&tail.to_be_bytes());
+    end
 }
 
 // Writes the tags of an index in rising order, one after the other.
-pub fn fill_tags(
-    heads: &[usize; INDEX_ROOM],
-    tails: &[u32; INDEX_ROOM],
-    ids: &[u16; INDEX_ROOM],
-    n: usize,
-    tags: &mut [u8],
-)
-    requires sorted { Sorted heads.now tails.now n ids.now }
-    requires ids_in_bounds { length (tag_bytes (table_of heads.now tails.now n ids.now)) ≤ length tags.old }
-    ensures { tags.new
-        ≡ filled_over (tag_bytes (table_of heads.now tails.now n ids.now)) tags.old }
+pub fn fill_tags(index: &TagIndex, n: usize, tags: &mut [u8])
+    requires sorted { Sorted index.now n }
+    requires ids_in_bounds { length (tag_bytes (table_of index.now n)) ≤ length tags.old }
+    ensures { tags.new ≡ filled_over (tag_bytes (table_of index.now n)) tags.old }
 {
-    let mut i = 0;
     let mut at = 0;
-    while i < n {
-        let id = ids[i] as usize;
-        at = put_tag(heads[id], tails[id], tags, at);
-        i += 1;
+    for x in &index.ids[..n] {
+        let id = usize::from(*x);
+        at = put_tag(index.heads[id], index.tails[id], tags, at);
     }
 }

@@ -4,9 +4,9 @@
 use mathlib.Core.Path.{◌≡◌, refl}
 use Prim.Native.Nat.{ℕ}
 use mathlib.Core.List.{List, [], ◌∷◌, ◌++◌, flatten}
+use Rattle.std.specs.Prelude.{Ok}
 use Rattle.lists.specs.Lists.{keep, memb, sum, range, any, prefix}
 use Rattle.sets.specs.Collections.{sets_from}
-use Rattle.sets.specs.declared.Tested.TheVariants.{Passed}
 use Rattle.tag_file.specs.Format.{value_from, bytes_of, tag_bytes}
 use Rattle.tag_file.specs.Reading.{read_at, tags_at}
 use Rattle.tag_file.specs.Records.{records, records_from, insert, insert_all, all_tags, items_of}
@@ -26,7 +26,7 @@ file =
 rewritten_file : List ℕ
 rewritten_file = (0x4B ∷ 0x54 ∷ 0 ∷ 7 ∷ 2 ∷ []) ++ (tag 1 ++ tag 2) ++ (0x53 ∷ 0x4B ∷ 0 ∷ 9 ∷ 2 ∷ []) ++ (tag 1 ++ tag 2)
 
-example_accepted : file_fault file ≡ Passed
+example_accepted : file_fault file ≡ Ok tt
 unfolding file tag file_fault first_fault fault_of too_many read_at tags_at records_from value_from insert insert_all all_tags
     keep memb sum any prefix
 example_accepted = refl

@@ -7,12 +7,12 @@ use native.Mathlib.Nat.{le_trans}
 use native.Mathlib.Omega.{arith}
 use borrow.Author.Tests.{le-ltb}
 use lib.ListN.{length, length-append}
+use Rattle.std.specs.Prelude.{Ok}
 use Rattle.lists.specs.Lists.{distinct}
 use Rattle.lists.proofs.Filtering.{keep_append}
 use Rattle.lists.proofs.Summing.{sum_append}
 use Rattle.sets.specs.Limits.{max_items, max_sets, max_entries}
 use Rattle.sets.specs.declared.Side.{Side}
-use Rattle.sets.specs.declared.Tested.TheVariants.{Passed}
 use Rattle.tag_file.specs.Records.{TagRecord, same_side, of_side, all_tags, tag_table, entries_of}
 use Rattle.tag_file.specs.Loading.{too_many, first_fault}
 use Rattle.tag_file.proofs.FaultLaws.{fault_none}
@@ -46,7 +46,7 @@ module _ (a b : List TagRecord) where
       rw (all_tags_append a b, insert_all_append [] (all_tags a) (all_tags b))
       (insert_all_grows (tag_table a) (all_tags b) (rising-collapse (all_tags a)))
 
-pub free_none : (seen rs : List TagRecord) → FaultFree (seen ++ rs) → first_fault seen rs Passed ≡ Passed
+pub free_none : (seen rs : List TagRecord) → FaultFree (seen ++ rs) → first_fault seen rs (Ok tt) ≡ Ok tt
 unfolding first_fault
 free_none seen [] so = refl
 free_none seen (r ∷ rs) so =

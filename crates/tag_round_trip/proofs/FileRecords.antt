@@ -8,11 +8,11 @@ use native.Mathlib.Omega.{arith}
 use borrow.Author.Tests.{lt-ltb, le-leb}
 use lib.Dec.{ltb, leb}
 use lib.ListN.{length, get_or}
+use Rattle.std.specs.Prelude.{Ok}
 use Rattle.lists.specs.Lists.{all}
 use Rattle.lists.proofs.Bools.{and_both, and_left, and_right}
 use Rattle.lists.proofs.Throughout.{all_append, all_intro, all_elim}
 use Rattle.sets.specs.Limits.{max_set_length, half_words}
-use Rattle.sets.specs.declared.Tested.TheVariants.{Passed}
 use Rattle.tag_file.specs.Format.{tag_length}
 use Rattle.tag_file.specs.Reading.{read_at, tags_at}
 use Rattle.tag_file.specs.Records.{TagRecord, onward, records_from, records, all_tags, tag_table}
@@ -102,6 +102,6 @@ pub record Loadable (rs : List TagRecord) : Type 0 where
   pub fit : records_fit rs ≡ true
   pub few : sets_few rs ≡ true
 
-pub file_loadable : (file : List ℕ) → ((i : ℕ) → get_or file i 0 < 256) → file_fault file ≡ Passed → Loadable (records file)
+pub file_loadable : (file : List ℕ) → ((i : ℕ) → get_or file i 0 < 256) → file_fault file ≡ Ok tt → Loadable (records file)
 file_loadable file low clear =
     record { free = file_free file clear; fit = file_fit file low; few = sets_few_lem (records file) (file_few file low) }

@@ -7,6 +7,7 @@ use native.Mathlib.Omega.{arith}
 use borrow.Author.Tests.{le-leb, leb-true}
 use lib.Dec.{leb}
 use lib.ListN.{length, length-append, length-map}
+use Rattle.std.specs.Prelude.{None, Ok}
 use Rattle.lists.specs.Lists.{all, memb, rising, subset}
 use Rattle.lists.proofs.Bools.{and_both, and_left, and_right, or_left, or_right}
 use Rattle.lists.proofs.Membership.{memb_append}
@@ -17,8 +18,6 @@ use Rattle.sets.specs.Collections.{between, sets_of, good_items, good_end, first
 use Rattle.sets.specs.Refusals.{no_bad_set}
 use Rattle.sets.specs.declared.Side.{Side}
 use Rattle.sets.specs.declared.Side.TheVariants.{Left, Right}
-use Rattle.sets.specs.declared.Verdict.TheVariants.{Good}
-use Rattle.sets.specs.declared.Tested.TheVariants.{Passed}
 use Rattle.sets.proofs.Good.{not_bad}
 use Rattle.tag_file.specs.Format.{tag_bytes}
 use Rattle.tag_file.specs.Records.{TagRecord, same_side, of_side, collapse, all_tags, tag_table, items_of, entries_of, sets_of_side}
@@ -102,7 +101,7 @@ module _ (side : Side) (table : List ℕ) (r : rising table ≡ true) where
 -- good sets that were joined, within the limits, have no bad one among them
 good_joined : (T k start : ℕ) (before : List ℕ) (sets : List (List ℕ)) → length before ≡ start → k + length sets ≤ max_sets
     → start + length (flatten sets) ≤ max_entries → all (good_items T) sets ≡ true
-    → first_bad_from T k start (ends_from start sets) (before ++ flatten sets) ≡ Good
+    → first_bad_from T k start (ends_from start sets) (before ++ flatten sets) ≡ None
 unfolding first_bad_from ends_from flatten all
 good_joined T k start before [] e places entries good = refl
 good_joined T k start before (set ∷ sets) e places entries good =
@@ -132,7 +131,7 @@ module _ (rs : List TagRecord) where
   -- no set of a side is bad, within the limits
   module _ (side : Side) (few : sets_few rs ≡ true) (places : length (of_side side rs) ≤ max_sets)
       (entries : entries_of side rs ≤ max_entries) where
-    pub sets_unbad : first_bad (length (tag_table rs)) (ends_of side rs) (flat_items side rs) ≡ Good
+    pub sets_unbad : first_bad (length (tag_table rs)) (ends_of side rs) (flat_items side rs) ≡ None
     sets_unbad =
         let table = tag_table rs in
         let sets = sets_of_side side table rs in
@@ -142,7 +141,7 @@ module _ (rs : List TagRecord) where
         (sets_good side table (rising-collapse (all_tags rs)) (of_side side rs) (own_tags side)
         (all_keep (λ r. leb (length (collapse r.tags)) max_set_length) (λ r. same_side side r.side) rs few))
 
-    pub side_good : numbered_test (length (tag_table rs)) side (numbers_of side rs) (ends_of side rs) (flat_items side rs) ≡ Passed
+    pub side_good : numbered_test (length (tag_table rs)) side (numbers_of side rs) (ends_of side rs) (flat_items side rs) ≡ Ok tt
     side_good =
         sym (side_even (length (tag_table rs)) side (numbers_of side rs) (ends_of side rs) (flat_items side rs)
         (ap (no_bad_set side) sets_unbad) (length-numbers_of side rs ∙ sym (length-ends_of side rs)))
@@ -150,7 +149,7 @@ module _ (rs : List TagRecord) where
   -- the same of records that have no more tags than the greatest set length
   pub side_unbad : (side : Side) → all (λ r. leb (length r.tags) max_set_length) rs ≡ true
       → length (of_side side rs) ≤ max_sets → entries_of side rs ≤ max_entries
-      → first_bad (length (tag_table rs)) (ends_of side rs) (flat_items side rs) ≡ Good
+      → first_bad (length (tag_table rs)) (ends_of side rs) (flat_items side rs) ≡ None
   side_unbad side few places entries = sets_unbad side (sets_few_lem rs few) places entries
 
   pub lists_records : tags_fit (tag_table rs) ≡ true → records_of_lists (filled rs) ≡ rewritten rs

@@ -9,16 +9,11 @@ use mathlib.Core.Bool.{true}
 use native.Mathlib.Omega.{arith}
 use lib.ListN.{length, take, drop, get_or}
 use lib.Seq.{take_at}
+use Rattle.std.specs.Prelude.{Result, Err, Ok, ⊤}
 use Rattle.sets.specs.declared.Side.TheVariants.{Left, Right}
 use Rattle.sets.specs.Refusals.{unless}
-use Rattle.sets.specs.declared.Tested.{Tested}
-use Rattle.sets.specs.declared.Tested.TheVariants.{Passed, Failed}
 use Rattle.tag_file.specs.declared.Loaded.{Loaded}
 use Rattle.tag_file.specs.declared.Repeats.{Repeats}
-use Rattle.tag_file.specs.declared.LoadAnswer.{LoadAnswer}
-use Rattle.tag_file.specs.declared.LoadAnswer.TheVariants as load
-use Rattle.tag_writer_spec.specs.declared.WriteAnswer.{WriteAnswer}
-use Rattle.tag_writer_spec.specs.declared.WriteAnswer.TheVariants as write
 use Rattle.tag_file.specs.Records.{TagRecord, records, tag_table}
 use Rattle.tag_file.specs.Repeats.{repeat_totals, no_repeats}
 use Rattle.tag_file.specs.Loading.{Lists, filled, totals_of, file_fault, first_fault, refusal_of, room_for, load_answer, lists_after}
@@ -38,10 +33,11 @@ use Rattle.tag_round_trip.proofs.Refilled.{side_good, lists_records}
 use Rattle.tag_round_trip.proofs.Rewriting.{filled-rewritten, counts_rewritten, repeats_rewritten}
 use Rattle.tag_round_trip.proofs.Values.{tag_bytes_low}
 use Rattle.tag_round_trip.proofs.Written.{written_records, written_end}
+use Rattle.sets.specs.declared.Refusal.{Refusal}
 
-if_written : (t : Tested) (m n : ℕ) → unless write.Refused t (write.Written m) ≡ write.Written n → (t ≡ Passed) × (m ≡ n)
-if_written Passed m n e = (refl, cc)
-if_written (Failed why) m n e = let z : ◌≡◌ {A = ℕ} 0 1 = cc in absurd (omega arith)
+if_written : (t : Result ⊤ Refusal) (m n : ℕ) → unless Err t (Ok m) ≡ Ok n → (t ≡ Ok tt) × (m ≡ n)
+if_written (Ok _) m n e = (refl, cc)
+if_written (Err why) m n e = let z : ◌≡◌ {A = ℕ} 0 1 = cc in absurd (omega arith)
 
 module _ (rs : List TagRecord) (so : Loadable rs) where
   -- the output's room alone decides whether the writer accepts what was filled
@@ -56,11 +52,11 @@ module _ (rs : List TagRecord) (so : Loadable rs) where
 
   writes : (room : ℕ) → length (file_bytes (filled rs)) ≤ room
       → write_answer (length (tag_table rs)) (filled rs) room
-      ≡ write.Written (length (file_bytes (filled rs)))
+      ≡ Ok (length (file_bytes (filled rs)))
   writes room enough = sym (within room (file_bytes (filled rs)) _ refl enough ∙ decides room)
 
   -- where it accepts, the output has room, and the length is the file's
-  written_room : (room n : ℕ) → write_answer (length (tag_table rs)) (filled rs) room ≡ write.Written n
+  written_room : (room n : ℕ) → write_answer (length (tag_table rs)) (filled rs) room ≡ Ok n
       → (length (file_bytes (filled rs)) ≤ room) × (length (file_bytes (filled rs)) ≡ n)
   written_room room n e =
       let bytes = file_bytes (filled rs) in
@@ -73,13 +69,13 @@ module _ (rs : List TagRecord) (so : Loadable rs) where
       written_records (filled rs) (tag_bytes_low (tag_table rs))
       ∙ lists_records rs (table_fit rs so.fit)
 
-  clear_again : file_fault (file_bytes (filled rs)) ≡ Passed
+  clear_again : file_fault (file_bytes (filled rs)) ≡ Ok tt
   unfolding file_fault
   clear_again =
       let bytes = file_bytes (filled rs) in
       ap (λ (a : ReadAnswer). first_fault [] (records bytes) (refusal_of a))
       (written_end (filled rs) (tag_bytes_low (tag_table rs)))
-      ∙ ap (λ (l : List TagRecord). first_fault [] l Passed) reads
+      ∙ ap (λ (l : List TagRecord). first_fault [] l (Ok tt)) reads
       ∙ free_none [] (rewritten rs) (free_rewritten rs so.free)
 
   filled_again : filled (records (file_bytes (filled rs))) ≡ filled rs
@@ -96,7 +92,7 @@ module _ (rs : List TagRecord) (so : Loadable rs) where
       → written_to (length (tag_table rs)) (filled rs) out ≡ file_bytes (filled rs)
   written_bytes out enough =
       let bytes = file_bytes (filled rs) in
-      ap (λ (a : WriteAnswer). take (length bytes) (file_after a bytes out)) (writes (length out) enough)
+      ap (λ (a : Result ℕ Refusal). take (length bytes) (file_after a bytes out)) (writes (length out) enough)
       ∙ take_at bytes (drop (length bytes) out) (length bytes) refl
 
   -- a load of that file
@@ -104,10 +100,10 @@ module _ (rs : List TagRecord) (so : Loadable rs) where
       → Loads (file_bytes (filled rs)) lent (totals_of rs) no_repeats (filled rs)
   loads_again lent room =
       let bytes = file_bytes (filled rs) in
-      let answer : load_answer bytes lent ≡ load.Loaded (totals_of (records bytes)) (repeat_totals (records bytes)) =
+      let answer : load_answer bytes lent ≡ Ok ((totals_of (records bytes)), (repeat_totals (records bytes))) =
       accepts bytes lent clear_again (rw filled_again room) in
       record {
-        answer = answer ∙ ap₂ (λ (c : Loaded) (q : Repeats). load.Loaded c q) counts_again repeats_again;
+        answer = answer ∙ ap₂ (λ (c : Loaded) (q : Repeats). Ok (c, q)) counts_again repeats_again;
         lists =
             ap (λ (c : Loaded). loaded_from bytes lent c) (sym counts_again)
             ∙ parts_filled bytes lent (repeat_totals (records bytes)) answer ∙ filled_again;
@@ -133,26 +129,26 @@ module _ (rs : List TagRecord) (so : Loadable rs) (counts : Loaded) (got : Lists
 
   -- the same of two calls, by what their contracts say: a write of what was filled that is accepted, and a load of what was
   -- written into lists that are long enough
-  pub fills_again : (out wrote : List ℕ) (n : ℕ) (again more : Lists) (answer : LoadAnswer)
-      → WriteCall counts.tag_count (parts_of counts got) out wrote (write.Written n)
+  pub fills_again : (out wrote : List ℕ) (n : ℕ) (again more : Lists) (answer : Result (Loaded × Repeats) Refusal)
+      → WriteCall counts.tag_count (parts_of counts got) out wrote (Ok n)
       → LoadCall (take n wrote) again more answer → room_for (parts_of counts got) again ≡ true
-      → (answer ≡ load.Loaded counts no_repeats) × (parts_of counts more ≡ parts_of counts got)
+      → (answer ≡ Ok (counts, no_repeats)) × (parts_of counts more ≡ parts_of counts got)
   fills_again out wrote n again more answer second third room =
       let bytes = file_bytes (filled rs) in
       let same = fills.lists in
       let counted = sym fills.counted in
-      let wrote_it : write_answer (length (tag_table rs)) (filled rs) (length out) ≡ write.Written n =
+      let wrote_it : write_answer (length (tag_table rs)) (filled rs) (length out) ≡ Ok n =
       ap (λ (c : Loaded). write_answer c.tag_count (filled rs) (length out)) counted
       ∙ ap (λ (l : Lists). write_answer counts.tag_count l (length out)) (sym same) ∙ sym second.answered in
       let parts = written_room rs so (length out) n wrote_it in
       let output : take n wrote ≡ bytes =
       ap (take n)
-      (second.file ∙ ap (λ (a : WriteAnswer). file_after a (file_bytes (parts_of counts got)) out) (sym second.answered)
+      (second.file ∙ ap (λ (a : Result ℕ Refusal). file_after a (file_bytes (parts_of counts got)) out) (sym second.answered)
       ∙ ap (λ (l : Lists). file_bytes l ++ drop (length (file_bytes l)) out) same)
       ∙ take_at bytes (drop (length bytes) out) n parts.1 in
       let loads = loads_again rs so again (ap (λ (l : Lists). room_for l again) (sym same) ∙ room) in (
         third.answered ∙ ap (λ (f : List ℕ). load_answer f again) output ∙ loads.answer
-            ∙ ap (λ (c : Loaded). load.Loaded c no_repeats) counted,
+            ∙ ap (λ (c : Loaded). Ok (c, no_repeats)) counted,
         ap (parts_of counts) (call_lists third) ∙ ap (λ (f : List ℕ). parts_of counts (lists_after f again)) output
             ∙ ap (loaded_from bytes again) (sym counted) ∙ loads.lists ∙ sym same,
       )
@@ -163,13 +159,13 @@ module _ (rs : List TagRecord) (so : Loadable rs) (counts : Loaded) (got : Lists
 
 -- of a file that the loader accepts, whatever repeats it has
 load_fill : (file : List ℕ) (lent got : Lists) (counts : Loaded) (repeats : Repeats)
-    → load_answer file lent ≡ load.Loaded counts repeats → got ≡ lists_after file lent → Fills (records file) counts got
+    → load_answer file lent ≡ Ok (counts, repeats) → got ≡ lists_after file lent → Fills (records file) counts got
 load_fill file lent got counts repeats e after =
     lists_fill (records file) lent got (load_answer file lent) counts repeats e
     (sym (accepted file lent counts repeats e).counted) after
 
 pub round_trip : (file : List ℕ) (lent : Lists) (counts : Loaded) (repeats : Repeats) → ((i : ℕ) → get_or file i 0 < 256)
-    → load_answer file lent ≡ load.Loaded counts repeats
+    → load_answer file lent ≡ Ok (counts, repeats)
     → (out : List ℕ) → length (file_bytes (loaded_from file lent counts)) ≤ length out
     → Trip counts (loaded_from file lent counts) out
 round_trip file lent counts repeats low e out enough =
@@ -178,7 +174,7 @@ round_trip file lent counts repeats low e out enough =
 
 -- the file that the writer writes from what was loaded has no repeats: a record has each of its tags once
 pub written_repeats : (file : List ℕ) (lent : Lists) (counts : Loaded) (repeats : Repeats) → ((i : ℕ) → get_or file i 0 < 256)
-    → load_answer file lent ≡ load.Loaded counts repeats
+    → load_answer file lent ≡ Ok (counts, repeats)
     → repeat_totals (records (file_bytes (loaded_from file lent counts))) ≡ no_repeats
 written_repeats file lent counts repeats low e =
     fills_repeats (records file) (file_loadable file low (accepted file lent counts repeats e).clear) counts (lists_after file lent)
@@ -187,12 +183,12 @@ written_repeats file lent counts repeats low e =
 -- the round trip of three calls: a load that is accepted, a write of what it filled that is accepted, and a load of what was written
 -- into lists that are long enough
 pub calls_round_trip : (file : List ℕ) (lent got : Lists) (counts : Loaded) (repeats : Repeats) (out wrote : List ℕ) (n : ℕ)
-    (again more : Lists) (answer : LoadAnswer) → ((i : ℕ) → get_or file i 0 < 256)
-    → LoadCall file lent got (load.Loaded counts repeats)
-    → WriteCall counts.tag_count (parts_of counts got) out wrote (write.Written n)
+    (again more : Lists) (answer : Result (Loaded × Repeats) Refusal) → ((i : ℕ) → get_or file i 0 < 256)
+    → LoadCall file lent got (Ok (counts, repeats))
+    → WriteCall counts.tag_count (parts_of counts got) out wrote (Ok n)
     → LoadCall (take n wrote) again more answer → room_for (parts_of counts got) again ≡ true
-    → (answer ≡ load.Loaded counts no_repeats) × (parts_of counts more ≡ parts_of counts got)
+    → (answer ≡ Ok (counts, no_repeats)) × (parts_of counts more ≡ parts_of counts got)
 calls_round_trip file lent got counts repeats out wrote n again more answer low first second third room =
-    let e : load_answer file lent ≡ load.Loaded counts repeats = sym first.answered in
+    let e : load_answer file lent ≡ Ok (counts, repeats) = sym first.answered in
     fills_again (records file) (file_loadable file low (accepted file lent counts repeats e).clear) counts got
     (load_fill file lent got counts repeats e (call_lists first)) out wrote n again more answer second third room

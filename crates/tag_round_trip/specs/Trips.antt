@@ -1,10 +1,8 @@
 -- What the statement of the round trip is made of: the part of each of the seven lists that was filled, and the writer's answer
 -- and output over such lists. Document 01, "Tag file", "What loader and writer don't fill is as before".
-use Rattle.std.specs.Prelude.{◌≡◌, ℕ, ◌*◌, List, true, length, take}
+use Rattle.std.specs.Prelude.{◌≡◌, ℕ, ◌*◌, List, true, length, take, Ok}
 use Rattle.tag_file.specs.declared.Loaded.{Loaded}
 use Rattle.tag_file.specs.declared.Repeats.{Repeats}
-use Rattle.tag_file.specs.declared.LoadAnswer.TheVariants as load
-use Rattle.tag_writer_spec.specs.declared.WriteAnswer.TheVariants as write
 use Rattle.tag_file.specs.Format.{tag_length}
 use Rattle.tag_file.specs.Records.{TagRecord}
 use Rattle.tag_file.specs.Repeats.{no_repeats}
@@ -39,11 +37,11 @@ written_to T l out = take (length (file_bytes l)) (written_file T l out)
 
 -- a load of a file into lent lists is accepted with these counts and repeats, and fills these lists
 pub record Loads (file : List ℕ) (lent : Lists) (counts : Loaded) (repeats : Repeats) (got : Lists) : Type 0 where
-  pub answer : load_answer file lent ≡ load.Loaded counts repeats
+  pub answer : load_answer file lent ≡ Ok (counts, repeats)
   pub lists : loaded_from file lent counts ≡ got
 
 -- the round trip from lists that were loaded, through an output list: the writer writes the file, and every load of it into lists
 -- that are long enough is accepted with the same counts and no repeats, and fills the same lists
 pub record Trip (counts : Loaded) (got : Lists) (out : List ℕ) : Type 0 where
-  pub written : write_answer counts.tag_count got (length out) ≡ write.Written (length (file_bytes got))
+  pub written : write_answer counts.tag_count got (length out) ≡ Ok (length (file_bytes got))
   pub again : (lent : Lists) → room_for got lent ≡ true → Loads (written_to counts.tag_count got out) lent counts no_repeats got

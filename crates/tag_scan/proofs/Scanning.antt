@@ -5,6 +5,7 @@ use mathlib.Core.Bool.{true, false}
 use Prim.Native.Nat.{ℕ, ◌-◌, ◌<◌, ◌≤◌}
 use native.Mathlib.Omega.{arith}
 use lib.ListN.{length}
+use Rattle.std.specs.Prelude.{Result, Err, Ok, ⊤}
 use Rattle.lists.specs.Lists.{keep, sum}
 use Rattle.bit_sets.specs.BitSets.{member, Inserted}
 use Rattle.sets.specs.Limits.{max_set_length, half_words}
@@ -13,12 +14,9 @@ use Rattle.sets.specs.declared.Side.{Side}
 use Rattle.sets.specs.declared.Side.TheVariants.{Left, Right}
 use Rattle.sets.specs.declared.Refusal.{Refusal}
 use Rattle.sets.specs.declared.Refusal.TheVariants.{NumberUsed, TooMany}
-use Rattle.sets.specs.declared.Tested.{Tested}
-use Rattle.sets.specs.declared.Tested.TheVariants.{Passed, Failed}
 use Rattle.tag_file.specs.declared.Loaded.{Loaded}
 use Rattle.tag_file.specs.declared.Repeats.{Repeats}
 use Rattle.tag_file.specs.Repeats.{repeats_in, repeat_totals, no_repeats}
-use Rattle.tag_file.specs.declared.LoadAnswer.TheVariants as load
 use Rattle.tag_file.specs.Reading.{read_at, tags_at}
 use Rattle.tag_file.specs.Records.{TagRecord, total_length, records_at, records}
 use Rattle.tag_file.specs.Loading.{number_used, too_many, fault_of, first_fault, refusal_of, file_fault, totals_of}
@@ -36,53 +34,54 @@ use Rattle.tag_scan.specs.totals.Totals.{grown_by, is_over, word_numbers, repeat
 use Rattle.tag_scan.proofs.totals.Counting.{grown_repeats}
 use Rattle.tag_scan.specs.Scan.{Taken, Scanned}
 use Rattle.tag_scan.proofs.Taking.{taken_over, taken_next}
+use Rattle.tag_index.specs.declared.TagIndex.{TagIndex}
 
 -- what the reading of a file ends with
-abbrev last_refusal : List ℕ → Tested
+abbrev last_refusal : List ℕ → Result ⊤ Refusal
 last_refusal file = refusal_of (read_at file (total_length (records file)))
 
-pub record Scanning (file used heads tails ids : List ℕ) (total : Loaded) (repeats : Repeats) (at : ℕ) : Type 0 where
+pub record Scanning (file used : List ℕ) (index : TagIndex) (total : Loaded) (repeats : Repeats) (at : ℕ) : Type 0 where
   pub seen : List TagRecord
   pub split : records file ≡ seen ++ records_at file at
   pub place : at ≡ total_length seen
   pub fault : file_fault file ≡ first_fault seen (records_at file at) (last_refusal file)
   pub noted : Noted used seen
-  pub taken : Taken seen total heads tails ids
+  pub taken : Taken seen total index
   pub repeated : repeats ≡ repeat_totals seen
 
-pub scanning_start : (file used heads tails ids : List ℕ) {total : Loaded} → Taken [] total heads tails ids → Noted used []
-    → Scanning file used heads tails ids total no_repeats 0
+pub scanning_start : (file used : List ℕ) (index : TagIndex) {total : Loaded} → Taken [] total index → Noted used []
+    → Scanning file used index total no_repeats 0
 unfolding file_fault sum keep
-scanning_start file used heads tails ids {total} taken noted =
+scanning_start file used index {total} taken noted =
     record { seen = []; split = refl; place = refl; fault = refl; noted = noted; taken = taken; repeated = refl }
 
 -- a record that passes a limit
 fault_past : (seen : List TagRecord) (r : TagRecord) → number_used seen r ≡ false → too_many r.side (seen ++ (r ∷ [])) ≡ true
-    → fault_of seen r ≡ Failed (TooMany (total_length seen))
+    → fault_of seen r ≡ Err (TooMany (total_length seen))
 unfolding fault_of
 fault_past seen r free past = rw (free, past)
 
 -- a fault is what the file is refused with
-scanning_refused : {file heads tails ids : List ℕ} (why : Refusal) → file_fault file ≡ Failed why
-    → Scanned file heads tails ids (load.Refused why)
+scanning_refused : {file : List ℕ} {index : TagIndex} (why : Refusal) → file_fault file ≡ Err why
+    → Scanned file index (Err why)
 scanning_refused {file} why e = record { answer = rw e; taken = λ n. never (sym e ∙ n) }
   where
-    never : {A : Type 0} {w : Refusal} → Failed w ≡ Passed → A
+    never : {A : Type 0} {w : Refusal} → ◌≡◌ {A = Result ⊤ Refusal} (Err w) (Ok tt) → A
     never e = let z : ◌≡◌ {A = ℕ} 0 1 = cc in absurd (omega arith)
 
-module _ {file used heads tails ids : List ℕ} {total : Loaded} {repeats : Repeats} {at : ℕ}
-    (s : Scanning file used heads tails ids total repeats at) where
+module _ {file used : List ℕ} {index : TagIndex} {total : Loaded} {repeats : Repeats} {at : ℕ}
+    (s : Scanning file used index total repeats at) where
   -- the reading ended: there are no records from here on
   pub scanning_stop : (a : ReadAnswer) → read_at file at ≡ a → records_at file at ≡ []
-      → Scanned file heads tails ids (unless load.Refused (refusal_of a) (load.Loaded total repeats))
+      → Scanned file index (unless Err (refusal_of a) (Ok (total, repeats)))
   unfolding first_fault
   scanning_stop a e stop =
       record {
-        answer = ap (λ (t : Tested). unless load.Refused t (load.Loaded total repeats)) (sym ends)
-            ∙ ap₂ (λ (t : Loaded) (q : Repeats). unless load.Refused (file_fault file) (load.Loaded t q))
+        answer = ap (λ (t : Result ⊤ Refusal). unless Err t (Ok (total, repeats))) (sym ends)
+            ∙ ap₂ (λ (t : Loaded) (q : Repeats). unless Err (file_fault file) (Ok (t, q)))
             (s.taken.counts ∙ ap totals_of (sym all)) (s.repeated ∙ ap repeat_totals (sym all));
-        taken = λ n. subst (λ (rs : List TagRecord). Taken rs (totals_of rs) heads tails ids) (sym all)
-            (subst (λ (t : Loaded). Taken s.seen t heads tails ids) s.taken.counts s.taken);
+        taken = λ n. subst (λ (rs : List TagRecord). Taken rs (totals_of rs) index) (sym all)
+            (subst (λ (t : Loaded). Taken s.seen t index) s.taken.counts s.taken);
       }
     where
       all : records file ≡ s.seen
@@ -99,7 +98,7 @@ module _ {file used heads tails ids : List ℕ} {total : Loaded} {repeats : Repe
     this = record { side = side; number = n; tags = tags_at c file p }
 
     here : file_fault file
-        ≡ unless Failed (fault_of s.seen this) (first_fault (s.seen ++ (this ∷ [])) (records_at file next) (last_refusal file))
+        ≡ unless Err (fault_of s.seen this) (first_fault (s.seen ++ (this ∷ [])) (records_at file next) (last_refusal file))
     unfolding first_fault
     here =
         s.fault
@@ -111,7 +110,7 @@ module _ {file used heads tails ids : List ℕ} {total : Loaded} {repeats : Repe
       tells = sym (noted_tells this small s.noted)
 
       -- the record's number was used
-      pub scanning_used : member used (key_of side n) ≡ true → Scanned file heads tails ids (load.Refused (NumberUsed at))
+      pub scanning_used : member used (key_of side n) ≡ true → Scanned file index (Err (NumberUsed at))
       scanning_used t = scanning_refused (NumberUsed at) (here ∙ rw (fault_used s.seen this (tells ∙ t), ← s.place))
 
     pub scanning_room : c ≤ max_set_length → RoomToAdd file p c total.tag_count 0
@@ -122,9 +121,9 @@ module _ {file used heads tails ids : List ℕ} {total : Loaded} {repeats : Repe
           count_room = omega arith;
         }
 
-    module _ {tagCount distinct : ℕ} {now-heads now-tails now-ids now-marks : List ℕ}
-        (added : AllAdded [] file p c total.tag_count heads tails ids tagCount distinct now-heads now-tails now-ids now-marks) where
-      pub distinct_few : {marks : List ℕ} → Adding [] heads tails total.tag_count 0 ids marks → c ≤ max_set_length
+    module _ {tagCount distinct : ℕ} {now-index : TagIndex} {now-marks : List ℕ}
+        (added : AllAdded [] file p c total.tag_count index tagCount distinct now-index now-marks) where
+      pub distinct_few : {marks : List ℕ} → Adding [] index total.tag_count 0 marks → c ≤ max_set_length
           → distinct ≤ max_set_length
       distinct_few a few = omega (arith, added_distinct a added)
 
@@ -165,14 +164,14 @@ module _ {file used heads tails ids : List ℕ} {total : Loaded} {repeats : Repe
             ∙ taken_over s.taken this added.adding.sorted added.table added.adding.counted
 
         -- the record passes a limit
-        pub scanning_past : is_over now-total side ≡ true → Scanned file now-heads now-tails now-ids (load.Refused (TooMany at))
+        pub scanning_past : is_over now-total side ≡ true → Scanned file now-index (Err (TooMany at))
         scanning_past t =
             scanning_refused (TooMany at)
             (here ∙ rw (fault_past s.seen this (tells small ∙ free) (sym limit ∙ t), ← s.place))
 
         pub scanning_next : {now-used : List ℕ} {now-repeats : Repeats} → Inserted used (key_of side n) now-used
             → is_over now-total side ≡ false → now-repeats ≡ repeated_by repeats side (c - distinct)
-            → Scanning file now-used now-heads now-tails now-ids now-total now-repeats next
+            → Scanning file now-used now-index now-total now-repeats next
         scanning_next noted few rose =
             record {
               seen = s.seen ++ (this ∷ []);

@@ -14,13 +14,14 @@ use Rattle.tag_index.proofs.Ids.{sorted_size}
 use Rattle.tag_scan.specs.totals.Totals.{grown_by, is_over, Limited}
 use Rattle.tag_scan.proofs.totals.Counting.{tag_table_last, grown_counts, grown_tags, over_too_many, limited_grown}
 use Rattle.tag_scan.specs.Scan.{Lengths, Taken}
+use Rattle.tag_index.specs.declared.TagIndex.{TagIndex}
 
-pub taken_start : (heads tails ids : List ℕ) (total : Loaded) → Lengths heads tails ids → total ≡ totals_of []
-    → Taken [] total heads tails ids
+pub taken_start : (index : TagIndex) (total : Loaded) → Lengths index → total ≡ totals_of []
+    → Taken [] total index
 unfolding sum table_of rising insert_all all_tags keep
-taken_start heads tails ids total l e =
+taken_start index total l e =
     let none : total.tag_count ≡ 0 = ap (λ (t : Loaded). t.tag_count) e in
-    let empty : table_of heads tails total.tag_count ids ≡ [] = ap (λ (n : ℕ). table_of heads tails n ids) none in
+    let empty : table_of index total.tag_count ≡ [] = ap (λ (n : ℕ). table_of index n) none in
     record {
       counts = e;
       limited = record {
@@ -44,11 +45,11 @@ taken_start heads tails ids total l e =
     }
 
 -- one more record, whose tags were put into the index
-module _ {rs : List TagRecord} {total : Loaded} {heads tails ids : List ℕ} (t : Taken rs total heads tails ids)
-    (r : TagRecord) {tagCount distinct : ℕ} {now-heads now-tails now-ids : List ℕ} (sorted : Sorted now-heads now-tails tagCount now-ids)
-    (table : table_of now-heads now-tails tagCount now-ids ≡ insert_all (table_of heads tails total.tag_count ids) r.tags)
+module _ {rs : List TagRecord} {total : Loaded} {index : TagIndex} (t : Taken rs total index)
+    (r : TagRecord) {tagCount distinct : ℕ} {now-index : TagIndex} (sorted : Sorted now-index tagCount)
+    (table : table_of now-index tagCount ≡ insert_all (table_of index total.tag_count) r.tags)
     (counted : distinct ≡ length (collapse r.tags)) where
-  table_next : table_of now-heads now-tails tagCount now-ids ≡ tag_table (rs ++ (r ∷ []))
+  table_next : table_of now-index tagCount ≡ tag_table (rs ++ (r ∷ []))
   table_next = table ∙ ap (λ (l : List ℕ). insert_all l r.tags) t.table ∙ sym (tag_table_last rs r)
 
   counts_next : grown_by total r.side tagCount distinct ≡ totals_of (rs ++ (r ∷ []))
@@ -62,12 +63,12 @@ module _ {rs : List TagRecord} {total : Loaded} {heads tails ids : List ℕ} (t 
 
   pub taken_next : {now-total : Loaded} → now-total ≡ grown_by total r.side tagCount distinct
       → is_over (grown_by total r.side tagCount distinct) r.side ≡ false
-      → Taken (rs ++ (r ∷ [])) now-total now-heads now-tails now-ids
+      → Taken (rs ++ (r ∷ [])) now-total now-index
   taken_next {now-total} grew few =
       let same : now-total.tag_count ≡ tagCount = ap (λ (q : Loaded). q.tag_count) grew ∙ grown_tags total r.side tagCount distinct in
       record {
         counts = grew ∙ counts_next;
         limited = subst (λ (q : Loaded). Limited q) (sym grew) (limited_grown total r.side tagCount distinct t.limited few);
-        sorted = subst (λ (k : ℕ). Sorted now-heads now-tails k now-ids) (sym same) sorted;
-        table = ap (λ (k : ℕ). table_of now-heads now-tails k now-ids) same ∙ table_next;
+        sorted = subst (λ (k : ℕ). Sorted now-index k) (sym same) sorted;
+        table = ap (λ (k : ℕ). table_of now-index k) same ∙ table_next;
       }

@@ -1,14 +1,13 @@
 // The totals of a load: its counts and repeats with one more record of a side, whether counts exceed a limit, and the answer of a
 // first pass when the reading has ended.
-ghost use Rattle.std.specs.Prelude.{◌≡◌, ◌≤◌};
+ghost use Rattle.std.specs.Prelude.{◌≡◌, ◌≤◌, Ok, Err};
 ghost use Rattle.sets.specs.Limits.{max_set_length};
 ghost use Rattle.sets.specs.Refusals.{unless};
-ghost use Rattle.tag_file.specs.declared.LoadAnswer.TheVariants.{Loaded as Accepted, Refused as Rejected};
 ghost use Rattle.tag_file.specs.Loading.{refusal_of};
 ghost use Rattle.tag_scan.specs.totals.Totals.{grown_by, passes, is_over, Limited, repeated_by, RepeatsRoom};
 
-use sets::{MAX_ENTRIES, MAX_ITEMS, MAX_SETS, Side};
-use tag_file::{LoadAnswer, Loaded, ReadAnswer, Repeats};
+use sets::{MAX_ENTRIES, MAX_ITEMS, MAX_SETS, Refusal, Side};
+use tag_file::{Loaded, ReadAnswer, Repeats};
 use tag_index::tag_adding::Added;
 
 // The greatest number of distinct tags.
@@ -73,18 +72,22 @@ pub fn is_over(total: Loaded, side: Side) -> bool
 }
 
 // What the first pass answers when the reading has ended: the reader's refusal, or the counts and the repeats.
-pub fn stopped(answer: ReadAnswer, total: Loaded, repeats: Repeats) -> LoadAnswer
-    ensures { result ≡ unless Rejected (refusal_of answer) (Accepted total repeats) }
+pub fn stopped(
+    answer: ReadAnswer,
+    total: Loaded,
+    repeats: Repeats,
+) -> Result<(Loaded, Repeats), Refusal>
+    ensures { result ≡ unless Err (refusal_of answer) (Ok (total, repeats)) }
 {
     match answer {
-        ReadAnswer::Refused(why) => LoadAnswer::Refused(why),
-        ReadAnswer::NoMore => LoadAnswer::Loaded(total, repeats),
+        ReadAnswer::Refused(why) => Err(why),
+        ReadAnswer::NoMore => Ok((total, repeats)),
         ReadAnswer::Record {
             side: _,
             number: _,
             count: _,
             tags_at: _,
             next: _,
-        } => LoadAnswer::Loaded(total, repeats),
+        } => Ok((total, repeats)),
     }
 }

@@ -3,153 +3,74 @@
 #![tactic(auto)]
 
 ghost use Rattle.std.specs.Prelude.{◌≡◌, length};
-ghost use Rattle.tag_file.specs.Loading.{read_lists, read_lists_now};
+ghost use Rattle.tag_file.specs.Loading.{read_lists};
 ghost use Rattle.tag_writer_spec.specs.Writer.{file_bytes, table_test, numbered_test, lists_test};
 ghost use Rattle.tag_writer_spec.specs.Writer.{written_within, file_after, WriteCall};
 ghost use Rattle.tag_writer_spec.specs.Inner.{GoodLists};
 
 use crate::record_writer::{TAG_LENGTH, put_side, side_length};
-use sets::{Refusal, Side, Tested};
-use tag_writer_spec::WriteAnswer;
+use sets::{Refusal, Side};
+use tag_file::{Lists, NumberedSets};
 
 pub mod record_writer;
 
 // T is within its limit, and the tag table is as long as it says.
-fn test_table(t: u32, tags: &[u8]) -> Tested
+fn test_table(t: u32, tags: &[u8]) -> Result<(), Refusal>
     ensures { result ≡ table_test t tags.now }
 {
-    let items = inputs::test_items(t);
-    if let Tested::Failed(why) = items {
-        return Tested::Failed(why);
-    }
+    inputs::test_items(t)?;
     if tags.len() != TAG_LENGTH * (t as usize) {
-        return Tested::Failed(Refusal::BadSettings);
+        return Err(Refusal::BadSettings);
     }
-    Tested::Passed
+    Ok(())
 }
 
 // A side has no bad set, and then as many numbers as sets; else the shorter length is the place.
-fn test_numbered(t: u32, side: Side, numbers: &[u16], ends: &[u32], items: &[u16]) -> Tested
-    ensures { result ≡ numbered_test t side numbers.now ends.now items.now }
+fn test_numbered(t: u32, side: Side, from: &NumberedSets) -> Result<(), Refusal>
+    ensures { result ≡ numbered_test t side from.now.numbers.now from.now.sets.ends.now from.now.sets.items.now }
 {
-    let sets = inputs::test_side(t, side, ends, items);
-    if let Tested::Failed(why) = sets {
-        return Tested::Failed(why);
+    let numbers = from.numbers.len();
+    let sets = from.sets.ends.len();
+    inputs::test_side(t, side, &from.sets)?;
+    if numbers == sets {
+        return Ok(());
     }
-    if numbers.len() == ends.len() {
-        return Tested::Passed;
+    if numbers < sets {
+        return Err(Refusal::BadSet(side, numbers));
     }
-    if numbers.len() < ends.len() {
-        return Tested::Failed(Refusal::BadSet(side, numbers.len()));
-    }
-    Tested::Failed(Refusal::BadSet(side, ends.len()))
+    Err(Refusal::BadSet(side, sets))
 }
 
 // What is lent can be written: the table, then the left sets, then the right sets.
-fn test_lists(
-    t: u32,
-    tags: &[u8],
-    left_numbers: &[u16],
-    left_ends: &[u32],
-    left_items: &[u16],
-    right_numbers: &[u16],
-    right_ends: &[u32],
-    right_items: &[u16],
-) -> Tested
-    ensures { result ≡ lists_test t
-        (read_lists tags left_numbers left_ends left_items right_numbers right_ends right_items) }
+fn test_lists(t: u32, lists: &Lists) -> Result<(), Refusal>
+    ensures { result ≡ lists_test t (read_lists lists.now) }
 {
-    let table = test_table(t, tags);
-    if let Tested::Failed(why) = table {
-        return Tested::Failed(why);
-    }
-    let left = test_numbered(t, Side::Left, left_numbers, left_ends, left_items);
-    if let Tested::Failed(why) = left {
-        return Tested::Failed(why);
-    }
-    test_numbered(t, Side::Right, right_numbers, right_ends, right_items)
+    test_table(t, lists.tags)?;
+    test_numbered(t, Side::Left, &lists.left)?;
+    test_numbered(t, Side::Right, &lists.right)
 }
 
 // Writes the whole file; neither side has a fault.
-fn write_good(
-    tags: &[u8],
-    left_numbers: &[u16],
-    left_ends: &[u32],
-    left_items: &[u16],
-    right_numbers: &[u16],
-    right_ends: &[u32],
-    right_items: &[u16],
-    file: &mut [u8],
-) -> WriteAnswer
-    requires { GoodLists (read_lists_now tags left_numbers left_ends left_items right_numbers right_ends right_items) }
-    ensures answer { result ≡ written_within (length file.old) (file_bytes
-        (read_lists tags left_numbers left_ends left_items right_numbers right_ends right_items)) }
-    ensures file { file.new ≡ file_after result (file_bytes
-        (read_lists tags left_numbers left_ends left_items right_numbers right_ends right_items)) file.old }
+fn write_good(lists: &Lists, file: &mut [u8]) -> Result<usize, Refusal>
+    requires { GoodLists (read_lists lists.now) }
+    ensures answer { result ≡ written_within (length file.old) (file_bytes (read_lists lists.now)) }
+    ensures file { file.new ≡ file_after result (file_bytes (read_lists lists.now)) file.old }
 {
-    let left = side_length(left_ends);
-    let right = side_length(right_ends);
+    let left = side_length(&lists.left.sets);
+    let right = side_length(&lists.right.sets);
     if file.len() < left + right {
-        lists::zero_u8(file);
-        return WriteAnswer::Refused(Refusal::ShortOutput);
+        file.fill(0);
+        return Err(Refusal::ShortOutput);
     }
-    put_side(
-        Side::Left,
-        tags,
-        left_numbers,
-        left_ends,
-        left_items,
-        file,
-        0,
-    );
-    put_side(
-        Side::Right,
-        tags,
-        right_numbers,
-        right_ends,
-        right_items,
-        file,
-        left,
-    );
-    WriteAnswer::Written(left + right)
+    put_side(Side::Left, lists.tags, &lists.left, file, 0);
+    put_side(Side::Right, lists.tags, &lists.right, file, left);
+    Ok(left + right)
 }
 
 // Writes the left sets' records, then the right sets', and answers with the length.
-pub fn write(
-    t: u32,
-    tags: &[u8],
-    left_numbers: &[u16],
-    left_ends: &[u32],
-    left_items: &[u16],
-    right_numbers: &[u16],
-    right_ends: &[u32],
-    right_items: &[u16],
-    file: &mut [u8],
-) -> WriteAnswer
-    ensures { WriteCall t (read_lists tags left_numbers left_ends left_items right_numbers right_ends right_items)
-        file.old file.new result }
+pub fn write(t: u32, lists: &Lists, file: &mut [u8]) -> Result<usize, Refusal>
+    ensures { WriteCall t (read_lists lists.now) file.old file.new result }
 {
-    let tested = test_lists(
-        t,
-        tags,
-        left_numbers,
-        left_ends,
-        left_items,
-        right_numbers,
-        right_ends,
-        right_items,
-    );
-    match tested {
-        Tested::Failed(why) => WriteAnswer::Refused(why),
-        Tested::Passed => write_good(
-            tags,
-            left_numbers,
-            left_ends,
-            left_items,
-            right_numbers,
-            right_ends,
-            right_items,
-            file,
-        ),
-    }
+    test_lists(t, lists)?;
+    write_good(lists, file)
 }

@@ -1,14 +1,15 @@
 // The records of a side as bytes of a tag file: the parts of one record, and the records of all sets, by place. One function writes a
 // record, whatever its side.
-ghost use Rattle.std.specs.Prelude.{◌≡◌, ◌+◌, ◌*◌, ◌-◌, ◌≤◌, length, take, drop, get_or};
+ghost use Rattle.std.specs.Prelude.{◌≡◌, ◌+◌, ◌*◌, ◌-◌, ◌≤◌, length, take, drop};
 ghost use Rattle.std.proofs.lemmas.List.Edits.{sets};
 ghost use Rattle.sets.specs.Limits.{max_sets, max_entries, max_set_length};
-ghost use Rattle.sets.specs.Collections.{between, sets_of, entries};
+ghost use Rattle.sets.specs.Collections.{between, lent_sets, sets_in, entries};
 ghost use Rattle.tag_file.specs.Format.{tag_length, head_length, record_length, tag_bytes, mark, record_head, record_bytes};
 ghost use Rattle.tag_writer_spec.specs.Writer.{item_tags, records_of};
 ghost use Rattle.tag_writer_spec.specs.Inner.{ItemsFit, GoodSide};
 
-use sets::Side;
+use sets::{Sets, Side};
+use tag_file::NumberedSets;
 
 // The bytes of a tag.
 pub const TAG_LENGTH: usize = 12;
@@ -41,23 +42,13 @@ fn put_tag(tags: &[u8], from: usize, file: &mut [u8], at: usize)
     put_four(tags, from + 8, file, at + 8);
 }
 
-// The first byte of the mark of a side's records.
-fn first_mark(side: Side) -> u8
-    ensures { result ≡ get_or (mark side) 0 0 }
+// The mark of a side's records.
+fn mark_of(side: Side) -> [u8; 2]
+    ensures { result ≡ mark side }
 {
     match side {
-        Side::Left => 0x4B,
-        Side::Right => 0x53,
-    }
-}
-
-// The second byte of the mark of a side's records.
-fn second_mark(side: Side) -> u8
-    ensures { result ≡ get_or (mark side) 1 0 }
-{
-    match side {
-        Side::Left => 0x54,
-        Side::Right => 0x4B,
+        Side::Left => [0x4B, 0x54],
+        Side::Right => [0x53, 0x4B],
     }
 }
 
@@ -66,12 +57,12 @@ fn put_head(side: Side, number: u16, count: u8, file: &mut [u8], at: usize)
     requires { at + head_length ≤ length file.old }
     ensures { file.new ≡ sets file.old at (record_head side number count) }
 {
-    let first = first_mark(side);
-    let second = second_mark(side);
+    let [first, second] = mark_of(side);
+    let [high, low] = number.to_be_bytes();
     file[at] = first;
     file[at + 1] = second;
-    file[at + 2] = (number / 256) as u8;
-    file[at + 3] = (number % 256) as u8;
+    file[at + 2] = high;
+    file[at + 3] = low;
     file[at + 4] = count;
 }
 
@@ -82,13 +73,11 @@ fn put_tags(tags: &[u8], items: &[u16], start: usize, end: usize, file: &mut [u8
     ensures { file.new ≡ sets file.old at
         (tag_bytes (item_tags tags.now (between start end items.now))) }
 {
-    let mut i = start;
     let mut to = at;
-    while i < end {
-        let from = TAG_LENGTH * (items[i] as usize);
+    for item in &items[start..end] {
+        let from = TAG_LENGTH * usize::from(*item);
         put_tag(tags, from, file, to);
         to += TAG_LENGTH;
-        i += 1;
     }
 }
 
@@ -122,38 +111,29 @@ fn record_length(count: usize) -> usize
 }
 
 // Writes the records of a side, by place, to a place of the file.
-pub fn put_side(
-    side: Side,
-    tags: &[u8],
-    numbers: &[u16],
-    ends: &[u32],
-    items: &[u16],
-    file: &mut [u8],
-    at: usize,
-)
-    requires good_side { GoodSide tags.now numbers.now ends.now items.now }
-    requires in_bounds { at + length (records_of side tags.now numbers.now (sets_of ends.now items.now)) ≤ length file.old }
+pub fn put_side(side: Side, tags: &[u8], from: &NumberedSets, file: &mut [u8], at: usize)
+    requires good_side { GoodSide tags.now from.now.numbers.now from.now.sets.ends.now from.now.sets.items.now }
+    requires in_bounds { at + length (records_of side tags.now from.now.numbers.now (sets_in (lent_sets from.now.sets))) ≤ length file.old }
     ensures { file.new ≡ sets file.old at
-        (records_of side tags.now numbers.now (sets_of ends.now items.now)) }
+        (records_of side tags.now from.now.numbers.now (sets_in (lent_sets from.now.sets))) }
 {
-    let mut k: usize = 0;
+    let ends = from.sets.ends;
+    let items = from.sets.items;
+    let numbers = from.numbers;
     let mut start: usize = 0;
     let mut to = at;
-    while k < ends.len() {
-        let end = ends[k] as usize;
-        let number = numbers[k];
-        put_record(side, number, tags, items, start, end, file, to);
+    for (k, end) in ends.iter().enumerate() {
+        let end = *end as usize;
+        put_record(side, numbers[k], tags, items, start, end, file, to);
         to += record_length(end - start);
         start = end;
-        k += 1;
     }
 }
 
 // The bytes that the records of a side take.
-pub fn side_length(ends: &[u32]) -> usize
-    requires { (length ends.now ≤ max_sets) × (entries ends.now ≤ max_entries) }
-    ensures { result ≡ head_length * length ends.now + tag_length * entries ends.now }
+pub fn side_length(sets: &Sets) -> usize
+    requires { (length sets.now.ends.now ≤ max_sets) × (entries sets.now.ends.now ≤ max_entries) }
+    ensures { result ≡ head_length * length sets.now.ends.now + tag_length * entries sets.now.ends.now }
 {
-    let entries = sets::count_entries(ends);
-    HEAD_LENGTH * ends.len() + TAG_LENGTH * entries
+    HEAD_LENGTH * sets.len() + TAG_LENGTH * sets.entries()
 }

@@ -7,6 +7,7 @@ use native.Mathlib.Nat.{zero-add}
 use native.Mathlib.Omega.{arith}
 use borrow.Author.Tests.{lt-ltb, le-ltb}
 use lib.ListN.{length, drop, length-append}
+use Rattle.std.specs.Prelude.{Result, Err, Ok}
 use Rattle.sets.specs.Limits.{max_sets, max_entries}
 use Rattle.sets.specs.Collections.{sets_of, entries}
 use Rattle.sets.specs.Refusals.{clears}
@@ -15,12 +16,9 @@ use Rattle.sets.specs.declared.Side.{Side}
 use Rattle.sets.specs.declared.Side.TheVariants.{Left, Right}
 use Rattle.sets.specs.declared.Refusal.{Refusal}
 use Rattle.sets.specs.declared.Refusal.TheVariants.{ShortOutput}
-use Rattle.sets.specs.declared.Tested.TheVariants.{Passed, Failed}
 use Rattle.sets.proofs.Good.{good_places, good_entries}
 use Rattle.tag_file.specs.Format.{tag_length, head_length}
 use Rattle.tag_file.specs.Loading.{Lists}
-use Rattle.tag_writer_spec.specs.declared.WriteAnswer.{WriteAnswer}
-use Rattle.tag_writer_spec.specs.declared.WriteAnswer.TheVariants.{Written, Refused}
 use lib.Seq.{sets}
 use Rattle.tag_writer_spec.specs.Inner.{GoodSide, GoodLists}
 use Rattle.tag_writer_spec.specs.Writer.{records_of, left_bytes, right_bytes, file_bytes, lists_test, written_within, write_answer}
@@ -64,13 +62,13 @@ module _ (l : Lists) (so : GoodLists l) where
       e₂ ∙ rw e₁ (sym both ∙ sets_front (left_bytes l ++ right_bytes l) file room)
 
 -- the answer by the output's room
-pub within : (room : ℕ) (bytes : List ℕ) (n : ℕ) → length bytes ≡ n → n ≤ room → Written n ≡ written_within room bytes
+pub within : (room : ℕ) (bytes : List ℕ) (n : ℕ) → length bytes ≡ n → n ≤ room → Ok n ≡ written_within room bytes
 within room bytes n e h = rw (e, le-ltb room n h)
 
-pub short : (room : ℕ) (bytes : List ℕ) (n : ℕ) → length bytes ≡ n → room < n → Refused ShortOutput ≡ written_within room bytes
+pub short : (room : ℕ) (bytes : List ℕ) (n : ℕ) → length bytes ≡ n → room < n → Err ShortOutput ≡ written_within room bytes
 short room bytes n e h = rw (e, lt-ltb room n h)
 
-pub answer_passed : (T : ℕ) (l : Lists) (room : ℕ) → lists_test T l ≡ Passed
+pub answer_passed : (T : ℕ) (l : Lists) (room : ℕ) → lists_test T l ≡ Ok tt
     → written_within room (file_bytes l) ≡ write_answer T l room
 unfolding write_answer
 answer_passed T l room passed = rw passed
@@ -81,16 +79,16 @@ module _ (T : ℕ) (l : Lists) (file : List ℕ) where
   kept_after why keeps = rw keeps
 
   -- an answer that is right leaves the file that is right
-  called : (answer : WriteAnswer) (file' : List ℕ) → answer ≡ write_answer T l (length file)
+  called : (answer : Result ℕ Refusal) (file' : List ℕ) → answer ≡ write_answer T l (length file)
       → file' ≡ file_after answer (file_bytes l) file → WriteCall T l file file' answer
   called answer file' e f =
-      record { answered = e; file = f ∙ ap (λ (a : WriteAnswer). file_after a (file_bytes l) file) e }
+      record { answered = e; file = f ∙ ap (λ (a : Result ℕ Refusal). file_after a (file_bytes l) file) e }
 
-  pub call_refused : (why : Refusal) → lists_test T l ≡ Failed why → WriteCall T l file file (Refused why)
+  pub call_refused : (why : Refusal) → lists_test T l ≡ Err why → WriteCall T l file file (Err why)
   unfolding write_answer
-  call_refused why failed = called (Refused why) file (rw failed) (kept_after why (lists_keeping T l why failed))
+  call_refused why failed = called (Err why) file (rw failed) (kept_after why (lists_keeping T l why failed))
 
-  pub call_passed : (answer : WriteAnswer) (file' : List ℕ) → lists_test T l ≡ Passed
+  pub call_passed : (answer : Result ℕ Refusal) (file' : List ℕ) → lists_test T l ≡ Ok tt
       → answer ≡ written_within (length file) (file_bytes l) → file' ≡ file_after answer (file_bytes l) file
       → WriteCall T l file file' answer
   call_passed answer file' passed e f = called answer file' (e ∙ answer_passed T l (length file) passed) f

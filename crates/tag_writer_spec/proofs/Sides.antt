@@ -8,10 +8,10 @@ use borrow.Author.Tests.{ltb-true}
 use lib.Dec.{ltb}
 use lib.ListN.{length, drop, get_or, length-append}
 use lib.Seq.{drop-cons, get_or-take, get_or-drop}
+use Rattle.std.specs.Prelude.{None}
 use Rattle.lists.proofs.Throughout.{all_at}
 use Rattle.sets.specs.Collections.{between, sets_from, first_bad_from, last_end}
 use Rattle.sets.specs.declared.Side.{Side}
-use Rattle.sets.specs.declared.Verdict.TheVariants.{Good}
 use Rattle.sets.proofs.Between.{length-between}
 use Rattle.sets.proofs.Good.{GoodSet, good_cons, good_rest}
 use Rattle.tag_file.specs.Format.{tag_length, head_length, record_length, record_bytes}
@@ -57,7 +57,7 @@ records_next side tags numbers ends items k start more same =
 
 -- the length of the records of sets that are not bad
 pub records-length : (T : ℕ) (side : Side) (tags numbers : List ℕ) (k start : ℕ) (ends items : List ℕ)
-    → first_bad_from T k start ends items ≡ Good → length numbers ≡ length ends
+    → first_bad_from T k start ends items ≡ None → length numbers ≡ length ends
     → length (records_of side tags numbers (sets_from start ends items)) + tag_length * start
     ≡ head_length * length ends + tag_length * last_end start ends
 unfolding records_of sets_from last_end

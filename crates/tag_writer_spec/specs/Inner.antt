@@ -1,7 +1,6 @@
 -- Inner: what the functions of the writer ask for: sets that lie within their lists.
-use Rattle.std.specs.Prelude.{◌≡◌, ℕ, ◌+◌, ◌*◌, ◌/◌, ◌≤◌, ◌<◌, List, length, get_or}
+use Rattle.std.specs.Prelude.{◌≡◌, ℕ, ◌+◌, ◌*◌, ◌/◌, ◌≤◌, ◌<◌, List, length, get_or, None}
 use Rattle.sets.specs.Collections.{first_bad}
-use Rattle.sets.specs.declared.Verdict.TheVariants.{Good}
 use Rattle.tag_file.specs.Format.{tag_length}
 use Rattle.tag_file.specs.Loading.{Lists}
 
@@ -13,7 +12,7 @@ pub record ItemsFit (tags items : List ℕ) (start end : ℕ) : Type 0 where
 
 -- a side has no fault: no bad set over the tags of the table, and as many numbers as sets
 pub record GoodSide (tags numbers ends items : List ℕ) : Type 0 where
-  pub good : first_bad (length tags / tag_length) ends items ≡ Good
+  pub good : first_bad (length tags / tag_length) ends items ≡ None
   pub numbered : length numbers ≡ length ends
 
 -- neither side has a fault

@@ -1,20 +1,17 @@
 -- What the writer of a tag file answers and leaves. Document 01, "Tag file", second paragraph, and rows 4 to 6 of "When no
 -- list is made". The seven lists are the loader's, and records those of tag_file's Format. Left sets are kits there, and right
 -- sets stacks.
-use Rattle.std.specs.Prelude.{◌≡◌, ℕ, ◌*◌, min, List, [], ◌∷◌, ◌++◌, map, not, eqb, ltb, length}
+use Rattle.std.specs.Prelude.{◌≡◌, ℕ, ◌*◌, min, List, [], ◌∷◌, ◌++◌, map, not, eqb, ltb, length, Result, Err, Ok, ⊤}
 use Rattle.sets.specs.Collections.{sets_of}
 use Rattle.sets.specs.Refusals.{refuse_if, unless, accepted_words, refused_words}
 use Rattle.sets.specs.Lent.{filled_over, after_refusal}
 use Rattle.sets.specs.declared.Side.{Side}
 use Rattle.sets.specs.declared.Side.TheVariants.{Left, Right}
 use Rattle.sets.specs.declared.Refusal.TheVariants.{ShortOutput, BadSet, BadSettings}
-use Rattle.sets.specs.declared.Tested.{Tested}
-use Rattle.sets.specs.declared.Tested.TheVariants.{Failed}
 use Rattle.inputs.specs.Tests.{items_test, side_test}
 use Rattle.tag_file.specs.Format.{tag_length, tag_at, record_bytes}
 use Rattle.tag_file.specs.Loading.{Lists}
-use Rattle.tag_writer_spec.specs.declared.WriteAnswer.{WriteAnswer}
-use Rattle.tag_writer_spec.specs.declared.WriteAnswer.TheVariants.{Written, Refused}
+use Rattle.sets.specs.declared.Refusal.{Refusal}
 
 -- ---- the file
 
@@ -47,56 +44,56 @@ file_bytes l = left_bytes l ++ right_bytes l
 -- ---- the tests
 
 -- T is within its limit, and the tag table has 12 bytes for each item: 6
-unfoldable pub table_test : ℕ → List ℕ → Tested
+unfoldable pub table_test : ℕ → List ℕ → Result ⊤ Refusal
 table_test T tags =
-    unless Failed (items_test T) (refuse_if (not (eqb (length tags) (tag_length * T))) BadSettings)
+    unless Err (items_test T) (refuse_if (not (eqb (length tags) (tag_length * T))) BadSettings)
 
 -- a side has as many numbers as sets: 5, with the shorter length as the place
-abbrev pub numbers_test : Side → List ℕ → List ℕ → Tested
+abbrev pub numbers_test : Side → List ℕ → List ℕ → Result ⊤ Refusal
 numbers_test side numbers ends =
     refuse_if (not (eqb (length numbers) (length ends))) (BadSet side (min (length numbers) (length ends)))
 
 -- a side has no bad set, and then as many numbers as sets: 5
-unfoldable pub numbered_test : ℕ → Side → List ℕ → List ℕ → List ℕ → Tested
+unfoldable pub numbered_test : ℕ → Side → List ℕ → List ℕ → List ℕ → Result ⊤ Refusal
 numbered_test T side numbers ends items =
-    unless Failed (side_test T side (record { ends = ends; items = items })) (numbers_test side numbers ends)
+    unless Err (side_test T side (record { ends = ends; items = items })) (numbers_test side numbers ends)
 
 -- what is lent to be written: 6, 5 of the left sets, 5 of the right sets
-unfoldable pub lists_test : ℕ → Lists → Tested
+unfoldable pub lists_test : ℕ → Lists → Result ⊤ Refusal
 lists_test T l =
-    unless Failed (table_test T l.tags)
-    (unless Failed (numbered_test T Left l.left_numbers l.left_ends l.left_items)
+    unless Err (table_test T l.tags)
+    (unless Err (numbered_test T Left l.left_numbers l.left_ends l.left_items)
     (numbered_test T Right l.right_numbers l.right_ends l.right_items))
 
 -- the output has room for so many bytes: 4
-abbrev pub room_test : ℕ → ℕ → Tested
+abbrev pub room_test : ℕ → ℕ → Result ⊤ Refusal
 room_test room bytes = refuse_if (ltb room bytes) ShortOutput
 
 -- ---- the answer, and the output afterwards
 
 -- the length of what is written, if the output has room for it
-abbrev pub written_within : ℕ → List ℕ → WriteAnswer
-written_within room bytes = unless Refused (room_test room (length bytes)) (Written (length bytes))
+abbrev pub written_within : ℕ → List ℕ → Result ℕ Refusal
+written_within room bytes = unless Err (room_test room (length bytes)) (Ok (length bytes))
 
 -- the writer's answer: what is lent, then 4, or the length written
-unfoldable pub write_answer : ℕ → Lists → ℕ → WriteAnswer
-write_answer T l room = unless Refused (lists_test T l) (written_within room (file_bytes l))
+unfoldable pub write_answer : ℕ → Lists → ℕ → Result ℕ Refusal
+write_answer T l room = unless Err (lists_test T l) (written_within room (file_bytes l))
 
 -- the output after an answer: the bytes with the rest as before; zeros after 4; unchanged after 5 and 6
-abbrev pub file_after : WriteAnswer → List ℕ → List ℕ → List ℕ
-file_after (Written n) bytes file = filled_over bytes file
-file_after (Refused why) bytes file = after_refusal why file
+abbrev pub file_after : Result ℕ Refusal → List ℕ → List ℕ → List ℕ
+file_after (Ok n) bytes file = filled_over bytes file
+file_after (Err why) bytes file = after_refusal why file
 
 -- the output after a write
 abbrev pub written_file : ℕ → Lists → List ℕ → List ℕ
 written_file T l before = file_after (write_answer T l (length before)) (file_bytes l) before
 
 -- the words of an answer: the length
-abbrev pub write_words : WriteAnswer → List ℕ
-write_words (Written n) = accepted_words (n ∷ [])
-write_words (Refused why) = refused_words why 1
+abbrev pub write_words : Result ℕ Refusal → List ℕ
+write_words (Ok n) = accepted_words (n ∷ [])
+write_words (Err why) = refused_words why 1
 
 -- a call of the writer over seven lists: its answer, and its output list before and after
-pub record WriteCall (T : ℕ) (l : Lists) (before after : List ℕ) (answer : WriteAnswer) : Type 0 where
+pub record WriteCall (T : ℕ) (l : Lists) (before after : List ℕ) (answer : Result ℕ Refusal) : Type 0 where
   pub answered : answer ≡ write_answer T l (length before)
   pub file : after ≡ written_file T l before

@@ -8,13 +8,14 @@ ghost use Rattle.text.specs.answer_text.Inner.{found_pairs, AnswerFits};
 use crate::counts_line::put_counts;
 use crate::number_lines::{put_refusal, put_repeats};
 use crate::pair_lines::put_pairs;
-use join_spec::JoinAnswer;
+use join_spec::Counts;
+use sets::Refusal;
 use tag_file::Repeats;
 
 // The text of an answer, at the beginning, with the pair list that came with it.
 pub fn put_answer(
     text: &mut [u8],
-    answer: JoinAnswer,
+    answer: Result<Counts, Refusal>,
     repeats: Repeats,
     pairs: &[u16],
     left_numbers: &[u16],
@@ -27,12 +28,12 @@ pub fn put_answer(
     ensures upper_bound { result ≤ length text.old }
 {
     match answer {
-        JoinAnswer::Joined(counts) => {
+        Ok(counts) => {
             let n = put_counts(text, counts);
             let m = put_repeats(text, n, repeats);
             let places = 2 * (counts.pairs as usize);
             put_pairs(text, m, &pairs[..places], left_numbers, right_numbers)
         }
-        JoinAnswer::Refused(why) => put_refusal(text, why),
+        Err(why) => put_refusal(text, why),
     }
 }

@@ -18,14 +18,9 @@ pub fn put_word(text: &mut [u8], at: usize, word: &[u8]) -> usize
     requires { RoomFor text.old at word.now }
     ensures { Put text.old at word.now result text.new }
 {
-    let mut n = at;
-    let mut i: usize = 0;
-    while i < word.len() {
-        text[n] = word[i];
-        n += 1;
-        i += 1;
-    }
-    n
+    let end = at + word.len();
+    text[at..end].copy_from_slice(word);
+    end
 }
 
 // A number in decimal.

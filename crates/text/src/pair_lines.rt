@@ -32,12 +32,10 @@ pub fn put_pairs(
     ensures upper_bound { result ≤ at + 6 * length pairs.now }
 {
     let mut n = at;
-    let mut i: usize = 0;
-    while i < pairs.len() {
-        let left = pairs[i] as usize;
-        let right = pairs[i + 1] as usize;
+    for [left, right] in pairs.as_chunks::<2>().0 {
+        let left = usize::from(*left);
+        let right = usize::from(*right);
         n = put_pair(text, n, left_numbers[left], right_numbers[right]);
-        i += 2;
     }
     n
 }

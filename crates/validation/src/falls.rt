@@ -1,15 +1,8 @@
 // How often a list of 16-bit numbers falls, and where it may: at the borders of its parts, given by their ends. Counted without a
 // branch and in 16 bits, so that the compiler compares eight numbers at once.
 ghost use Rattle.std.specs.Prelude.{◌≡◌, ◌≤◌, leb, length};
-ghost use Rattle.lists.specs.Lists.{one, count, slice};
+ghost use Rattle.lists.specs.Lists.{count, slice};
 ghost use Rattle.validation.specs.falls.Falls.{greatest, good_ends, falls, border_fall, border_falls};
-
-// 1 for true, 0 for false.
-fn number(b: bool) -> u16
-    ensures { result ≡ one b }
-{
-    if b { 1 } else { 0 }
-}
 
 // How many of the first n numbers are t or more.
 pub fn count_high(t: u16, n: usize, list: &[u16]) -> u16
@@ -17,11 +10,8 @@ pub fn count_high(t: u16, n: usize, list: &[u16]) -> u16
     ensures { result ≡ count (leb t) (slice 0 n list.now) }
 {
     let mut high: u16 = 0;
-    let mut e: usize = 0;
-    while e < n {
-        let x = list[e];
-        high += number(t <= x);
-        e += 1;
+    for x in &list[..n] {
+        high += u16::from(t <= *x);
     }
     high
 }
@@ -32,12 +22,8 @@ pub fn count_falls(n: usize, list: &[u16]) -> u16
     ensures { result ≡ falls (slice 0 n list.now) }
 {
     let mut falls: u16 = 0;
-    let mut e: usize = 0;
-    while e + 1 < n {
-        let x = list[e];
-        let next = list[e + 1];
-        falls += number(next <= x);
-        e += 1;
+    for e in 1..n {
+        falls += u16::from(list[e] <= list[e - 1]);
     }
     falls
 }
@@ -55,7 +41,7 @@ fn border_fall(n: usize, start: usize, end: usize, list: &[u16]) -> u16
     }
     let last = list[end - 1];
     let next = list[end];
-    number(next <= last)
+    u16::from(next <= last)
 }
 
 // How many of the borders between parts are falls.
@@ -64,13 +50,11 @@ pub fn count_border_falls(n: usize, ends: &[u32], list: &[u16]) -> u16
     ensures { result ≡ border_falls n 0 ends.now list.now }
 {
     let mut falls: u16 = 0;
-    let mut k: usize = 0;
     let mut start: usize = 0;
-    while k < ends.len() {
-        let end = ends[k] as usize;
+    for end in ends {
+        let end = *end as usize;
         falls += border_fall(n, start, end, list);
         start = end;
-        k += 1;
     }
     falls
 }
@@ -79,10 +63,9 @@ pub fn count_border_falls(n: usize, ends: &[u32], list: &[u16]) -> u16
 pub fn good_ends(longest: usize, ends: &[u32]) -> bool
     ensures { result ≡ good_ends longest 0 ends.now }
 {
-    let mut k: usize = 0;
     let mut before: usize = 0;
-    while k < ends.len() {
-        let end = ends[k] as usize;
+    for end in ends {
+        let end = *end as usize;
         if end < before {
             return false;
         }
@@ -90,7 +73,6 @@ pub fn good_ends(longest: usize, ends: &[u32]) -> bool
             return false;
         }
         before = end;
-        k += 1;
     }
     true
 }

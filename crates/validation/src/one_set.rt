@@ -5,16 +5,13 @@ ghost use Rattle.sets.specs.Collections.{between, good_items, good_end};
 
 use sets::{MAX_ENTRIES, MAX_SET_LENGTH};
 
-// Whether the items of a part are below t and strictly rise: `least` is the least that the next may be.
-fn rises_below(t: u32, start: usize, end: usize, items: &[u16]) -> bool
-    requires { end ≤ length items.now }
-    ensures { result ≡ (all (λ i. ltb i t) (between start end items.now)
-        && rising (between start end items.now)) }
+// Whether items are below t and strictly rise: `least` is the least that the next may be.
+fn rises_below(t: u32, items: &[u16]) -> bool
+    ensures { result ≡ (all (λ i. ltb i t) items.now && rising items.now) }
 {
-    let mut i = start;
     let mut least: u32 = 0;
-    while i < end {
-        let x = items[i] as u32;
+    for x in items {
+        let x = *x as u32;
         if x < least {
             return false;
         }
@@ -22,7 +19,6 @@ fn rises_below(t: u32, start: usize, end: usize, items: &[u16]) -> bool
             return false;
         }
         least = x + 1;
-        i += 1;
     }
     true
 }
@@ -35,7 +31,7 @@ pub fn good_items(t: u32, start: usize, end: usize, items: &[u16]) -> bool
     if MAX_SET_LENGTH < end - start {
         return false;
     }
-    rises_below(t, start, end, items)
+    rises_below(t, &items[start..end])
 }
 
 // Whether a set is in order, given the end before it and its own.

@@ -14,8 +14,8 @@ fn all_distinct(ranks: &[u16], seen: &mut [u8]) -> bool
     ensures { result ≡ distinct ranks.now }
 {
     let mut again: u8 = 0;
-    for i in 0..ranks.len() {
-        let x = ranks[i] as usize;
+    for x in ranks {
+        let x = *x as usize;
         again = again | seen[x];
         seen[x] = 1;
     }

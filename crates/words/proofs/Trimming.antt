@@ -1,7 +1,7 @@
 -- Containment of two rising parts, the last word first: the invariants of `search_down` and `skip_higher`, with their steps and
 -- ends.
-use Prim.Native.Nat.{ℕ, ◌-◌, ◌≤◌, ◌<◌}
-use mathlib.Core.Path.{◌≡◌, sym, ap₂, ◌∙◌}
+use Prim.Native.Nat.{ℕ, ◌+◌, ◌-◌, ◌≤◌, ◌<◌}
+use mathlib.Core.Path.{◌≡◌, sym, subst, ap₂, ◌∙◌}
 use mathlib.Core.List.{List, []}
 use mathlib.Core.Bool.{true, false, and-false}
 use native.Mathlib.Omega.{arith}
@@ -26,8 +26,17 @@ module _ {w : List ℕ} {a b c e i j : ℕ} (m : Trimming w a b c e i j) where
       let none = slice_past a i w past in
       sym (rw none (subset_nil (slice c j w))) ∙ m.same
 
-  -- after the search for the last word of the first part
-  module _ {r : ℕ} (s : Skipped a i c j w r) (first : Rising a b w) (second : Rising c e w) (some : a < i) where
+  -- the first part up to its last word, which is at i - 1
+  pub trimming_rises : Rising a b w → a < i → Rising a (i - 1 + 1) w
+  trimming_rises first some =
+      let end : i - 1 + 1 ≡ i = omega arith in
+      record { within = omega (arith, m.first, first.within); rise = rw end m.first_rises }
+
+  -- after the search for that word
+  module _ {r : ℕ} (found_at : Skipped a (i - 1 + 1) c j w r) (first : Rising a b w) (second : Rising c e w) (some : a < i) where
+    s : Skipped a i c j w r
+    s = let end : i - 1 + 1 ≡ i = omega arith in subst (λ (n : ℕ). Skipped a n c j w r) end found_at
+
     first_in : i ≤ length w
     first_in = omega (arith, m.first, first.within)
 

@@ -7,13 +7,10 @@ pub fn copy_words(work: &mut [u32], from: usize, to: usize, top: usize) -> usize
     requires { Behind from to top work.old }
     ensures { Copied from to top work.old work.new result }
 {
-    let mut i = from;
     let mut n = top;
-    while i < to {
-        let s = work[i];
-        work[n] = s;
+    for i in from..to {
+        work[n] = work[i];
         n += 1;
-        i += 1;
     }
     n
 }

@@ -1,10 +1,8 @@
 // Tables of flags, one for each number below their length: flag the words of a part, keep the flagged words of another part, and take
 // the flags away again.
-ghost use Rattle.std.specs.Prelude.{false, length};
-ghost use Rattle.lists.specs.Lists.{memb, slice};
-ghost use Rattle.words.specs.flags.Flags.{Below, Flagged, is_flagged, Clear, Behind, Kept};
-
-use crate::word_at;
+ghost use Rattle.std.specs.Prelude.{length};
+ghost use Rattle.lists.specs.Lists.{slice};
+ghost use Rattle.words.specs.flags.Flags.{Below, Flagged, FlagsSet, is_flagged, Clear, Behind, Kept};
 
 // How many flags a table has.
 const FLAG_ROOM: usize = 4096;
@@ -16,17 +14,13 @@ pub fn clear_flags() -> [u8; FLAG_ROOM]
     [0u8; FLAG_ROOM]
 }
 
-// Flags the words of a part. No number is flagged before.
-pub fn flag_words(work: &[u32], a: usize, b: usize, flags: &mut [u8])
-    requires below { Below (length flags.old) a b work.now }
-    requires flagged { Flagged (λ s. false) flags.old }
-    ensures { Flagged (λ s. memb s (slice a b work.now)) flags.new }
+// Makes the flag of each word of a part 1, to flag it, or 0, to take its flag away.
+pub fn set_flags(work: &[u32], a: usize, b: usize, flag: u8, flags: &mut [u8])
+    requires { Below (length flags.old) a b work.now }
+    ensures { FlagsSet flag (slice a b work.now) flags.old flags.new }
 {
-    let mut i = a;
-    while i < b {
-        let s = word_at(work, i);
-        flags[s] = 1;
-        i += 1;
+    for s in &work[a..b] {
+        flags[*s as usize] = flag;
     }
 }
 
@@ -38,27 +32,11 @@ pub fn keep_flagged(work: &mut [u32], c: usize, e: usize, out: usize, flags: &[u
     requires flagged { Flagged (is_flagged flags.now) flags.now }
     ensures { Kept (is_flagged flags.now) c e out work.old work.new result }
 {
-    let mut j = c;
     let mut n = out;
-    while j < e {
+    for j in c..e {
         let x = work[j];
         work[n] = x;
         n += flags[x as usize] as usize;
-        j += 1;
     }
     n
-}
-
-// Takes away the flags of the words of a part. No other number is flagged before.
-pub fn unflag_words(work: &[u32], a: usize, b: usize, flags: &mut [u8])
-    requires below { Below (length flags.old) a b work.now }
-    requires flagged { Flagged (λ s. memb s (slice a b work.now)) flags.old }
-    ensures { Flagged (λ s. false) flags.new }
-{
-    let mut i = a;
-    while i < b {
-        let s = word_at(work, i);
-        flags[s] = 0;
-        i += 1;
-    }
 }

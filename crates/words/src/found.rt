@@ -47,14 +47,12 @@ pub fn keep_found(work: &mut [u32], a: usize, b: usize, c: usize, e: usize, out:
     requires behind { Behind c e out work.old }
     ensures { Kept (λ s. memb s (slice a b work.old)) c e out work.old work.new result }
 {
-    let mut j = c;
     let mut n = out;
-    while j < e {
+    for j in c..e {
         let x = word_at(work, j);
         let found = is_among(work, a, b, x);
         work[n] = x as u32;
         n += number(found);
-        j += 1;
     }
     n
 }

@@ -4,7 +4,7 @@ ghost use Rattle.words.specs.Merges.{Rising};
 ghost use Rattle.words.specs.flags.Flags.{flag_room, Below, Clear};
 ghost use Rattle.words.specs.shared.Sharing.{Apart, Intersected};
 
-use crate::flags::{flag_words, keep_flagged, unflag_words};
+use crate::flags::{keep_flagged, set_flags};
 use crate::found::keep_found;
 
 // Whether a part of so many words is far shorter than another: finding each of its words there takes less time than flagging all.
@@ -35,8 +35,8 @@ pub fn intersect(
     if is_far_shorter(e - c, b - a) {
         return keep_found(work, a, b, c, e, out);
     }
-    flag_words(work, a, b, flags);
+    set_flags(work, a, b, 1, flags);
     let r = keep_flagged(work, c, e, out, flags);
-    unflag_words(work, a, b, flags);
+    set_flags(work, a, b, 0, flags);
     r
 }

@@ -28,17 +28,15 @@ fn search_down(work: &[u32], a: usize, b: usize, c: usize, e: usize) -> bool
     requires rising_2 { Rising c e work.now }
     ensures { result ≡ subset (slice a b work.now) (slice c e work.now) }
 {
-    let mut i = b;
     let mut j = e;
-    while a < i {
-        j = skip_higher(work, a, i, c, j);
+    for i in (a..b).rev() {
+        j = skip_higher(work, a, i + 1, c, j);
         if j <= c {
             return false;
         }
-        if work[i - 1] != work[j - 1] {
+        if work[i] != work[j - 1] {
             return false;
         }
-        i -= 1;
         j -= 1;
     }
     true
@@ -68,9 +66,8 @@ fn search_up(work: &[u32], a: usize, b: usize, c: usize, e: usize) -> bool
     requires rising_2 { Rising c e work.now }
     ensures { result ≡ subset (slice a b work.now) (slice c e work.now) }
 {
-    let mut i = a;
     let mut j = c;
-    while i < b {
+    for i in a..b {
         j = skip_lower(work, i, b, j, e);
         if e <= j {
             return false;
@@ -78,7 +75,6 @@ fn search_up(work: &[u32], a: usize, b: usize, c: usize, e: usize) -> bool
         if work[i] != work[j] {
             return false;
         }
-        i += 1;
         j += 1;
     }
     true

@@ -1,30 +1,30 @@
-use Prim.Native.Nat.{◌-◌}
 use native.Mathlib.Omega.{arith}
 use Rattle.inputs.proofs.Containing.{containing_none, containing_start, containing-stop, containing_end}
 use Rattle.inputs.proofs.Containing.{containing_low, containing_same, containing_high}
 use Rattle.inputs.proofs.is_contained.Goals as goal
-use Rattle.inputs.proofs.is_contained.Goals.{then-x-y-2, else-x-y-2}
+use Rattle.inputs.proofs.is_contained.Goals.{then-x-y-2+else-left-i, else-x-y-2}
 
 pub returns-then-left-eq0 : goal.returns-then-left-eq0
-returns-then-left-eq0 c = containing_none _ _ (omega arith)
+returns-then-left-eq0 c = containing_none _ _ c.if-left-eq0.true
 
-pub loop-i-init : goal.loop-i-init
-loop-i-init c = containing_start _ _ (omega arith) c.requires.0 c.requires.1
-
-pub returns-then-right-j : goal.returns-then-right-j
-returns-then-right-j c = containing-stop c.loop-i.invariant (omega arith) c.if-right-j.true
+pub loop-y-init : goal.loop-y-init
+loop-y-init c = (containing_start _ _ (omega arith) c.requires.0 c.requires.1, omega arith)
 
 pub returns-then-x-y : goal.returns-then-x-y
-returns-then-x-y c =
-    containing_low c.loop-i.invariant (omega arith) (omega arith) c.if-x-y.true
+returns-then-x-y c = containing_low c.loop-y.invariant.0 c.loop-y.invariant.1 c.loop-y-test.true c.if-x-y.true
 
-pub loop-i-preserved : goal.loop-i-preserved
-loop-i-preserved c =
-    let m = c.loop-i.invariant in
+pub returns-then-left-i : goal.returns-then-left-i
+returns-then-left-i c =
+    let m = c.loop-y.invariant in
+    containing_end (containing_same m.0 m.1 c.loop-y-test.true c.if-x-y-2.true) c.if-left-i.true
+
+pub loop-y-preserved : goal.loop-y-preserved
+loop-y-preserved c =
+    let m = c.loop-y.invariant in
     elim c.if-x-y-2.branch [
-      | then-x-y-2 w ↦ rw w.i-is (containing_same m (omega arith) (omega arith) w.if-x-y-2.true)
-      | else-x-y-2 w ↦ rw w.i-is (containing_high m (omega arith) (omega arith) (omega (arith, w.if-x-y-2.false)))
+      | then-x-y-2+else-left-i w ↦ rw w.i-is (containing_same m.0 m.1 c.loop-y-test.true w.if-x-y-2.true, omega (arith, w.if-left-i.false))
+      | else-x-y-2 w ↦ rw w.i-is (containing_high m.0 m.1 c.loop-y-test.true (omega (arith, w.if-x-y-2.false, c.if-x-y.false)), m.1)
     ]
 
 pub returns : goal.returns
-returns c = containing_end c.loop-i.invariant c.loop-i-test.false
+returns c = containing-stop c.loop-y.invariant.0 c.loop-y.invariant.1 c.loop-y-test.false

@@ -1,12 +1,9 @@
 -- `is_contained` meets its contract. An empty left set is turned away first. The invariant: containment of what is left of both sets
--- decides that of the whole, and both rise. The measure is what is left of the right set.
-use Prim.Native.Nat.{◌-◌}
+-- decides that of the whole, both rise, and of the left set something is left.
+use Prim.Native.Nat.{◌<◌}
 use lib.ListN.{length}
 use Rattle.inputs.proofs.Containing.{Containing}
 use Rattle.inputs.proofs.is_contained.Given as goal
 
-abbrev pub invariant-loop-i : goal.invariant-loop-i
-invariant-loop-i l = Containing l.left l.right l.i l.j
-
-abbrev pub decreases-loop-i : goal.decreases-loop-i
-decreases-loop-i l = length l.right - l.j
+abbrev pub invariant-loop-y : goal.invariant-loop-y
+invariant-loop-y l = Containing l.left l.right l.i l.y-index × (l.i < length l.left)

@@ -5,4 +5,4 @@ use Rattle.inputs.proofs.words_needed.Goals as goal
 
 pub returns : goal.returns
 unfolding words_needed
-returns c = omega (arith, c.count_entries.ensures, c.count_entries-2.ensures)
+returns c = omega (arith, c.entries.ensures, c.entries-2.ensures)

@@ -8,60 +8,60 @@ use borrow.Author.Tests.{ltb-true, ltb-false, le-leb}
 use lib.Dec.{ltb, leb}
 use lib.ListN.{length, get_or, take, get_or-eq_default}
 use lib.Seq.{ext_get_or, length-take-le}
+use Rattle.std.specs.Prelude.{None}
 use Rattle.lists.specs.Lists.{count, all, memb, upto}
 use Rattle.lists.proofs.Bools.{by_test}
 use Rattle.lists.proofs.Counting.{count_bound}
 use Rattle.lists.proofs.Ranges.{length_table, get_d_table, all_table}
 use Rattle.lists.proofs.Zeros.{get_d_zeros}
 use Rattle.sets.specs.Limits.{max_sets}
-use Rattle.sets.specs.Collections.{sets_of, first_bad, entries}
-use Rattle.sets.specs.declared.Verdict.TheVariants.{Good}
+use Rattle.sets.specs.Collections.{Collection, sets_in, first_bad_in, entries}
 use Rattle.sets.proofs.Between.{length-sets}
 use Rattle.sets.proofs.Good.{good_places, good_entries}
 use Rattle.sets.proofs.Entries.{entries_below, count-sets}
+use Rattle.inputs.specs.Input.{Input, left_sets, right_sets}
 use Rattle.item_order_spec.specs.Order.{frequency}
 use Rattle.item_order.specs.frequencies.Counts.{CanTally, TalliedInto, CanCount, CanCountBoth}
 
 -- the entries of one side
-module _ {ends items frequencies : List ℕ} (pre : CanCount ends items frequencies) {n : ℕ} (whole : n ≡ entries ends) where
-  pub entries_long : n ≡ length (take n items)
+module _ {side : Collection} {frequencies : List ℕ} (pre : CanCount side frequencies) {n : ℕ} (whole : n ≡ entries side.ends) where
+  pub entries_long : n ≡ length (take n side.items)
   entries_long =
-      sym (length-take-le n items (omega (arith, whole, (good_entries (length frequencies) ends items pre.good).within)))
+      sym (length-take-le n side.items (omega (arith, whole, (good_entries (length frequencies) side.ends side.items pre.good).within)))
 
-  pub can_tally_side : CanTally (take n items) frequencies
+  pub can_tally_side : CanTally (take n side.items) frequencies
   can_tally_side =
       record {
-        below = rw whole (entries_below (length frequencies) ends items pre.good);
-        room = λ k. rw (whole, ← count-sets (length frequencies) k ends items pre.good) (pre.room k);
+        below = rw whole (entries_below (length frequencies) side.ends side.items pre.good);
+        room = λ k. rw (whole, ← count-sets (length frequencies) k side.ends side.items pre.good) (pre.room k);
       }
 
-  pub side_counted : (is : List ℕ) → TalliedInto (take n items) frequencies is → (i : ℕ) → i < length frequencies
-      → get_or is i 0 ≡ get_or frequencies i 0 + count (memb i) (sets_of ends items)
+  pub side_counted : (is : List ℕ) → TalliedInto (take n side.items) frequencies is → (i : ℕ) → i < length frequencies
+      → get_or is i 0 ≡ get_or frequencies i 0 + count (memb i) (sets_in side)
   side_counted is done i below =
-      rw (count-sets (length frequencies) i ends items pre.good, ← whole) (done i below)
+      rw (count-sets (length frequencies) i side.ends side.items pre.good, ← whole) (done i below)
 
 -- at most as many sets hold an item as there are
-pub side_bound : (i : ℕ) (ends items : List ℕ) → count (memb i) (sets_of ends items) ≤ length ends
-side_bound i ends items = omega (arith, count_bound (memb i) (sets_of ends items), length-sets 0 ends items)
+pub side_bound : (i : ℕ) (side : Collection) → count (memb i) (sets_in side) ≤ length side.ends
+side_bound i side = omega (arith, count_bound (memb i) (sets_in side), length-sets 0 side.ends side.items)
 
-side_limit : (T i : ℕ) (ends items : List ℕ) → first_bad T ends items ≡ Good → count (memb i) (sets_of ends items) ≤ max_sets
-side_limit T i ends items good = omega (arith, side_bound i ends items, good_places T ends items good)
+side_limit : (T i : ℕ) (side : Collection) → first_bad_in T side ≡ None → count (memb i) (sets_in side) ≤ max_sets
+side_limit T i side good = omega (arith, side_bound i side, good_places T side.ends side.items good)
 
 -- one side, then the other
-module _ {left_ends left_items right_ends right_items zeros : List ℕ}
-    (pre : CanCountBoth left_ends left_items right_ends right_items zeros) where
+module _ {i : Input} {zeros : List ℕ} (pre : CanCountBoth i zeros) where
   zeros_at : (k : ℕ) → get_or zeros k 0 ≡ 0
   zeros_at k = ap (λ (l : List ℕ). get_or l k 0) pre.clear ∙ get_d_zeros (length zeros) k
 
-  pub can_count_left : CanCount left_ends left_items zeros
+  pub can_count_left : CanCount i.left zeros
   can_count_left =
       record {
         good = pre.left;
-        room = λ k. omega (arith, zeros_at k, side_limit (length zeros) k left_ends left_items pre.left);
+        room = λ k. omega (arith, zeros_at k, side_limit (length zeros) k i.left pre.left);
       }
 
   module _ (first : List ℕ) (same : length first ≡ length zeros)
-      (done : (i : ℕ) → i < length zeros → get_or first i 0 ≡ get_or zeros i 0 + count (memb i) (sets_of left_ends left_items)) where
+      (done : (k : ℕ) → k < length zeros → get_or first k 0 ≡ get_or zeros k 0 + count (memb k) (left_sets i)) where
     first_limit : (k : ℕ) → get_or first k 0 ≤ max_sets
     first_limit k =
         by_test (ltb k (length zeros))
@@ -70,39 +70,37 @@ module _ {left_ends left_items right_ends right_items zeros : List ℕ}
           arith,
           done k (ltb-true k (length zeros) e),
           zeros_at k,
-          side_limit (length zeros) k left_ends left_items pre.left,
+          side_limit (length zeros) k i.left pre.left,
         ))
         (λ e.
         let past : length first ≤ k = omega (arith, ltb-false k (length zeros) e) in
         omega (arith, get_or-eq_default first 0 {n = k} past))
 
-    pub can_count_right : CanCount right_ends right_items first
+    pub can_count_right : CanCount i.right first
     can_count_right =
         record {
           good = rw same pre.right;
-          room = λ k. omega (arith, first_limit k, side_limit (length zeros) k right_ends right_items pre.right);
+          room = λ k. omega (arith, first_limit k, side_limit (length zeros) k i.right pre.right);
         }
 
     pub both_counted : (second : List ℕ) → length second ≡ length first
-        → ((i : ℕ) → i < length first → get_or second i 0 ≡ get_or first i 0 + count (memb i) (sets_of right_ends right_items))
-        → second ≡ map (frequency (sets_of left_ends left_items) (sets_of right_ends right_items)) (upto (length zeros))
+        → ((k : ℕ) → k < length first → get_or second k 0 ≡ get_or first k 0 + count (memb k) (right_sets i))
+        → second ≡ map (frequency (left_sets i) (right_sets i)) (upto (length zeros))
     both_counted second long rest =
-        let table = frequency (sets_of left_ends left_items) (sets_of right_ends right_items) in
+        let table = frequency (left_sets i) (right_sets i) in
         ext_get_or 0 second (map table (upto (length zeros))) (long ∙ same ∙ sym (length_table table (length zeros)))
-        (λ i below.
+        (λ k below.
         omega (
           arith,
-          get_d_table table (length zeros) i 0 (omega arith),
-          rest i (omega arith),
-          done i (omega arith),
-          zeros_at i,
+          get_d_table table (length zeros) k 0 (omega arith),
+          rest k (omega arith),
+          done k (omega arith),
+          zeros_at k,
         ))
 
 -- no frequency is above the number of sets
-pub frequency_bound : (left_ends left_items right_ends right_items : List ℕ) (i : ℕ)
-    → frequency (sets_of left_ends left_items) (sets_of right_ends right_items) i ≤ length left_ends + length right_ends
-frequency_bound left_ends left_items right_ends right_items i =
-    omega (arith, side_bound i left_ends left_items, side_bound i right_ends right_items)
+pub frequency_bound : (i : Input) (k : ℕ) → frequency (left_sets i) (right_sets i) k ≤ length i.left.ends + length i.right.ends
+frequency_bound i k = omega (arith, side_bound k i.left, side_bound k i.right)
 
 pub table_bound : (f : ℕ → ℕ) (top n : ℕ) → ((i : ℕ) → f i ≤ top) → all (λ x. leb x top) (map f (upto n)) ≡ true
 table_bound f top n low = all_table (λ x. leb x top) f n (λ i below. le-leb (f i) top (low i))

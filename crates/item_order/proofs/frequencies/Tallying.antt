@@ -18,9 +18,6 @@ pub record CountingOccurrences (xs was is : List ℕ) (i n : ℕ) : Type 0 where
   pub within : i ≤ n
   pub together : (k : ℕ) → get_or is k 0 + count (eqb k) (drop i xs) ≡ get_or was k 0 + count (eqb k) xs
 
-pub tally_start : (xs was : List ℕ) → CountingOccurrences xs was was 0 (length xs)
-tally_start xs was = record { same = refl; whole = refl; within = omega arith; together = λ k. refl }
-
 pub tally_index : {xs was is : List ℕ} {i n : ℕ} → CanTally xs was → CountingOccurrences xs was is i n → i < n
     → get_or xs i 0 < length is
 tally_index {xs} {was} {is} {i} pre inv below =

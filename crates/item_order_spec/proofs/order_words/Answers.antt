@@ -4,6 +4,6 @@ use Rattle.item_order_spec.specs.Order.{order_words}
 use Rattle.sets.proofs.Words.{refused_words_lem}
 use Rattle.item_order_spec.proofs.order_words.Goals as goal
 
-pub returns-in-Refused : goal.returns-in-Refused
-returns-in-Refused c =
-    refused_words_lem c.in-Refused.why 0 c.head_of-head.ensures.0 c.head_of-head.ensures.1 c.head_of-head.ensures.2 ∙ sym (ap order_words c.in-Refused.is)
+pub returns-in-Err : goal.returns-in-Err
+returns-in-Err c =
+    refused_words_lem c.in-Err.why 0 c.head_of-head.ensures.0 c.head_of-head.ensures.1 c.head_of-head.ensures.2 ∙ sym (ap order_words c.in-Err.is)

@@ -1,7 +1,8 @@
 -- `join_ready` meets its contract: the join over bit rows answers as the walk does, where its rows are taken.
 use mathlib.Core.Path.{sym, ◌∙◌}
 use lib.ListN.{length}
-use Rattle.inputs.specs.Input.{input_of}
+use Rattle.inputs.specs.Input.{lent_input}
+use Rattle.join_spec.specs.Query.{lent_settings}
 use Rattle.merge_rows.proofs.MergedAnswer.{merge_sizes}
 use Rattle.join.proofs.RowsChoice.{rows_room, rows_answer}
 use Rattle.join.proofs.join_ready.Goals as goal
@@ -10,15 +11,13 @@ pub takes_rows-rows-requires : goal.takes_rows-rows-requires
 takes_rows-rows-requires c = merge_sizes c.requires
 
 pub merge_sets-requires : goal.merge_sets-requires
-merge_sets-requires c =
-    rows_room c.args.rule c.requires (sym c.takes_rows-rows.ensures ∙ c.if-rows.true)
+merge_sets-requires c = rows_room (lent_settings c.args.settings.now) c.requires (sym c.takes_rows-rows.ensures ∙ c.if-rows.true)
 
 pub returns-then-rows : goal.returns-then-rows
 returns-then-rows c =
-    let a = c.args in
-    let i = input_of a.t a.left_ends.now a.left_items.now a.right_ends.now a.right_items.now in
+    let s = c.args.settings.now in
     record {
-      answer = rows_answer i a.limit a.ranks.now (length a.work.now) a.rule a.budget (length a.pairs.now)
+      answer = rows_answer (lent_input c.args.input.now) s.limit s.ranks.now (length c.args.work.now) s.rule s.budget (length c.args.pairs.now)
           (sym c.takes_rows-rows.ensures ∙ c.if-rows.true) c.merge_sets.ensures.answer;
       pairs = c.merge_sets.ensures.pairs;
     }

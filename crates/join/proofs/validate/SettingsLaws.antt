@@ -5,12 +5,12 @@ use mathlib.Core.List.{List}
 use mathlib.Core.Bool.{true, false, not}
 use lib.Dec.{ltb}
 use borrow.Author.Tests.{lt-ltb, le-ltb, eq-eqb, ne_eqb}
+use Rattle.std.specs.Prelude.{Err, Ok}
 use Rattle.sets.specs.Limits.{max_items, max_limit}
 use Rattle.sets.specs.Ordered.{is_permutation}
 use Rattle.sets.specs.Refusals.{refuse_if}
 use Rattle.sets.specs.declared.Refusal.{Refusal}
 use Rattle.sets.specs.declared.Refusal.TheVariants.{BadSettings}
-use Rattle.sets.specs.declared.Tested.TheVariants.{Passed, Failed}
 use Rattle.inputs.specs.Input.{Input}
 use Rattle.inputs.specs.Inner.{Sized}
 use Rattle.inputs.specs.Tests.{sets_test, work_test}
@@ -40,27 +40,27 @@ module _ (T limit : ℕ) (ranks : List ℕ) where
 
 -- the tests in their order
 module _ (i : Input) (limit : ℕ) (ranks : List ℕ) (words : ℕ) where
-  pub settings_failed : bad_settings i.T limit ranks ≡ true → Failed BadSettings ≡ join_tests i limit ranks words
+  pub settings_failed : bad_settings i.T limit ranks ≡ true → Err BadSettings ≡ join_tests i limit ranks words
   unfolding join_tests
   settings_failed bad = rw bad
 
   module _ (good : bad_settings i.T limit ranks ≡ false) where
-    pub sets_failed : {why : Refusal} → sets_test i ≡ Failed why → Failed why ≡ join_tests i limit ranks words
+    pub sets_failed : {why : Refusal} → sets_test i ≡ Err why → Err why ≡ join_tests i limit ranks words
     unfolding join_tests
     sets_failed bad = rw (good, bad)
 
-    pub work_last : sets_test i ≡ Passed → work_test i words ≡ join_tests i limit ranks words
+    pub work_last : sets_test i ≡ Ok tt → work_test i words ≡ join_tests i limit ranks words
     unfolding join_tests
     work_last passed = rw (good, passed)
 
     -- what was tested so far keeps the sizes small
-    pub sizes : sets_test i ≡ Passed → Sized i.T i.left.ends i.right.ends
+    pub sizes : sets_test i ≡ Ok tt → Sized i
     sizes passed = sized i (good_settings i.T limit ranks good).few_items (sets_good i passed)
 
 -- a rule's number
 module _ (number : ℕ) where
-  pub rule_above : 2 < number → Failed BadSettings ≡ refuse_if (ltb 2 number) BadSettings
+  pub rule_above : 2 < number → Err BadSettings ≡ refuse_if (ltb 2 number) BadSettings
   rule_above above = rw (lt-ltb 2 number above)
 
-  pub rule_within : number ≤ 2 → Passed ≡ refuse_if (ltb 2 number) BadSettings
+  pub rule_within : number ≤ 2 → Ok tt ≡ refuse_if (ltb 2 number) BadSettings
   rule_within within = rw (le-ltb 2 number within)

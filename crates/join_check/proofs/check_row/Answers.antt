@@ -1,20 +1,8 @@
-use Prim.Native.Nat.{◌-◌}
 use native.Mathlib.Omega.{arith}
 use Rattle.join_index.proofs.Places.{place_right}
 use Rattle.join_check.proofs.Tallying.{probe_rising}
-use Rattle.join_check.proofs.RowChecks.{row_start, row_step, row_end}
+use Rattle.join_check.proofs.RowChecks.{row_step, row_end}
 use Rattle.join_check.proofs.check_row.Goals as goal
-
-pub probe_left-p-requires : goal.probe_left-p-requires
-probe_left-p-requires c =
-    record { query = c.requires.some_query.query; holds = c.requires.some_query.holds.left }
-
-pub loop-i-init : goal.loop-i-init
-loop-i-init c = row_start
-
-pub word_at-s-requires : goal.word_at-s-requires
-word_at-s-requires c =
-    omega (arith, c.requires.some_query.holds.places.within)
 
 pub check_one-r-requires : goal.check_one-r-requires
 check_one-r-requires c =

@@ -24,7 +24,7 @@ use Rattle.join_check.specs.Checks.{row_count, range_count, are_candidates}
 use Rattle.join_check.specs.Counters.{checks_in}
 use Rattle.join_check.specs.Checks.{RowThere, RangesThere, RowChecked, RangesChecked}
 use Rattle.join_index.proofs.Orders.{order_within, range_left, range_none, range_next, range_split}
-use Rattle.join_check.proofs.Tallying.{tallied_same, Leaving, leaving_start, leaving_step, leaving_end}
+use Rattle.join_check.proofs.Tallying.{tallied_same, Leaving, leaving_step, leaving_end}
 
 module _ {lay : Layout} {q : Query} {w : List ℕ} {e lo hi from to : ℕ} (there : RangesThere lay q w e lo hi from to) where
   pub ranges_within : lay.left_order + hi ≤ length w
@@ -94,14 +94,6 @@ pub record RangesLeft (lay : Layout) (w : List ℕ) (e lo hi from to : ℕ) (tal
       (λ is. range_count q is (slice from to w) (lefts_in lay w lo hi)) tally r
 
 module _ {lay : Layout} {w : List ℕ} {e lo hi from to : ℕ} {tally : Tally} where
-  pub left_start : RangesLeft lay w e lo hi from to tally tally lo hi
-  left_start =
-      record {
-        there = λ q there. there;
-        grown = refl;
-        tallied = λ q there. leaving_start (λ is. range_count q is (slice from to w) (lefts_in lay w lo hi)) tally;
-      }
-
   module _ {r : Tally} {i j : ℕ} (so : RangesLeft lay w e lo hi from to tally r i j) where
     -- the checks of two parts
     parts : (a b c : ℕ) → a ≤ b → b ≤ c → (c - a) * (to - from) ≡ (b - a) * (to - from) + (c - b) * (to - from)

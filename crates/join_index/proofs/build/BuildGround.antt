@@ -8,45 +8,47 @@ use lib.Dec.{ltb}
 use lib.ListN.{length, get_or}
 use Rattle.lists.specs.Lists.{all}
 use Rattle.lists.proofs.Throughout.{all_at}
-use Rattle.sets.specs.Collections.{sets_of}
-use Rattle.sets.specs.Ordered.{ordered}
-use Rattle.join_spec.specs.declared.Rule.{Rule}
+use Rattle.sets.specs.Collections.{sets_in}
+use Rattle.inputs.specs.Input.{Input}
 use Rattle.sets.proofs.Ordered.{below, items_below}
 use Rattle.sets.proofs.Containment.{contained_ranks}
-use Rattle.join_spec.specs.Query.{query}
+use Rattle.join_spec.specs.Query.{Settings, query_of}
 use Rattle.side_index.proofs.SideReads.{side_inverted, side_bound}
 use Rattle.join_index.specs.Grouping.{left_at, right_at}
 use Rattle.join_index.specs.Ground.{Ground}
 use Rattle.join_index.specs.build.Building.{BuildRoom}
 use Rattle.join_index.specs.declared.Layout.{Layout}
-use Rattle.join_index.proofs.build.BuildPlan.{Planned, items_are, plan_sizes, rows_below, left_long, right_long}
+use Rattle.join_index.proofs.build.BuildPlan.{Planned, counted, items_are, plan_sizes, rows_below, left_long, right_long}
 use Rattle.join_index.proofs.build.BuildPlan.{least_below, signed_above, slots_above}
 use Rattle.join_index.proofs.build.BuildPlan.{right_end, right_ranks_lem, left_end, left_starts_lem, left_ranks}
 use Rattle.join_index.proofs.build.BuildStages.{Built, right_set, left_set}
 use Rattle.join_index.proofs.build.BuildLists.{from_left, from_right, size, least_slots, seen_at, seen_first, in_order}
 
-module _ {left_ends left_items right_ends right_items ranks w a b c d f : List ℕ} {nl nr limit : ℕ} {rule : Rule} {lay : Layout}
-    (built : Built left_ends left_items right_ends right_items ranks nl nr limit rule lay w a b c d f) where
-  plan : Planned left_ends left_items right_ends right_items ranks nl nr lay w
+module _ {i : Input} {settings : Settings} {nl nr : ℕ} {lay : Layout} {w a b c d f : List ℕ}
+    (built : Built i settings nl nr lay w a b c d f) where
+  plan : Planned i settings.ranks nl nr lay w
   plan = built.plan
+
+  abbrev ranks : List ℕ
+  ranks = settings.ranks
 
   abbrev T : ℕ
   T = length ranks
 
   abbrev lefts : List (List ℕ)
-  lefts = sets_of left_ends left_items
+  lefts = sets_in i.left
 
   abbrev rights : List (List ℕ)
-  rights = sets_of right_ends right_items
+  rights = sets_in i.right
 
   -- ranks decide containment
   left_items_lem : (k : ℕ) → k < length lefts → all (λ i. ltb i T) (get_or lefts k []) ≡ true
-  left_items_lem k h = all_at (below T) [] lefts (items_below T left_ends left_items plan.room.left_good) k h
+  left_items_lem k h = all_at (below T) [] lefts (items_below T i.left.ends i.left.items plan.room.left_good) k h
 
   right_items_lem : (s : ℕ) → s < length rights → all (λ i. ltb i T) (get_or rights s []) ≡ true
-  right_items_lem s h = all_at (below T) [] rights (items_below T right_ends right_items plan.room.right_good) s h
+  right_items_lem s h = all_at (below T) [] rights (items_below T i.right.ends i.right.items plan.room.right_good) s h
 
-  pub ground : Ground lay (query (length ranks) left_ends left_items right_ends right_items limit ranks rule) f
+  pub ground : Ground lay (query_of (counted i ranks) settings) f
   unfolding left_at right_at
   ground =
       record {
@@ -92,9 +94,7 @@ module _ {left_ends left_items right_ends right_items ranks w a b c d f : List �
       }
 
 -- the same under the count of items that was given
-pub ground_items : {T : ℕ} {left_ends left_items right_ends right_items ranks w f : List ℕ} {lay : Layout} (limit : ℕ) (rule : Rule)
-    → BuildRoom T left_ends left_items right_ends right_items ranks w
-    → Ground lay (query (length ranks) left_ends left_items right_ends right_items limit ranks rule) f
-    → Ground lay (query T left_ends left_items right_ends right_items limit ranks rule) f
-ground_items {T} {left_ends} {left_items} {right_ends} {right_items} {ranks} {w} {f} {lay} limit rule room g =
-    subst (λ (n : ℕ). Ground lay (query n left_ends left_items right_ends right_items limit ranks rule) f) (items_are room) g
+pub ground_items : {i : Input} {w f : List ℕ} {lay : Layout} (settings : Settings) → BuildRoom i settings.ranks w
+    → Ground lay (query_of (counted i settings.ranks) settings) f → Ground lay (query_of i settings) f
+ground_items {i} {w} {f} {lay} settings room g =
+    subst (λ (n : ℕ). Ground lay (query_of (record i { T = n }) settings) f) (items_are room) g

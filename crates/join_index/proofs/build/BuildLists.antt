@@ -11,10 +11,10 @@ use Rattle.lists.specs.Lists.{count, upto, slice}
 use Rattle.lists.proofs.Counting.{count_agree}
 use Rattle.lists.proofs.Ranges.{memb-upto}
 use Rattle.lists.proofs.Slices.{frame_at, frame_less, frame-slice}
-use Rattle.sets.specs.Collections.{sets_of}
+use Rattle.sets.specs.Collections.{sets_in}
 use Rattle.sets.specs.Ordered.{ordered}
-use Rattle.join_spec.specs.declared.Rule.{Rule}
-use Rattle.join_spec.specs.Query.{Query, query}
+use Rattle.inputs.specs.Input.{Input}
+use Rattle.join_spec.specs.Query.{Query, Settings, query_of}
 use Rattle.join_spec.specs.Node.{seen}
 use Rattle.counting_sort.specs.Groups.{grouped}
 use Rattle.counting_sort.specs.Holding.{RegionHolds}
@@ -27,9 +27,9 @@ use Rattle.join_index.specs.declared.Layout.{Layout}
 use Rattle.join_index.proofs.Ordering.{key_is}
 use Rattle.join_index.proofs.GroupLaws.{upto_place, ordered_agree}
 use Rattle.join_index.proofs.stages.HeldSets.{range-set}
-use Rattle.join_index.proofs.build.BuildPlan.{Planned, left_long, right_long}
+use Rattle.join_index.proofs.build.BuildPlan.{Planned, counted, left_long, right_long}
 use Rattle.join_index.proofs.build.BuildPlan.{least_below, order_above, signed_above, slots_above}
-use Rattle.join_index.proofs.build.BuildStages.{Built, least_ranges, order_ranges}
+use Rattle.join_index.proofs.build.BuildStages.{Built, left_stage, least_ranges, order_ranges}
 
 -- the order by the keys of the left sets
 order_from_lem : (q : Query) (n d : ℕ) → ordered_by (key_at q) q.T (upto (length q.lefts)) n d ≡ order_from q n d
@@ -37,33 +37,36 @@ unfolding ordered_by order_from
 order_from_lem q zero d = refl
 order_from_lem q (suc n) d = ap (λ (l : List ℕ). grouped (key_at q d) (suc q.T) l) (order_from_lem q n (suc d))
 
-module _ {left_ends left_items right_ends right_items ranks w a b c d f : List ℕ} {nl nr limit : ℕ} {rule : Rule} {lay : Layout}
-    (built : Built left_ends left_items right_ends right_items ranks nl nr limit rule lay w a b c d f) where
-  plan : Planned left_ends left_items right_ends right_items ranks nl nr lay w
+module _ {i : Input} {settings : Settings} {nl nr : ℕ} {lay : Layout} {w a b c d f : List ℕ}
+    (built : Built i settings nl nr lay w a b c d f) where
+  plan : Planned i settings.ranks nl nr lay w
   plan = built.plan
+
+  abbrev ranks : List ℕ
+  ranks = settings.ranks
 
   abbrev T : ℕ
   T = length ranks
 
   abbrev lefts : List (List ℕ)
-  lefts = sets_of left_ends left_items
+  lefts = sets_in i.left
 
   abbrev rights : List (List ℕ)
-  rights = sets_of right_ends right_items
+  rights = sets_in i.right
 
   -- what each stage left stands at the end
   from_order : take lay.right_signatures f ≡ take lay.right_signatures d
   from_order = built.signed.frame
 
-  from_least : take (lay.by_least + length right_ends) f ≡ take (lay.by_least + length right_ends) c
+  from_least : take (lay.by_least + length i.right.ends) f ≡ take (lay.by_least + length i.right.ends) c
   from_least =
-      frame_less (lay.by_least + length right_ends) lay.right_signatures d f
+      frame_less (lay.by_least + length i.right.ends) lay.right_signatures d f
       (omega (arith, signed_above plan)) from_order
       ∙ built.order_built.frame
 
   pub from_left : take lay.least_offsets f ≡ take lay.least_offsets b
   from_left =
-      frame_less lay.least_offsets (lay.by_least + length right_ends) c f (order_above plan) from_least
+      frame_less lay.least_offsets (lay.by_least + length i.right.ends) c f (order_above plan) from_least
       ∙ built.least_built.frame
 
   pub from_right : take (lay.right_ranks + nr) f ≡ take (lay.right_ranks + nr) a
@@ -80,10 +83,10 @@ module _ {left_ends left_items right_ends right_items ranks w a b c d f : List �
   -- the right sets by least rank
   pub seen_at : (r : ℕ) → r < T → get_or f (lay.least_offsets + suc r) 0 ≡ get_or c (lay.least_offsets + suc r) 0
   seen_at r h =
-      frame_at 0 (lay.least_offsets + suc r) (lay.by_least + length right_ends) c f
+      frame_at 0 (lay.least_offsets + suc r) (lay.by_least + length i.right.ends) c f
       (omega (arith, plan.out.by_least)) from_least
 
-  seen-range : asks_seen rule ≡ true → (r : ℕ) → r < T
+  seen-range : asks_seen settings.rule ≡ true → (r : ℕ) → r < T
       → slice lay.by_least (lay.by_least + seen_count lay f r) f
       ≡ slice (sorted_at lay.least_offsets (T + 1))
       (sorted_at lay.least_offsets (T + 1) + get_or c (lay.least_offsets + suc r) 0) c
@@ -91,20 +94,20 @@ module _ {left_ends left_items right_ends right_items ranks w a b c d f : List �
       ap₂ (λ (s n : ℕ). slice s (s + n) f) plan.out.by_least (seen_at r h)
       ∙ frame-slice (sorted_at lay.least_offsets (T + 1))
       (sorted_at lay.least_offsets (T + 1) + get_or c (lay.least_offsets + suc r) 0)
-      (lay.by_least + length right_ends) c f (omega (arith, plan.out.by_least, built.least_built.few asked r h)) from_least
+      (lay.by_least + length i.right.ends) c f (omega (arith, plan.out.by_least, built.least_built.few asked r h)) from_least
 
   abbrev q : Query
-  q = query (length ranks) left_ends left_items right_ends right_items limit ranks rule
+  q = query_of (counted i ranks) settings
 
-  seen_same : (r s : ℕ) → s < length right_ends
+  seen_same : (r s : ℕ) → s < length i.right.ends
       → seen r (set_at b lay.right_starts lay.right_ranks s) ≡ seen r (right_at q s)
   unfolding right_at
   seen_same r s h =
       ap (λ (l : List ℕ). seen r l)
-      (range-set lay.right_starts lay.right_ranks lay.least_offsets (length right_ends) T b
+      (range-set lay.right_starts lay.right_ranks lay.least_offsets (length i.right.ends) T b
       (λ s. ordered T ranks (get_or rights s [])) (least_ranges plan built.right_built built.left_built) s h)
 
-  pub seen_first : asks_seen rule ≡ true → (r : ℕ) → r < T
+  pub seen_first : asks_seen settings.rule ≡ true → (r : ℕ) → r < T
       → Listing (length rights) (λ s. seen r (right_at q s))
       (slice lay.by_least (lay.by_least + seen_count lay f r) f)
   seen_first asked r h p =
@@ -112,27 +115,27 @@ module _ {left_ends left_items right_ends right_items ranks w a b c d f : List �
       ∙ built.least_built.seen_first asked r h p
       ∙ count_agree (λ s. seen r (set_at b lay.right_starts lay.right_ranks s) && p s)
       (λ s. seen r (right_at q s) && p s)
-      (upto (length right_ends))
+      (upto (length i.right.ends))
       (λ s there.
       ap (λ (t : Bool). t && p s)
-      (seen_same r s (ltb-true s (length right_ends) (sym (memb-upto (length right_ends) s) ∙ there))))
+      (seen_same r s (ltb-true s (length i.right.ends) (sym (memb-upto (length i.right.ends) s) ∙ there))))
       ∙ ap (λ (n : ℕ). count (λ s. seen r (right_at q s) && p s) (upto n)) (sym (right_long plan))
 
   -- the left sets in order
-  order_keys_lem : (e k : ℕ) → k < length left_ends → held_key c lay.left_starts lay.left_ranks e k ≡ key_at q e k
+  order_keys_lem : (e k : ℕ) → k < length i.left.ends → held_key c (left_stage lay i ranks) e k ≡ key_at q e k
   unfolding left_at
   order_keys_lem e k h =
       ap (λ (l : List ℕ). key_in e l)
-      (range-set lay.left_starts lay.left_ranks (lay.by_least + length right_ends) (length left_ends) T c
+      (range-set lay.left_starts lay.left_ranks (lay.by_least + length i.right.ends) (length i.left.ends) T c
       (λ k. ordered T ranks (get_or lefts k [])) (order_ranges plan built.right_built built.left_built built.least_built) k h)
       ∙ sym (key_is q e k)
 
-  order_is : ordered_by (held_key c lay.left_starts lay.left_ranks) T (upto (length left_ends)) limit 0 ≡ order_of q
+  order_is : ordered_by (held_key c (left_stage lay i ranks)) T (upto (length i.left.ends)) settings.limit 0 ≡ order_of q
   order_is =
-      ordered_agree (held_key c lay.left_starts lay.left_ranks) (key_at q) T
-      (upto (length left_ends)) limit 0 (λ e k there. order_keys_lem e k (upto_place (length left_ends) k there))
-      ∙ ap (λ (n : ℕ). ordered_by (key_at q) T (upto n) limit 0) (sym (left_long plan))
-      ∙ order_from_lem q limit 0
+      ordered_agree (held_key c (left_stage lay i ranks)) (key_at q) T
+      (upto (length i.left.ends)) settings.limit 0 (λ e k there. order_keys_lem e k (upto_place (length i.left.ends) k there))
+      ∙ ap (λ (n : ℕ). ordered_by (key_at q) T (upto n) settings.limit 0) (sym (left_long plan))
+      ∙ order_from_lem q settings.limit 0
 
   order_end : lay.left_order + length lefts ≡ lay.right_signatures
   order_end = omega (arith, plan.out.right_signatures, left_long plan)

@@ -5,16 +5,19 @@ use mathlib.Core.List.{List, []}
 use native.Mathlib.Omega.{arith}
 use lib.ListN.{length, get_or, take}
 use Rattle.lists.specs.Lists.{upto}
-use Rattle.sets.specs.Collections.{sets_of}
+use Rattle.sets.specs.Collections.{sets_in}
 use Rattle.sets.specs.Ordered.{ordered}
 use Rattle.sets.proofs.Good.{end_within_lem}
+use Rattle.inputs.specs.Input.{Input}
 use Rattle.join_spec.specs.declared.Rule.{Rule}
+use Rattle.join_spec.specs.Query.{Settings}
 use Rattle.counting_sort.specs.Holding.{RegionHolds}
 use Rattle.signatures.specs.Signing.{BothRoom, BothSigned}
 use Rattle.side_index.specs.keys.SetKeys.{start_of}
 use Rattle.side_index.specs.Side.{SideRoom, SideBuilt}
 use Rattle.side_index.proofs.SideReads.{side_set}
 use Rattle.join_index.specs.Grouping.{ordered_by}
+use Rattle.join_index.specs.declared.stages.Stage.{Stage}
 use Rattle.join_index.specs.stages.Stages.{StageRoom, LeastBuilt, OrderBuilt, held_key}
 use Rattle.join_index.specs.declared.Layout.{Layout}
 use Rattle.join_index.proofs.Ordering.{ordered_below, ordered_short}
@@ -24,33 +27,54 @@ use Rattle.join_index.proofs.build.BuildPlan.{signed_above, slots_above, order_a
 use Rattle.join_index.proofs.build.BuildPlan.{right_end, right_ranks_lem, left_end, left_starts_lem, left_ranks, right_long}
 use Rattle.join_index.proofs.build.BuildPlan.{left_long, plan_sizes}
 
+-- the right sets by least rank
+abbrev pub right_stage : Layout → Input → List ℕ → Stage
+right_stage lay i ranks =
+    record {
+      starts = lay.right_starts;
+      ranks = lay.right_ranks;
+      sets = length i.right.ends;
+      t = length ranks;
+      base = lay.least_offsets;
+      temp = lay.slots;
+    }
+
+-- the left sets in order
+abbrev pub left_stage : Layout → Input → List ℕ → Stage
+left_stage lay i ranks =
+    record {
+      starts = lay.left_starts;
+      ranks = lay.left_ranks;
+      sets = length i.left.ends;
+      t = length ranks;
+      base = lay.by_least + length i.right.ends;
+      temp = lay.slots;
+    }
+
 -- what each stage left: a after the right side, b the left side, c the right sets by least rank, d the left sets in order, and f
 -- the signatures
-pub record Built (left_ends left_items right_ends right_items ranks : List ℕ) (nl nr limit : ℕ) (rule : Rule) (lay : Layout)
-    (w a b c d f : List ℕ) : Type 0 where
-  pub plan : Planned left_ends left_items right_ends right_items ranks nl nr lay w
-  pub right_built : SideBuilt lay.offsets nr ranks (sets_of right_ends right_items) w a
-  pub left_built : SideBuilt (lay.right_ranks + nr) nl ranks (sets_of left_ends left_items) a b
-  pub least_built :
-      LeastBuilt rule lay.least_offsets lay.right_starts lay.right_ranks (length right_ends) (length ranks) b c
+pub record Built (i : Input) (settings : Settings) (nl nr : ℕ) (lay : Layout) (w a b c d f : List ℕ) : Type 0 where
+  pub plan : Planned i settings.ranks nl nr lay w
+  pub right_built : SideBuilt lay.offsets nr settings.ranks (sets_in i.right) w a
+  pub left_built : SideBuilt (lay.right_ranks + nr) nl settings.ranks (sets_in i.left) a b
+  pub least_built : LeastBuilt settings.rule (right_stage lay i settings.ranks) b c
   pub order_built :
-      OrderBuilt (lay.by_least + length right_ends) (length left_ends) (length ranks)
-      (ordered_by (held_key c lay.left_starts lay.left_ranks) (length ranks) (upto (length left_ends)) limit 0) c d
+      OrderBuilt (left_stage lay i settings.ranks)
+      (ordered_by (held_key c (left_stage lay i settings.ranks)) (length settings.ranks) (upto (length i.left.ends)) settings.limit 0) c d
   pub signed :
-      BothSigned lay.right_signatures lay.left_signatures (sets_of right_ends right_items) (sets_of left_ends left_items) d f
+      BothSigned lay.right_signatures lay.left_signatures (sets_in i.right) (sets_in i.left) d f
 
-module _ {left_ends left_items right_ends right_items ranks w : List ℕ} {nl nr : ℕ} {lay : Layout}
-    (p : Planned left_ends left_items right_ends right_items ranks nl nr lay w) where
+module _ {i : Input} {ranks w : List ℕ} {nl nr : ℕ} {lay : Layout} (p : Planned i ranks nl nr lay w) where
   abbrev T : ℕ
   T = length ranks
 
   abbrev lefts : List (List ℕ)
-  lefts = sets_of left_ends left_items
+  lefts = sets_in i.left
 
   abbrev rights : List (List ℕ)
-  rights = sets_of right_ends right_items
+  rights = sets_in i.right
 
-  pub right_room : SideRoom lay.offsets nr ranks right_ends right_items w
+  pub right_room : SideRoom lay.offsets nr ranks i.right w
   right_room =
       record {
         good = p.room.right_good;
@@ -61,7 +85,7 @@ module _ {left_ends left_items right_ends right_items ranks w : List ℕ} {nl nr
       }
 
   module _ {a : List ℕ} (right-built : SideBuilt lay.offsets nr ranks rights w a) where
-    pub left_room : SideRoom (lay.right_ranks + nr) nl ranks left_ends left_items a
+    pub left_room : SideRoom (lay.right_ranks + nr) nl ranks i.left a
     left_room =
         record {
           good = p.room.left_good;
@@ -100,17 +124,16 @@ module _ {left_ends left_items right_ends right_items ranks w : List ℕ} {nl nr
           side_set left-built.held (left_end p) v kept lay.left_starts lay.left_ranks high (left_starts_lem p)
           (left_ranks p) more k below
 
-      pub least_ranges : (s : ℕ) → s < length right_ends
+      pub least_ranges : (s : ℕ) → s < length i.right.ends
           → RegionHolds b lay.least_offsets (start_of b lay.right_starts lay.right_ranks s)
           (start_of b lay.right_starts lay.right_ranks (suc s)) (ordered T ranks (get_or rights s []))
       least_ranges s below = right_set b left-built.frame lay.least_offsets (least_below p) s (omega (arith, right_long p))
 
-      pub least_room : StageRoom lay.least_offsets lay.right_starts lay.right_ranks (length right_ends) T
-          lay.slots b
+      pub least_room : StageRoom (right_stage lay i ranks) b
       least_room =
           record {
             held =
-                ranges_held lay.right_starts lay.right_ranks lay.least_offsets (length right_ends) T b
+                ranges_held lay.right_starts lay.right_ranks lay.least_offsets (length i.right.ends) T b
                 (λ s. ordered T ranks (get_or rights s [])) least_ranges
                 (omega (arith, p.out.right_starts, p.out.right_ranks, least_below p))
                 (λ s. ordered_below T ranks (get_or rights s []))
@@ -121,21 +144,18 @@ module _ {left_ends left_items right_ends right_items ranks w : List ℕ} {nl nr
             room = omega (arith, wide p, right-built.size, left-built.size);
           }
 
-      module _ {rule : Rule} {c : List ℕ}
-          (least_built : LeastBuilt rule lay.least_offsets lay.right_starts lay.right_ranks
-          (length right_ends) T b c) where
-        pub order_ranges : (k : ℕ) → k < length left_ends
-            → RegionHolds c (lay.by_least + length right_ends) (start_of c lay.left_starts lay.left_ranks k)
+      module _ {rule : Rule} {c : List ℕ} (least_built : LeastBuilt rule (right_stage lay i ranks) b c) where
+        pub order_ranges : (k : ℕ) → k < length i.left.ends
+            → RegionHolds c (lay.by_least + length i.right.ends) (start_of c lay.left_starts lay.left_ranks k)
             (start_of c lay.left_starts lay.left_ranks (suc k)) (ordered T ranks (get_or lefts k []))
         order_ranges k below =
-            left_set c least_built.frame (lay.by_least + length right_ends) (order_above p) k (omega (arith, left_long p))
+            left_set c least_built.frame (lay.by_least + length i.right.ends) (order_above p) k (omega (arith, left_long p))
 
-        pub order_room : StageRoom (lay.by_least + length right_ends) lay.left_starts lay.left_ranks
-            (length left_ends) T lay.slots c
+        pub order_room : StageRoom (left_stage lay i ranks) c
         order_room =
             record {
               held =
-                  ranges_held lay.left_starts lay.left_ranks (lay.by_least + length right_ends) (length left_ends) T c
+                  ranges_held lay.left_starts lay.left_ranks (lay.by_least + length i.right.ends) (length i.left.ends) T c
                   (λ k. ordered T ranks (get_or lefts k [])) order_ranges
                   (omega (arith, p.out.left_starts, p.out.left_ranks, p.out.least_offsets, order_above p))
                   (λ k. ordered_below T ranks (get_or lefts k []))
@@ -148,14 +168,14 @@ module _ {left_ends left_items right_ends right_items ranks w : List ℕ} {nl nr
 
         module _ (limit : ℕ) {d : List ℕ}
             (order_built :
-            OrderBuilt (lay.by_least + length right_ends) (length left_ends) T
-            (ordered_by (held_key c lay.left_starts lay.left_ranks) T (upto (length left_ends)) limit 0) c d) where
+            OrderBuilt (left_stage lay i ranks)
+            (ordered_by (held_key c (left_stage lay i ranks)) T (upto (length i.left.ends)) limit 0) c d) where
           pub sign_room :
-              BothRoom lay.right_signatures lay.left_signatures right_ends right_items left_ends left_items d
+              BothRoom lay.right_signatures lay.left_signatures i.right i.left d
           sign_room =
               record {
-                right_within = end_within_lem T right_ends right_items p.room.right_good;
-                left_within = end_within_lem T left_ends left_items p.room.left_good;
+                right_within = end_within_lem T i.right.ends i.right.items p.room.right_good;
+                left_within = end_within_lem T i.left.ends i.left.items p.room.left_good;
                 above = omega (arith, p.out.left_signatures);
                 room =
                     omega

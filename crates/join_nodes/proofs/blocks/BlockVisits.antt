@@ -6,6 +6,7 @@ use mathlib.Core.List.{List}
 use mathlib.Core.Bool.{Bool, true, false, cond}
 use native.Mathlib.Omega.{arith}
 use lib.ListN.{length}
+use Rattle.std.specs.Prelude.{Option}
 use Rattle.lists.specs.Lists.{sum, slice}
 use Rattle.lists.proofs.Counting.{count_same, count-true}
 use Rattle.lists.proofs.Summing.{sum_same}
@@ -24,7 +25,6 @@ use Rattle.join_check.proofs.Tallying.{tallied_same}
 use Rattle.join_nodes.specs.Rows.{row, path_pairs}
 use Rattle.join_nodes.specs.Visiting.{Added, Merged, Visited}
 use Rattle.join_nodes.specs.declared.Progress.{Progress}
-use Rattle.join_nodes.specs.declared.Walked.{Walked}
 use Rattle.join_nodes.proofs.RowLaws.{MetOnly}
 use Rattle.join_nodes.proofs.PathLaws.{sum_const}
 use Rattle.join_nodes.specs.block_checks.BlockChecks.{Blocked}
@@ -46,15 +46,15 @@ module _ (q : Query) (list lefts : List ℕ) where
       ∙ sum_const (length list) lefts
 
 -- a block of checks answers for its left sets where their rows are its checks
-pub block_visited : {lay : Layout} {q : Query} {w : List ℕ} {budget d e lo hi from to : ℕ} {p : Progress} {r : Walked}
+pub block_visited : {lay : Layout} {q : Query} {w : List ℕ} {budget d e lo hi from to : ℕ} {p : Progress} {r : Option Progress}
     → RangesThere lay q w e lo hi from to → length (lefts_in lay w lo hi) ≡ hi - lo → length (slice from to w) ≡ to - from
     → ((is : Outcome → Bool) → MetOnly is
     → sum (row is q d) (lefts_in lay w lo hi) ≡ range_count q is (slice from to w) (lefts_in lay w lo hi))
     → Blocked lay w budget e lo hi from to p r → Visited q budget d (lefts_in lay w lo hi) p.tally r
 block_visited {lay} {q} {w} {budget} {d} {e} {lo} {hi} {from} {to} {p} {r} there lefts rights rows block =
     record {
-      added = λ calm.
-          record { tallied = tallied_same (λ kind. sym (rows (is_of kind) (kind_met kind))) (block.tallied calm q there) };
+      added = λ at made.
+          record { tallied = tallied_same (λ kind. sym (rows (is_of kind) (kind_met kind))) (block.tallied at made q there) };
       within = block.within;
       beyond = λ spent.
           omega (

@@ -2,14 +2,15 @@
 use Prim.Native.Nat.{ℕ, ◌+◌, ◌-◌, ◌*◌, ◌≤◌, ◌<◌}
 use mathlib.Core.Path.{◌≡◌, refl, sym, ap, ap₂, subst, ◌∙◌}
 use mathlib.Core.List.{List, [], ◌∷◌}
-use mathlib.Core.Bool.{Bool, true, false}
+use mathlib.Core.Bool.{Bool, true}
 use native.Mathlib.Omega.{arith}
 use native.Mathlib.Nat.{one-mul, mul-le-mul_right}
 use borrow.Author.Tests.{eq-eqb, ne_eqb}
 use lib.Dec.{eqb}
 use lib.ListN.{length}
+use Rattle.std.specs.Prelude.{Option, Some}
 use Rattle.lists.specs.Lists.{all, prefix, sum, slice}
-use Rattle.lists.proofs.Bools.{and_both, true-false}
+use Rattle.lists.proofs.Bools.{and_both}
 use Rattle.lists.proofs.Throughout.{all_front, all_back}
 use Rattle.lists.proofs.Slices.{frame-slice}
 use Rattle.sets.specs.Limits.{max_pairs}
@@ -32,10 +33,9 @@ use Rattle.join_nodes.specs.Rows.{row, path_pairs}
 use Rattle.join_nodes.specs.Visiting.{RangeVisited}
 use Rattle.join_nodes.specs.declared.Progress.{Progress}
 use Rattle.join_nodes.specs.declared.WalkSettings.{WalkSettings}
-use Rattle.join_nodes.specs.declared.Walked.{Walked}
 use Rattle.join_nodes.proofs.RangeLaws.{range_length, range_split, range_one}
 use Rattle.join_nodes.proofs.RowLaws.{MetOnly, row_limit}
-use Rattle.join_nodes.proofs.VisitLaws.{underway_next}
+use Rattle.join_nodes.proofs.VisitLaws.{visited_some, kept_some, underway_next}
 use Rattle.join_nodes.proofs.FrameLaws.{framed_none, index_framed, range_framed}
 use Rattle.join_nodes.proofs.PartLoop.{PartDone}
 use Rattle.join_nodes.proofs.PathLaws.{merged_checks}
@@ -83,19 +83,19 @@ module _ {lay : Layout} {st : WalkSettings} {q : Query} {path w : List ℕ} {d l
       one_row : (lo + 1 - lo) * length q.rights ≤ (hi - lo) * length q.rights
       one_row = mul-le-mul_right (length q.rights) (omega arith)
 
-  limit_next : {w' : List ℕ} {r : Walked} → lo < hi
-      → RangeVisited lay q st.budget lay.row_starts d w w' lo (lo + 1) p.tally r → r.spent ≡ false
-      → AtLimit lay st q path w' d (lo + 1) hi from to r.at
-  limit_next {w'} some visit calm =
+  limit_next : {w' : List ℕ} {r : Option Progress} → lo < hi
+      → RangeVisited lay q st.budget lay.row_starts d w w' lo (lo + 1) p.tally r → (u : Progress) → r ≡ Some u
+      → AtLimit lay st q path w' d (lo + 1) hi from to u
+  limit_next {w'} some visit u made =
       let parts = range_split lay q w lo (lo + 1) hi going.index (omega arith) (omega arith) going.few in
       let slots = going.index.ground.slots_below in
       record {
         going = record {
           index = index_framed going.index visit.framed slots;
-          underway = underway_next going.underway (visit.visited.added calm)
+          underway = underway_next going.underway (visit.visited.added u made)
               (omega (arith, range_length lay q w lo (lo + 1) going.index (omega (arith, going.few))))
-              (visit.visited.within calm);
-          rows = visit.rows calm;
+              (visit.visited.within u made);
+          rows = visit.rows u made;
           depth = going.depth;
           deep = going.deep;
           on = going.on;
@@ -114,7 +114,7 @@ module _ {lay : Layout} {st : WalkSettings} {q : Query} {path w : List ℕ} {d l
       }
 
   -- the first, visited, as a part of them
-  pub limit_done : lo < hi → {w' : List ℕ} {one : Walked}
+  pub limit_done : lo < hi → {w' : List ℕ} {one : Option Progress}
       → RangeVisited lay q st.budget lay.row_starts d w w' lo (lo + 1) p.tally one
       → PartDone lay st.budget d hi (λ path w. lay.row_starts) (λ q path w i r. AtLimit lay st q path w d i hi from to r) q
       path w lo p w' (lo + 1) one
@@ -123,7 +123,7 @@ module _ {lay : Layout} {st : WalkSettings} {q : Query} {path w : List ℕ} {d l
         facts = record { index = going.index; few = going.few; slots = going.index.ground.slots_below };
         visit = visit;
         steady = refl;
-        next = λ calm. limit_next some visit calm;
+        next = limit_next some visit;
       }
 
 -- one left set at the limit, as it was read
@@ -151,21 +151,19 @@ module _ {lay : Layout} {st : WalkSettings} {q : Query} {path w : List ℕ} {d i
   one_room = going_room at.going (i + 1 - i) (omega arith)
 
   pub one_kept : key_at q d k ≡ 0 → {w' : List ℕ} {r : Progress} → PairsKept lay w i (i + 1) from to p w' r
-      → RangeVisited lay q st.budget lay.row_starts d w w' i (i + 1) p.tally (record { at = r; spent = false })
+      → RangeVisited lay q st.budget lay.row_starts d w w' i (i + 1) p.tally (Some r)
   one_kept ends {w'} {r} pairs =
       record {
         framed = record { size = pairs.kept.size; frame = pairs.kept.frame };
-        visited = record {
-          added = λ calm.
-              merged_added (lefts_in lay w i (i + 1))
-              (λ is met.
-              rows_merge (going_rooted at.going) (slice from to w) is met at.going.on ended (going_listing at.going)
-              ∙ ap₂ (λ (m c : ℕ). path_pairs m c is) (ap length one_left ∙ omega arith) (going_length at.going))
-              pairs.merged;
-          within = λ calm. omega (arith, merged_checks pairs.merged, at.going.underway.budget);
-          beyond = λ spent. true-false spent refl;
-        };
-        rows = λ calm. pairs.kept.rows q (one_list ends);
+        visited =
+            visited_some
+            (merged_added (lefts_in lay w i (i + 1))
+            (λ is met.
+            rows_merge (going_rooted at.going) (slice from to w) is met at.going.on ended (going_listing at.going)
+            ∙ ap₂ (λ (m c : ℕ). path_pairs m c is) (ap length one_left ∙ omega arith) (going_length at.going))
+            pairs.merged)
+            (omega (arith, merged_checks pairs.merged, at.going.underway.budget));
+        rows = kept_some (pairs.kept.rows q (one_list ends));
       }
     where
       ended : all (λ k. eqb (key_at q d k) 0) (lefts_in lay w i (i + 1)) ≡ true
@@ -200,7 +198,7 @@ module _ {lay : Layout} {st : WalkSettings} {q : Query} {path w : List ℕ} {d i
           one-mul (to - from),
         )
 
-    pub one_recorded : p.top + (to - from) ≤ lay.end → {w' : List ℕ} {r : Walked}
+    pub one_recorded : p.top + (to - from) ≤ lay.end → {w' : List ℕ} {r : Option Progress}
         → RowFinished lay w st.budget k d from to p w' r
         → RangeVisited lay q st.budget lay.row_starts d w w' i (i + 1) p.tally r
     one_recorded room {w'} {r} done =
@@ -208,15 +206,15 @@ module _ {lay : Layout} {st : WalkSettings} {q : Query} {path w : List ℕ} {d i
         record {
           framed = done.framed;
           visited = record {
-            added = λ calm.
+            added = λ u made.
                 record {
                   tallied =
-                      tallied_same (λ kind. sym (one_rows (is_of kind) (kind_met kind))) (done.tallied calm q there);
+                      tallied_same (λ kind. sym (one_rows (is_of kind) (kind_met kind))) (done.tallied u made q there);
                 };
             within = done.within;
             beyond = λ spent. omega (arith, done.beyond spent, one_checks);
           };
-          rows = λ calm. done.rows calm q there;
+          rows = λ u made. done.rows u made q there;
         }
 
     pub one_small : Small st.budget i (i + 1) from to p.tally
@@ -229,7 +227,7 @@ module _ {lay : Layout} {st : WalkSettings} {q : Query} {path w : List ℕ} {d i
           covered = at.going.underway.budget;
         }
 
-    pub one_blocked : {r : Walked} → Blocked lay w st.budget d i (i + 1) from to p r
+    pub one_blocked : {r : Option Progress} → Blocked lay w st.budget d i (i + 1) from to p r
         → RangeVisited lay q st.budget lay.row_starts d w w i (i + 1) p.tally r
     one_blocked {r} block =
         record {
@@ -237,5 +235,5 @@ module _ {lay : Layout} {st : WalkSettings} {q : Query} {path w : List ℕ} {d i
           visited =
               block_visited (going_there at.going) (ap length one_left ∙ omega arith) (going_length at.going)
               (λ is met. one_rows is met ∙ sym (one_count is)) block;
-          rows = λ calm. subst (RowsKept lay q w) (sym block.top) at.going.rows;
+          rows = λ u made. subst (RowsKept lay q w) (sym (block.top u made)) at.going.rows;
         }

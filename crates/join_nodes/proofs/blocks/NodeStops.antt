@@ -7,6 +7,7 @@ use mathlib.Core.Bool.{Bool, true, false, not}
 use native.Mathlib.Omega.{arith}
 use borrow.Author.Tests.{not-true, not-false}
 use lib.ListN.{length}
+use Rattle.std.specs.Prelude.{Option}
 use Rattle.lists.specs.Lists.{prefix, slice}
 use Rattle.lists.proofs.Filtering.{all_kept}
 use Rattle.lists.proofs.Slices.{length-slice}
@@ -25,7 +26,6 @@ use Rattle.join_nodes.specs.Narrowing.{Candidates, slot_of}
 use Rattle.join_nodes.specs.Visiting.{Node, NodeAt, NodeVisited}
 use Rattle.join_nodes.specs.declared.Progress.{Progress}
 use Rattle.join_nodes.specs.declared.WalkSettings.{WalkSettings}
-use Rattle.join_nodes.specs.declared.Walked.{Walked}
 use Rattle.join_nodes.proofs.RangeLaws.{range_length}
 use Rattle.join_nodes.proofs.NodeFacts.{stop_asks}
 use Rattle.join_nodes.proofs.FrameLaws.{framed_none}
@@ -90,12 +90,12 @@ module _ {lay : Layout} {st : WalkSettings} {q : Query} {path w : List ℕ} {d l
         covered = node.underway.budget;
       }
 
-  pub stop_visited : {r : Walked} → false ≡ goes q path → Blocked lay w st.budget (d - 1) lo hi from to p r
+  pub stop_visited : {r : Option Progress} → false ≡ goes q path → Blocked lay w st.budget (d - 1) lo hi from to p r
       → NodeVisited lay st q path w w d lo hi p.tally r
   stop_visited {r} stop block =
       record {
         framed = framed_none (slot_of lay w (last_of path)) w;
         visited = block_visited (stop_there stop) (range_length lay q w lo hi index node.at.few) (length-slice from to w part_within)
             (λ is met. rows_stop node_rooted (slice from to w) is met (sym stop) (cands.listing (stop_asks q path stop))) block;
-        rows = λ calm. subst (RowsKept lay q w) (sym block.top) node.rows;
+        rows = λ u made. subst (RowsKept lay q w) (sym (block.top u made)) node.rows;
       }

@@ -1,16 +1,17 @@
 -- A node where the walk goes on and no candidate is left: whatever the rule decides below it, no left set of it meets a right set, so
 -- its visit is over with the counters as they are.
 use Prim.Native.Nat.{ℕ, zero, suc, ◌+◌, ◌-◌, ◌≤◌, ◌<◌}
-use mathlib.Core.Path.{◌≡◌, refl, sym, subst, ◌∙◌}
+use mathlib.Core.Path.{◌≡◌, sym, subst, ◌∙◌}
 use mathlib.Core.List.{List, [], ◌∷◌}
-use mathlib.Core.Bool.{Bool, true, false, ◌&&◌}
+use mathlib.Core.Bool.{Bool, true, ◌&&◌}
 use native.Mathlib.Omega.{arith}
 use borrow.Author.Tests.{leb-true, leb-false}
 use lib.Dec.{leb}
 use lib.ListN.{length, take}
 use lib.Seq.{take-take}
+use Rattle.std.specs.Prelude.{Some}
 use Rattle.lists.specs.Lists.{count, memb, subset, prefix, sum, upto}
-use Rattle.lists.proofs.Bools.{by_test, and_left, and_right, and_both, true-false}
+use Rattle.lists.proofs.Bools.{by_test, and_left, and_right, and_both}
 use Rattle.lists.proofs.Throughout.{all_take}
 use Rattle.lists.proofs.Counting.{count_le}
 use Rattle.lists.proofs.Summing.{sum_same_where}
@@ -35,6 +36,7 @@ use Rattle.join_nodes.proofs.Narrowing.{listing_kept}
 use Rattle.join_nodes.proofs.Prefixes.{prefix-length}
 use Rattle.join_nodes.proofs.RowLaws.{MetOnly, row_stops, row_limit, row_merges, row_deeper}
 use Rattle.join_nodes.proofs.PathLaws.{paths_one}
+use Rattle.join_nodes.proofs.VisitLaws.{visited_some, kept_some}
 use Rattle.join_nodes.proofs.blocks.BlockLaws.{Rooted, listing_left, left_goes}
 use Rattle.join_nodes.proofs.blocks.GoingLaws.{going_rooted}
 use Rattle.join_nodes.proofs.blocks.NodeRows.{empty_list}
@@ -114,17 +116,15 @@ pub empty_kept : {lay : Layout} {st : WalkSettings} {q : Query} {path w w' w'' :
     {part : Part} → Onward lay st q path w w' d lo hi from to p part p.top → part.to ≤ part.«from»
     → ListKept lay w' lo hi part.«from» part.to p.top w'' top
     → RangeVisited lay q st.budget lay.row_starts d w' w'' lo hi p.tally
-    (record { at = record { tally = p.tally; top = top }; spent = false })
+    (Some (record { tally = p.tally; top = top }))
 empty_kept {lay} {q = q} {path} {w' = w'} {d = d} {lo} {hi} {part = part} so empty kept =
     record {
       framed = record { size = kept.size; frame = kept.frame };
-      visited = record {
-        added = λ calm.
-            record { tallied = record { grows = λ kind. omega (arith, nothing (is_of kind) (kind_met kind)) } };
-        within = λ calm. so.node.underway.budget;
-        beyond = λ spent. true-false spent refl;
-      };
-      rows = λ calm. kept.rows q (empty_list (onward_going so) empty);
+      visited =
+          visited_some
+          (record { tallied = record { grows = λ kind. omega (arith, nothing (is_of kind) (kind_met kind)) } })
+          so.node.underway.budget;
+      rows = kept_some (kept.rows q (empty_list (onward_going so) empty));
     }
   where
     nothing : (is : Outcome → Bool) → MetOnly is → sum (row is q d) (lefts_in lay w' lo hi) ≡ 0

@@ -1,15 +1,16 @@
 -- A node where the walk goes on below the limit: the left sets that end there come first and pair by path, and the others are its
 -- children.
-use Prim.Native.Nat.{ℕ, suc, ◌+◌, ◌-◌, ◌≤◌, ◌<◌}
-use mathlib.Core.Path.{◌≡◌, refl, sym, ap, ap₂, subst, ◌∙◌}
+use Prim.Native.Nat.{ℕ, suc, ◌-◌, ◌≤◌, ◌<◌}
+use mathlib.Core.Path.{◌≡◌, sym, ap, ap₂, subst, ◌∙◌}
 use mathlib.Core.List.{List, ◌++◌}
-use mathlib.Core.Bool.{Bool, true, false, ◌&&◌, not}
+use mathlib.Core.Bool.{Bool, true, ◌&&◌, not}
 use native.Mathlib.Omega.{arith}
 use borrow.Author.Tests.{not-true}
 use lib.Dec.{eqb}
 use lib.ListN.{length, take}
+use Rattle.std.specs.Prelude.{Option, Some}
 use Rattle.lists.specs.Lists.{all, prefix, sum, slice}
-use Rattle.lists.proofs.Bools.{and_left, and_right, true-false}
+use Rattle.lists.proofs.Bools.{and_left, and_right}
 use Rattle.lists.proofs.Throughout.{all_back}
 use Rattle.lists.proofs.Filtering.{all_kept, all_keep}
 use Rattle.lists.proofs.Summing.{sum_same_where}
@@ -31,13 +32,12 @@ use Rattle.join_nodes.specs.Visiting.{Framed, beginners}
 use Rattle.join_nodes.specs.declared.narrow.Part.{Part}
 use Rattle.join_nodes.specs.declared.Progress.{Progress}
 use Rattle.join_nodes.specs.declared.WalkSettings.{WalkSettings}
-use Rattle.join_nodes.specs.declared.Walked.{Walked}
 use Rattle.join_nodes.proofs.RangeLaws.{Cut, range_length, range_split}
 use Rattle.join_nodes.proofs.Narrowing.{listing_kept}
 use Rattle.join_nodes.proofs.Prefixes.{prefix-take}
 use Rattle.join_nodes.proofs.RowLaws.{row_deeper}
 use Rattle.join_nodes.proofs.PathLaws.{merged_checks}
-use Rattle.join_nodes.proofs.VisitLaws.{visited_then, visited_rows, underway_next}
+use Rattle.join_nodes.proofs.VisitLaws.{visited_some, kept_some, visited_then, visited_rows, underway_next}
 use Rattle.join_nodes.proofs.FrameLaws.{slot_framed, range_framed, framed_then}
 use Rattle.join_nodes.specs.blocks.Blocks.{MergedEnd}
 use Rattle.join_nodes.proofs.blocks.GroupSteps.{ended_at, going_on, ended_keys, going_keys, beginners-grouped, ended_cut}
@@ -115,17 +115,14 @@ module _ {lay : Layout} {st : WalkSettings} {q : Query} {path w w' : List ℕ} {
 
       -- no left set goes on
       pub all_merged : hi ≤ mid
-          → NodeVisited lay st q path w w' d lo hi p.tally (record { at = record { tally = m; top = top }; spent = false })
+          → NodeVisited lay st q path w w' d lo hi p.tally (Some (record { tally = m; top = top }))
       all_merged past =
           let same : mid ≡ hi = omega (arith, end.high) in
           record {
             framed = framed;
-            visited = record {
-              added = λ calm. subst (λ (n : ℕ). Added q d (lefts_in lay w lo n) p.tally m) same merged_lefts;
-              within = λ calm. merged_budget;
-              beyond = λ spent. true-false spent refl;
-            };
-            rows = λ calm. so.rows;
+            visited =
+                visited_some (subst (λ (n : ℕ). Added q d (lefts_in lay w lo n) p.tally m) same merged_lefts) merged_budget;
+            rows = kept_some so.rows;
           }
 
       -- the others are the node's children
@@ -182,7 +179,7 @@ module _ {lay : Layout} {st : WalkSettings} {q : Query} {path w w' : List ℕ} {
           (key_longer q d k more) (omega (arith, so.node.underway.limit))))
 
       -- and their visit makes the node's
-      pub children_visited : {w'' : List ℕ} {r : Walked} → ChildrenVisited lay st q path w' w'' d mid hi m r
+      pub children_visited : {w'' : List ℕ} {r : Option Progress} → ChildrenVisited lay st q path w' w'' d mid hi m r
           → NodeVisited lay st q path w w'' d lo hi p.tally r
       children_visited {w''} {r} done =
           record {

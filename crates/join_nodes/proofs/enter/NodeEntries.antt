@@ -1,15 +1,16 @@
 -- A node where the walk goes on, entered: those of its left sets that end there are settled, and what is left are its children.
-use Prim.Native.Nat.{ℕ, ◌+◌, ◌<◌}
-use mathlib.Core.Path.{◌≡◌, sym, ap, ◌∙◌}
+use Prim.Native.Nat.{ℕ, ◌+◌, ◌≤◌, ◌<◌}
+use mathlib.Core.Path.{◌≡◌, sym, ap, subst, ◌∙◌}
 use mathlib.Core.List.{List}
-use mathlib.Core.Bool.{false}
 use native.Mathlib.Omega.{arith}
 use lib.Dec.{eqb}
+use Rattle.std.specs.Prelude.{Option, Some, None}
+use Rattle.std.proofs.lemmas.Option.{none-some, same_Some}
 use Rattle.join_spec.specs.Query.{Query}
 use Rattle.join_index.specs.Grouping.{key_at}
 use Rattle.join_index.specs.declared.Layout.{Layout}
 use Rattle.join_index.specs.Ranges.{lead}
-use Rattle.join_nodes.specs.Visiting.{Framed, NodeVisited}
+use Rattle.join_nodes.specs.Visiting.{Framed, ChildrenAt, NodeVisited, ChildrenVisited}
 use Rattle.join_nodes.specs.declared.narrow.Part.{Part}
 use Rattle.join_nodes.specs.declared.Progress.{Progress}
 use Rattle.join_nodes.specs.declared.WalkSettings.{WalkSettings}
@@ -23,13 +24,26 @@ use Rattle.join_nodes.proofs.enter.NodeChildren.{all_merged, node_children, chil
 
 -- the visit of the node is over
 pub entered_over : {lay : Layout} {st : WalkSettings} {q : Query} {path w w' : List ℕ} {d lo hi : ℕ} {p : Progress} {r : Entered}
-    → r.mid ≡ hi → NodeVisited lay st q path w w' d lo hi p.tally (record { at = r.at; spent = r.spent })
-    → NodeEntered lay st q path w w' d lo hi p r
-entered_over end visited =
+    → r.mid ≡ hi → NodeVisited lay st q path w w' d lo hi p.tally (Some r.at)
+    → NodeEntered lay st q path w w' d lo hi p (Some r)
+entered_over {lay} {st} {q} {path} {w} {w'} {d} {lo} {hi} {p} {r} end visited =
     record {
-      over = λ past. visited;
-      kids = λ more. absurd (omega (arith, end, more));
-      rest = λ more w'' one done. absurd (omega (arith, end, more));
+      over = λ on is past.
+          subst (λ (s : Entered). NodeVisited lay st q path w w' d lo hi p.tally (Some s.at)) (same_Some r on is) visited;
+      spent = λ none. absurd (none-some r (sym none));
+      kids = λ on is more. absurd (omega (arith, end, more, ap (λ (s : Entered). s.mid) (same_Some r on is)));
+      rest = λ on is more w'' one done. absurd (omega (arith, end, more, ap (λ (s : Entered). s.mid) (same_Some r on is)));
+    }
+
+-- or the budget is spent
+pub entered_spent : {lay : Layout} {st : WalkSettings} {q : Query} {path w w' : List ℕ} {d lo hi : ℕ} {p : Progress}
+    → NodeVisited lay st q path w w' d lo hi p.tally None → NodeEntered lay st q path w w' d lo hi p None
+entered_spent visited =
+    record {
+      over = λ on is past. absurd (none-some on is);
+      spent = λ none. visited;
+      kids = λ on is more. absurd (none-some on is);
+      rest = λ on is more w'' one done. absurd (none-some on is);
     }
 
 -- where left sets end stays while only rows change
@@ -53,12 +67,23 @@ pub entered-settled : {lay : Layout} {st : WalkSettings} {q : Query} {path w w' 
     {part : Part} {s : Settled} → Onward lay st q path w w' d lo hi from to p part p.top → d < st.limit
     → Settles lay st w' d lo hi part.«from» part.to p w'' s
     → NodeEntered lay st q path w w'' d lo hi p
-    (record { at = s.at; spent = false; mid = s.mid; «from» = part.«from»; to = part.to })
-entered-settled {q = q} {path = path} so deeper settles =
+    (Some (record { at = s.at; mid = s.mid; «from» = part.«from»; to = part.to }))
+entered-settled {lay} {st} {q} {path} {w} {w'' = w₂} {d} {lo} {hi} {p = p} {part} {s} so deeper settles =
     let after = onward_kept so settles.framed (settles.rows q path (onward_going so)) in
     let end = end_framed settles.framed settles.end in
+    let here : Entered = record { at = s.at; mid = s.mid; «from» = part.«from»; to = part.to } in
+    let is_on : (on : Entered) → Some here ≡ Some on → here ≡ on = λ on is. same_Some here on is in
     record {
-      over = λ past. all_merged after deeper end settles.merged past;
-      kids = λ more. node_children after deeper end settles.merged more;
-      rest = λ more w'' one done. children_visited after deeper end settles.merged done;
+      over = λ on is.
+          subst (λ (e : Entered). hi ≤ e.mid → NodeVisited lay st q path w w₂ d lo hi p.tally (Some e.at)) (is_on on is)
+          (λ past. all_merged after deeper end settles.merged past);
+      spent = λ none. absurd (none-some here (sym none));
+      kids = λ on is.
+          subst (λ (e : Entered). e.mid < hi → ChildrenAt lay st q path w₂ d e.mid hi e.«from» e.to e.at) (is_on on is)
+          (λ more. node_children after deeper end settles.merged more);
+      rest = λ on is.
+          subst (λ (e : Entered). e.mid < hi → (w' : List ℕ) (one : Option Progress)
+          → ChildrenVisited lay st q path w₂ w' d e.mid hi e.at.tally one
+          → NodeVisited lay st q path w w' d lo hi p.tally one) (is_on on is)
+          (λ more w' one done. children_visited after deeper end settles.merged done);
     }

@@ -5,6 +5,7 @@ use mathlib.Core.List.{List}
 use mathlib.Core.Bool.{true}
 use native.Mathlib.Omega.{arith}
 use lib.ListN.{length, get_or}
+use Rattle.std.specs.Prelude.{Option}
 use Rattle.lists.specs.Lists.{slice}
 use Rattle.lists.proofs.Slices.{length-slice, frame-slice}
 use Rattle.join_spec.specs.Query.{Query}
@@ -21,7 +22,6 @@ use Rattle.join_nodes.specs.Visiting.{Framed, RangeVisited}
 use Rattle.join_nodes.specs.declared.narrow.Part.{Part}
 use Rattle.join_nodes.specs.declared.Progress.{Progress}
 use Rattle.join_nodes.specs.declared.WalkSettings.{WalkSettings}
-use Rattle.join_nodes.specs.declared.Walked.{Walked}
 use Rattle.join_nodes.proofs.NodeFacts.{last_read}
 use Rattle.join_nodes.proofs.FrameLaws.{index_framed, range_framed, framed_then, rows_inside, slot_low}
 use Rattle.join_nodes.specs.blocks.Blocks.{Going, AtLimit}
@@ -107,7 +107,7 @@ module _ {lay : Layout} {st : WalkSettings} {q : Query} {path w w' : List ℕ} {
       }
 
   -- its left sets were visited while only rows changed
-  pub limit_visited : {w'' : List ℕ} {r : Walked} → RangeVisited lay q st.budget lay.row_starts d w' w'' lo hi p.tally r
+  pub limit_visited : {w'' : List ℕ} {r : Option Progress} → RangeVisited lay q st.budget lay.row_starts d w' w'' lo hi p.tally r
       → NodeVisited lay st q path w w'' d lo hi p.tally r
   limit_visited {w''} {r} done =
       record {

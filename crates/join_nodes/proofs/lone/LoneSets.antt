@@ -3,14 +3,15 @@
 use Prim.Native.Nat.{ℕ, zero, suc, ◌+◌, ◌-◌, ◌*◌, ◌≤◌}
 use mathlib.Core.Path.{◌≡◌, refl, sym, ap, subst, ◌∙◌}
 use mathlib.Core.List.{List, [], ◌∷◌}
-use mathlib.Core.Bool.{Bool, false}
+use mathlib.Core.Bool.{Bool}
 use native.Mathlib.Omega.{arith}
 use native.Mathlib.Nat.{one-mul}
 use borrow.Author.Tests.{leb-true}
 use lib.Dec.{leb}
 use lib.ListN.{length, take, get_or}
+use Rattle.std.specs.Prelude.{Some}
 use Rattle.lists.specs.Lists.{sum, upto}
-use Rattle.lists.proofs.Bools.{by_test, true-false}
+use Rattle.lists.proofs.Bools.{by_test}
 use Rattle.lists.proofs.Counting.{count_bound}
 use Rattle.lists.proofs.Filtering.{length-keep}
 use Rattle.lists.proofs.Ranges.{length-range}
@@ -36,6 +37,7 @@ use Rattle.join_nodes.specs.declared.WalkSettings.{WalkSettings}
 use Rattle.join_nodes.proofs.Narrowing.{listing_kept}
 use Rattle.join_nodes.proofs.RangeLaws.{range_one}
 use Rattle.join_nodes.proofs.Prefixes.{prefix-length}
+use Rattle.join_nodes.proofs.VisitLaws.{visited_some, kept_some}
 use Rattle.join_nodes.proofs.NodeFacts.{merge_goes}
 use Rattle.join_nodes.proofs.RowLaws.{MetOnly, row_merges, row_deeper}
 use Rattle.join_nodes.proofs.PathLaws.{paths_all, merged_checks}
@@ -131,14 +133,12 @@ module _ {lay : Layout} {st : WalkSettings} {q : Query} {path w : List ℕ} {d l
     -- and they are its visit
     pub lone_kept : {m : Tally} → Merged 1 (row.top - p.top) p.tally m
         → RangeVisited lay q st.budget lay.row_starts d w w' lo (lo + 1) p.tally
-        (record { at = record { tally = m; top = row.top }; spent = false })
+        (Some (record { tally = m; top = row.top }))
     lone_kept merged =
         record {
           framed = record { size = recorded.size; frame = recorded.frame };
-          visited = record {
-            added = λ calm. merged_added (lefts_in lay w lo (lo + 1)) rows merged;
-            within = λ calm. omega (arith, merged_checks merged, going.underway.budget);
-            beyond = λ spent. true-false spent refl;
-          };
-          rows = λ calm. recorded.rows q lone_record;
+          visited =
+              visited_some (merged_added (lefts_in lay w lo (lo + 1)) rows merged)
+              (omega (arith, merged_checks merged, going.underway.budget));
+          rows = kept_some (recorded.rows q lone_record);
         }

@@ -1,6 +1,6 @@
 -- Inner: left sets that are paired by path or checked, and their kept rows. And the left sets of a node where the walk goes on: those
 -- that end there, and those at the limit.
-use Rattle.std.specs.Prelude.{ℕ, ◌+◌, ◌-◌, ◌≤◌, ◌<◌, ◌≡◌, List, true, false, eqb, length}
+use Rattle.std.specs.Prelude.{ℕ, ◌+◌, ◌-◌, ◌≤◌, ◌<◌, ◌≡◌, List, true, eqb, length, Option, Some, None}
 use Rattle.lists.specs.Lists.{all, prefix, slice}
 use Rattle.join_spec.specs.Query.{Query}
 use Rattle.join_spec.specs.Walk.{goes}
@@ -17,7 +17,6 @@ use Rattle.join_nodes.specs.Narrowing.{candidate_list}
 use Rattle.join_nodes.specs.Visiting.{Underway, Merged, Framed}
 use Rattle.join_nodes.specs.declared.Progress.{Progress}
 use Rattle.join_nodes.specs.declared.WalkSettings.{WalkSettings}
-use Rattle.join_nodes.specs.declared.Walked.{Walked}
 use Rattle.join_nodes.specs.declared.blocks.Settled.{Settled}
 
 -- r is where the left sets end that come first from lo and have no rank after depth d
@@ -33,14 +32,15 @@ pub record PairsKept (lay : Layout) (w : List ℕ) (lo hi from to : ℕ) (p : Pr
 
 -- the left set k was checked against the right sets listed in work[from..to] and its row is kept; or that would have exceeded the
 -- budget
-pub record RowFinished (lay : Layout) (w : List ℕ) (budget k e from to : ℕ) (p : Progress) (w' : List ℕ) (r : Walked) : Type 0 where
+pub record RowFinished (lay : Layout) (w : List ℕ) (budget k e from to : ℕ) (p : Progress) (w' : List ℕ)
+    (r : Option Progress) : Type 0 where
   pub framed : Framed lay.row_starts w w'
-  pub rows : r.spent ≡ false → (q : Query) → RowRecordable lay q w k e from to p.top → RowsKept lay q w' r.at.top
+  pub rows : (at : Progress) → r ≡ Some at → (q : Query) → RowRecordable lay q w k e from to p.top → RowsKept lay q w' at.top
   pub tallied :
-      r.spent ≡ false → (q : Query) → RowRecordable lay q w k e from to p.top
-      → Tallied (λ is. row_count q is (slice from to w) k) p.tally r.at.tally
-  pub within : r.spent ≡ false → checks_in r.at.tally ≤ budget
-  pub beyond : r.spent ≡ true → budget < checks_in p.tally + (to - from)
+      (at : Progress) → r ≡ Some at → (q : Query) → RowRecordable lay q w k e from to p.top
+      → Tallied (λ is. row_count q is (slice from to w) k) p.tally at.tally
+  pub within : (at : Progress) → r ≡ Some at → checks_in at.tally ≤ budget
+  pub beyond : r ≡ None → budget < checks_in p.tally + (to - from)
 
 -- a node where the walk goes on: the left sets in left_order[lo..hi] begin with the path, and work[from..to] lists the candidates
 -- after it

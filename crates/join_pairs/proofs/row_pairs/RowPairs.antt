@@ -1,13 +1,13 @@
 -- The pairs of one left set with a list of right places, one by one.
 use Prim.Native.Nat.{ℕ, ◌+◌, ◌≤◌, ◌<◌}
-use mathlib.Core.Path.{◌≡◌, refl, sym, ap, ◌∙◌}
+use mathlib.Core.Path.{◌≡◌, refl, ap}
 use mathlib.Core.List.{List, [], ◌∷◌, ◌++◌}
 use mathlib.Core.Bool.{Bool, true, false}
-use lib.ListN.{length}
-use Rattle.lists.specs.Lists.{onto, keep, slice}
-use Rattle.lists.proofs.Slices.{slice_next, slice_past}
+use native.Mathlib.Numerals.{add-one}
+use lib.ListN.{length, get_or, drop, drop_of_length-le}
+use lib.Seq.{drop-cons}
+use Rattle.lists.specs.Lists.{onto, keep}
 use Rattle.join_spec.specs.PairList.{onto_pair}
-use Rattle.words.specs.Words.{Word}
 use Rattle.join_pairs.specs.row_pairs.Containing.{pairs_with}
 
 -- one place after the other
@@ -24,14 +24,12 @@ pub row_none : (p : ℕ → Bool) (k : ℕ) → pairs_with k (keep p []) ≡ []
 unfolding pairs_with keep
 row_none p k = refl
 
--- the places of a part of the work list
-pub kept_next : {w : List ℕ} {i s : ℕ} (k : ℕ) → Word w i s → {to : ℕ} → i < to → to ≤ length w
-    → pairs_with k (slice i to w) ≡ onto_pair true k s [] ++ pairs_with k (slice (i + 1) to w)
+-- place by place of a list
+pub kept_next : (k : ℕ) (places : List ℕ) (i : ℕ) → i < length places
+    → pairs_with k (drop i places) ≡ onto_pair true k (get_or places i 0) [] ++ pairs_with k (drop (i + 1) places)
 unfolding pairs_with
-kept_next {w} {i} {s} k word {to} more within =
-    ap (pairs_with k) (slice_next i to w more within)
-    ∙ ap (λ (x : ℕ). k ∷ x ∷ pairs_with k (slice (i + 1) to w)) (sym word.is)
+kept_next k places i more = rw (add-one i) (ap (pairs_with k) (drop-cons places i 0 more))
 
-pub kept_none : (k : ℕ) (w : List ℕ) (i to : ℕ) → to ≤ i → pairs_with k (slice i to w) ≡ []
+pub kept_none : (k : ℕ) (places : List ℕ) (i : ℕ) → length places ≤ i → pairs_with k (drop i places) ≡ []
 unfolding pairs_with
-kept_none k w i to past = ap (pairs_with k) (slice_past i to w past)
+kept_none k places i past = ap (pairs_with k) (drop_of_length-le places {i = i} past)

@@ -5,14 +5,14 @@ use mathlib.Core.List.{List}
 use mathlib.Core.Bool.{true}
 use native.Mathlib.Omega.{arith}
 use lib.Dec.{ltb}
-use lib.ListN.{length, get_or}
+use lib.ListN.{length, get_or, take, drop}
 use borrow.Author.Tests.{ltb-true}
 use Rattle.lists.specs.Lists.{all, memb, rising, slice, upto}
 use Rattle.lists.proofs.Membership.{memb_at}
 use Rattle.lists.proofs.Filtering.{all_keep}
 use Rattle.lists.proofs.Ranges.{all_upto}
 use Rattle.lists.proofs.Rising.{rising-keep, rising-range}
-use Rattle.lists.proofs.Slices.{length-slice, get_d_slice, all_slice}
+use Rattle.lists.proofs.Slices.{slice_from, length-slice, get_d_slice, all_slice}
 use Rattle.join_spec.specs.Query.{Query}
 use Rattle.join_index.specs.Grouping.{right_at}
 use Rattle.join_index.specs.Ground.{inverted_list}
@@ -94,6 +94,13 @@ pub slice-memb : {w : List ℕ} {i r : ℕ} → Word w i r → (from to : ℕ) �
 slice-memb {w} {i} word from to low high within =
     subst (λ (n : ℕ). memb n (slice from to w) ≡ true) (slice_at w from to i low high ∙ sym word.is)
     (memb_at (slice from to w) (i - from) 0 (omega (arith, length-slice from to w within)))
+
+-- a word of a part, read from the part
+pub part_word : (from to i : ℕ) (w : List ℕ) → from + i < to → get_or w (from + i) 0 < 4294967296
+    → Word w (from + i) (get_or (take (to - from) (drop from w)) i 0)
+part_word from to i w more small =
+    let is = ap (λ (l : List ℕ). get_or l i 0) (sym (slice_from from to w)) ∙ get_d_slice 0 from to i w more in
+    record { is = is; small = omega (arith, is) }
 
 -- a word of a part that holds ranks is a rank
 pub slice_rank : {lay : Layout} {q : Query} {w : List ℕ} {from to : ℕ} → RanksThere lay q w from to

@@ -10,6 +10,7 @@ use lib.ListN.{length, get_or, take}
 use borrow.Author.Tests.{ltb-true}
 use Rattle.lists.specs.Lists.{all, keep, memb, subset, rising, slice, upto}
 use Rattle.lists.proofs.Bools.{and_left, and_right}
+use Rattle.lists.proofs.Membership.{memb-some}
 use Rattle.lists.proofs.Throughout.{all_elim, all_intro, subset_elim}
 use Rattle.lists.proofs.Filtering.{memb-keep, all_keep, all_kept, keep_through}
 use Rattle.lists.proofs.Rising.{rising-keep, rising_below}
@@ -44,6 +45,9 @@ subset-rest x xs ys h = rw h
 module _ {lay : Layout} {q : Query} {w : List ℕ} {from to pivot : ℕ} (there : FindThere lay q w from to pivot) where
   within : to ≤ length w
   within = omega (arith, there.within, there.index.room)
+
+  pub some_ranks : from < to
+  some_ranks = omega (arith, memb-some pivot (slice from to w) there.there, length-slice from to w within)
 
   pub pivot_there : RankThere lay q w pivot
   pivot_there =

@@ -1,4 +1,4 @@
-use Prim.Native.Nat.{ℕ, ◌+◌, ◌-◌, ◌≤◌, ◌<◌}
+use Prim.Native.Nat.{ℕ, ◌+◌, ◌≤◌, ◌<◌}
 use mathlib.Core.Path.{◌≡◌}
 use mathlib.Core.List.{List, ◌++◌}
 use native.Mathlib.Omega.{arith}
@@ -77,25 +77,9 @@ write_left-n-requires c =
       clear_2 = c.loop-k.invariant.1;
     }
 
-pub overflow_add-k : goal.overflow_add-k
-overflow_add-k c = omega (arith, c.loop-k-test.true)
-
-pub loop-k-smaller : goal.loop-k-smaller
-loop-k-smaller c = omega (arith, c.loop-k-test.true)
-
 pub loop-k-preserved : goal.loop-k-preserved
 loop-k-preserved c =
     (pairs-step c.loop-k.invariant.0 c.loop-k-test.true c.write_left-n.ensures.wrote, c.write_left-n.ensures.clear)
-
-pub shape_of-work : goal.shape_of-work
-shape_of-work c = c.loop-k.invariant.0.changed.size
-
-pub shape_of-flags : goal.shape_of-flags
-shape_of-flags c = omega (arith, c.loop-k.invariant.1.size, c.requires.clear.size)
-
-pub shape_of-pairs : goal.shape_of-pairs
-shape_of-pairs c =
-    (c.loop-k.invariant.0.written c.requires.some_query.query c.requires.some_query.holds).same
 
 pub returns : goal.returns
 returns c = pairs_end c.loop-k.invariant.0 c.loop-k-test.false

@@ -1,5 +1,6 @@
 -- `join_text::list_ordered` meets its contract: the text of what the run answered and filled.
-use Rattle.inputs.specs.Input.{Input, input_of}
+use mathlib.Core.Path.{sym}
+use Rattle.inputs.specs.Input.{Input, lent_input}
 use Rattle.join_spec.specs.Query.{Settings}
 use Rattle.join_spec.specs.Answer.{RunCall}
 use Rattle.join_text.specs.JoinText.{settings_under}
@@ -9,15 +10,13 @@ use Rattle.join_text.proofs.list_ordered.Goals as goal
 use Rattle.join_text.proofs.list_ordered.Goals.{After-run-answer}
 
 abbrev input : After-run-answer → Input
-input p =
-    let a = p.args in
-    input_of a.t a.left_ends.now a.left_items.now a.right_ends.now a.right_items.now
+input p = lent_input p.args.input.now
 
 abbrev asked : After-run-answer → Settings
 asked p = settings_under p.args.ranks.now
 
 ran : (p : After-run-answer)
-    → RunCall (input p) (asked p) p.new_work-work.result p.new_pairs-pairs.result
+    → RunCall (input p) (asked p) p.filled-work.result p.filled-pairs.result
     p.run-answer.new.work p.run-answer.new.pairs p.run-answer.result
 ran p = p.run-answer.ensures
 
@@ -25,12 +24,12 @@ pub put_answer-requires : goal.put_answer-requires
 put_answer-requires c =
     let a = c.args in
     answer_fits (input (goal.at.put_answer-requires c).After-run-answer) (asked (goal.at.put_answer-requires c).After-run-answer) a.repeats a.left_numbers.now a.right_numbers.now (ran (goal.at.put_answer-requires c).After-run-answer)
-    c.new_pairs-pairs.ensures _ c.run-answer.auto.pairs c.requires.room
+    (sym c.filled-pairs.ensures) _ c.run-answer.auto.pairs c.requires.room
     c.requires.lefts c.requires.rights
 
 pub returns : goal.returns
 returns c =
     let a = c.args in
     fills_same (call_text (input (goal.at.returns c).After-run-answer) (asked (goal.at.returns c).After-run-answer) a.repeats a.left_numbers.now a.right_numbers.now (ran (goal.at.returns c).After-run-answer)
-    c.new_pairs-pairs.ensures c.new_work-work.ensures)
+    (sym c.filled-pairs.ensures) (sym c.filled-work.ensures))
     (put_fills c.put_answer.ensures.put c.put_answer.ensures.upper_bound)

@@ -7,6 +7,7 @@ use mathlib.Core.List.{List, [], ◌∷◌}
 use mathlib.Core.Bool.{true, false, and-true}
 use native.Mathlib.Omega.{arith}
 use lib.ListN.{length, get_or}
+use Rattle.std.specs.Prelude.{Option, Some}
 use Rattle.lists.specs.Lists.{all, prefix, slice}
 use Rattle.lists.proofs.Bools.{true-false}
 use Rattle.lists.proofs.Slices.{slice_past}
@@ -26,7 +27,6 @@ use Rattle.join_nodes.specs.Narrowing.{slot_of}
 use Rattle.join_nodes.specs.Visiting.{Node, NodeVisited}
 use Rattle.join_nodes.specs.declared.Progress.{Progress}
 use Rattle.join_nodes.specs.declared.WalkSettings.{WalkSettings}
-use Rattle.join_nodes.specs.declared.Walked.{Walked}
 use Rattle.join_nodes.proofs.Narrowing.{listing_same, listing_few, narrow_first}
 use Rattle.join_nodes.proofs.NodeFacts.{on_key, unasked_goes}
 use Rattle.join_nodes.proofs.RangeLaws.{begins_first}
@@ -147,11 +147,11 @@ module _ {lay : Layout} {st : WalkSettings} {q : Query} {w : List ℕ} {lo hi : 
 
       pub unheld_visited : {w' : List ℕ} {top : ℕ} → ListKept lay w lo hi lay.slots lay.slots p.top w' top
           → NodeVisited lay st q (r ∷ []) w w' 1 lo hi p.tally
-          (record { at = record { tally = p.tally; top = top }; spent = false })
+          (Some (record { tally = p.tally; top = top }))
       unheld_visited kept = limit_visited unheld (empty_kept unheld (omega arith) kept)
 
 -- its visit as that of a partition
 pub partition_visited : {lay : Layout} (st : WalkSettings) {q : Query} (r : ℕ) {w w' : List ℕ} {lo hi : ℕ} {tally : Tally}
-    {one : Walked}
+    {one : Option Progress}
     → NodeVisited lay st q (r ∷ []) w w' 1 lo hi tally one → PartVisited lay st q w w' lo hi tally one
 partition_visited st r done = record { framed = framed_lower (omega arith) done.framed; visited = done.visited; rows = done.rows }

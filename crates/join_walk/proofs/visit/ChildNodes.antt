@@ -9,6 +9,7 @@ use native.Mathlib.Numerals.{add-one}
 use borrow.Author.Tests.{eq-eqb}
 use lib.ListN.{length, take, get_or, get_or-append}
 use lib.Seq.{get_or_at, get_or-take}
+use Rattle.std.specs.Prelude.{Option}
 use Rattle.lists.specs.Lists.{prefix, slice, upto}
 use Rattle.lists.proofs.Bools.{and_both}
 use Rattle.lists.proofs.Filtering.{keep_same}
@@ -28,7 +29,6 @@ use Rattle.join_nodes.specs.Visiting.{Node, Children, After, ChildrenAt}
 use Rattle.join_nodes.specs.Visiting.{Visited, Framed, NodeVisited}
 use Rattle.join_nodes.specs.declared.Progress.{Progress}
 use Rattle.join_nodes.specs.declared.WalkSettings.{WalkSettings}
-use Rattle.join_nodes.specs.declared.Walked.{Walked}
 use Rattle.join_nodes.proofs.Prefixes.{prefix-take, prefix-length}
 use Rattle.join_nodes.proofs.Narrowing.{candidate_path, listing_kept, listing_few}
 use Rattle.join_nodes.proofs.RangeLaws.{begins_first}
@@ -143,7 +143,7 @@ module _ {lay : Layout} {st : WalkSettings} {q : Query} {path w : List ℕ} {d i
   next_node = subst (λ (e : ℕ). Node lay st q longer w e i j from to p) (sym (add-one d)) child_node
 
   -- and its visit as that of a part of the children
-  child_done : {w' : List ℕ} {one : Walked} → NodeVisited lay st q longer w w' (d + 1) i j p.tally one
+  child_done : {w' : List ℕ} {one : Option Progress} → NodeVisited lay st q longer w w' (d + 1) i j p.tally one
       → PartDone lay st.budget (suc d) hi (λ path w. slot_of lay w (suc (last_of path)))
       (λ q path w i r. ChildrenAt lay st q path w d i hi from to r) q path w i p w' j one
   child_done {w'} {one} done =
@@ -156,9 +156,9 @@ module _ {lay : Layout} {st : WalkSettings} {q : Query} {path w : List ℕ} {d i
         facts = record { index = kids.index; few = kids.few; slots = low };
         visit = record { framed = framed; visited = visited; rows = done.rows };
         steady = same;
-        next = λ calm.
+        next = λ u made.
             record {
-              kids = kids_next at.kids more end low (record { framed = framed; visited = visited; rows = done.rows }) calm;
+              kids = kids_next at.kids more end low (record { framed = framed; visited = visited; rows = done.rows }) u made;
               after = record {
                 deep = after.deep;
                 last = after.last;
@@ -171,7 +171,7 @@ module _ {lay : Layout} {st : WalkSettings} {q : Query} {path w : List ℕ} {d i
       }
 
 -- every child's visit so, from what the visit of a node promises
-pub children_done : {lay : Layout} {st : WalkSettings} {w w' : List ℕ} {d i j hi from to : ℕ} {p : Progress} {one : Walked} → i < hi
+pub children_done : {lay : Layout} {st : WalkSettings} {w w' : List ℕ} {d i j hi from to : ℕ} {p : Progress} {one : Option Progress} → i < hi
     → RangeEnd lay w d i hi j
     → ((q : Query) (path : List ℕ) → Node lay st q path w (d + 1) i j from to p
     → NodeVisited lay st q path w w' (d + 1) i j p.tally one)

@@ -3,12 +3,12 @@
 use Prim.Native.Nat.{ℕ, suc, ◌+◌, ◌-◌, ◌≤◌, ◌<◌}
 use mathlib.Core.Path.{◌≡◌, refl, ap, subst, ◌∙◌}
 use mathlib.Core.List.{List, [], ◌∷◌, ◌++◌}
-use mathlib.Core.Bool.{false}
 use native.Mathlib.Omega.{arith}
 use native.Mathlib.Nat.{mul-le-mul_right}
 use lib.Dec.{eqb}
 use lib.ListN.{length, get_or, length-append}
 use lib.Seq.{get_or_at}
+use Rattle.std.specs.Prelude.{Option, Some}
 use Rattle.lists.specs.Lists.{keep}
 use Rattle.join_spec.specs.Query.{Query}
 use Rattle.join_spec.specs.Node.{last_of}
@@ -22,7 +22,6 @@ use Rattle.join_nodes.specs.Visiting.{Underway, Children, beginners}
 use Rattle.join_nodes.specs.Visiting.{RangeVisited}
 use Rattle.join_nodes.specs.declared.Progress.{Progress}
 use Rattle.join_nodes.specs.declared.WalkSettings.{WalkSettings}
-use Rattle.join_nodes.specs.declared.Walked.{Walked}
 use Rattle.join_nodes.proofs.Groups.{FirstGroup}
 use Rattle.join_nodes.proofs.Prefixes.{keep-further}
 use Rattle.join_nodes.proofs.RangeLaws.{Cut}
@@ -101,15 +100,15 @@ module _ {lay : Layout} {st : WalkSettings} {q : Query} {path w : List ℕ} {d i
         }
 
     -- the children after it
-    pub kids_next : {w' : List ℕ} {slot : ℕ} {one : Walked} → lay.slots ≤ slot
-        → RangeVisited lay q st.budget slot (suc d) w w' i j p.tally one → one.spent ≡ false
-        → Children lay st q path w' d j hi one.at
-    kids_next low visit calm =
+    pub kids_next : {w' : List ℕ} {slot : ℕ} {one : Option Progress} → lay.slots ≤ slot
+        → RangeVisited lay q st.budget slot (suc d) w w' i j p.tally one → (at : Progress) → one ≡ Some at
+        → Children lay st q path w' d j hi at
+    kids_next low visit at made =
         record {
           index = index_framed kids.index visit.framed low;
-          underway = underway_next kids.underway (visit.visited.added calm)
-              (omega (arith, ap length parted.front, parted.size, end.more, end.within)) (visit.visited.within calm);
-          rows = visit.rows calm;
+          underway = underway_next kids.underway (visit.visited.added at made)
+              (omega (arith, ap length parted.front, parted.size, end.more, end.within)) (visit.visited.within at made);
+          rows = visit.rows at made;
           depth = kids.depth;
           within = kids.within;
           upto = end.within;

@@ -1,14 +1,13 @@
 -- The children of a node in another order: those before one child and those after it, and then that child. The words change from
 -- visit to visit only beyond the slot of the node, so that what is left stays as it was.
 use Prim.Native.Nat.{ℕ, suc, ◌+◌, ◌-◌, ◌≤◌, ◌<◌}
-use mathlib.Core.Path.{◌≡◌, refl, sym, ap, subst, ◌∙◌}
+use mathlib.Core.Path.{◌≡◌, sym, ap, subst, ◌∙◌}
 use mathlib.Core.List.{List, [], ◌∷◌, ◌++◌}
-use mathlib.Core.Bool.{true, false}
 use native.Mathlib.Omega.{arith}
 use native.Mathlib.Numerals.{add-one}
 use lib.ListN.{length}
+use Rattle.std.specs.Prelude.{Option, Some, None}
 use Rattle.lists.specs.Lists.{slice}
-use Rattle.lists.proofs.Bools.{true-false}
 use Rattle.lists.proofs.Slices.{frame-slice}
 use Rattle.join_spec.specs.Query.{Query}
 use Rattle.join_spec.specs.Node.{last_of}
@@ -25,9 +24,8 @@ use Rattle.join_nodes.specs.Visiting.{Underway, Node, Children, ChildrenAt, begi
 use Rattle.join_nodes.specs.Visiting.{Visited, Framed, NodeVisited, ChildrenVisited}
 use Rattle.join_nodes.specs.declared.Progress.{Progress}
 use Rattle.join_nodes.specs.declared.WalkSettings.{WalkSettings}
-use Rattle.join_nodes.specs.declared.Walked.{Walked}
 use Rattle.join_nodes.proofs.RangeLaws.{range_length, range_split}
-use Rattle.join_nodes.proofs.VisitLaws.{added_none, underway_next, visited_then, visited_before, visited_early, visited_late}
+use Rattle.join_nodes.proofs.VisitLaws.{added_none, visited_some, kept_some, underway_next, visited_then, visited_before, visited_early, visited_late}
 use Rattle.join_nodes.proofs.FrameLaws.{index_framed, slot_framed, range_framed, framed_then}
 use Rattle.join_walk.specs.heaviest.Heaviest.{PartedAt, RangeBegins, RangeChosen}
 use Rattle.join_check.specs.declared.keys.Span.{Span}
@@ -173,8 +171,8 @@ module _ {lay : Layout} {st : WalkSettings} {q : Query} {path w : List ℕ} {d l
   pub kids_below : ChildrenAt lay st q path w d lo r.lo from to p
   kids_below = kids_before at some chosen.begins
 
-  module _ {v : List ℕ} {one : Walked} (first : ChildrenVisited lay st q path w v d lo r.lo p.tally one) where
-    pub below_spent : one.spent ≡ true → ChildrenVisited lay st q path w v d lo hi p.tally one
+  module _ {v : List ℕ} {one : Option Progress} (first : ChildrenVisited lay st q path w v d lo r.lo p.tally one) where
+    pub below_spent : one ≡ None → ChildrenVisited lay st q path w v d lo hi p.tally one
     below_spent spent =
         record {
           framed = first.framed;
@@ -185,79 +183,75 @@ module _ {lay : Layout} {st : WalkSettings} {q : Query} {path w : List ℕ} {d l
         }
 
     -- then those behind it
-    module _ (calm : one.spent ≡ false) where
+    module _ {near : Progress} (calm : one ≡ Some near) where
       abbrev under : lay.slots ≤ slot
       under = omega arith
 
-      left_behind : Underway st q one.at.tally (hi - r.lo)
+      left_behind : Underway st q near.tally (hi - r.lo)
       left_behind =
-          underway_next at.kids.underway (first.visited.added calm)
+          underway_next at.kids.underway (first.visited.added near calm)
           (omega (
             arith,
             range_length lay q w lo r.lo at.kids.index (omega (arith, chosen.begins.high, at.kids.few)),
             chosen.begins.low,
             chosen.begins.high,
           ))
-          (first.visited.within calm)
+          (first.visited.within near calm)
 
-      pub kids_above : ChildrenAt lay st q path v d r.hi hi from to one.at
+      pub kids_above : ChildrenAt lay st q path v d r.hi hi from to near
       kids_above =
-          kids_framed under at.after.below first.framed (underway_less (hi - r.hi) (omega (arith, chosen.rise)) left_behind) (first.rows calm)
+          kids_framed under at.after.below first.framed (underway_less (hi - r.hi) (omega (arith, chosen.rise)) left_behind) (first.rows near calm)
           (kids_from at some (chosen_begins chosen))
 
-      module _ {u : List ℕ} {two : Walked} (second : ChildrenVisited lay st q path v u d r.hi hi one.at.tally two) where
+      module _ {u : List ℕ} {two : Option Progress} (second : ChildrenVisited lay st q path v u d r.hi hi near.tally two) where
         same_slot : slot_of lay v (suc (last_of path)) ≡ slot
         same_slot = slot_framed at.kids.index first.framed under (suc (last_of path)) at.after.last
 
         framed : Framed slot w u
         framed = framed_then (omega (arith, same_slot)) first.framed second.framed
 
-        behind : Visited q st.budget (suc d) Behind one.at.tally two
+        behind : Visited q st.budget (suc d) Behind near.tally two
         behind =
-            subst (λ (l : List ℕ). Visited q st.budget (suc d) l one.at.tally two)
+            subst (λ (l : List ℕ). Visited q st.budget (suc d) l near.tally two)
             (range_framed at.kids.index first.framed under r.hi hi at.kids.few) second.visited
 
         -- whatever the own range and those behind it are, those before it were added
-        all_visited : {x : List ℕ} {three : Walked} → Framed slot w x
-            → Visited q st.budget (suc d) (Own ++ Behind) one.at.tally three
-            → (three.spent ≡ false → RowsKept lay q x three.at.top)
+        all_visited : {x : List ℕ} {three : Option Progress} → Framed slot w x
+            → Visited q st.budget (suc d) (Own ++ Behind) near.tally three
+            → ((s : Progress) → three ≡ Some s → RowsKept lay q x s.top)
             → ChildrenVisited lay st q path w x d lo hi p.tally three
         all_visited {x} {three} changed done kept =
             record {
               framed = changed;
               visited =
                   subst (λ (l : List ℕ). Visited q st.budget (suc d) l p.tally three) (sym whole)
-                  (visited_then (first.visited.added calm) done);
+                  (visited_then (first.visited.added near calm) done);
               rows = kept;
             }
 
-        pub above_spent : two.spent ≡ true → ChildrenVisited lay st q path w u d lo hi p.tally two
+        pub above_spent : two ≡ None → ChildrenVisited lay st q path w u d lo hi p.tally two
         above_spent spent = all_visited framed (visited_late Own spent behind) second.rows
 
         -- last the chosen one
-        module _ (quiet : two.spent ≡ false) where
-          left_own : Underway st q two.at.tally (r.hi - r.lo)
+        module _ {far : Progress} (quiet : two ≡ Some far) where
+          left_own : Underway st q far.tally (r.hi - r.lo)
           left_own =
-              underway_next left_behind (behind.added quiet)
+              underway_next left_behind (behind.added far quiet)
               (omega (
                 arith,
                 range_length lay q w r.hi hi at.kids.index at.kids.few,
                 chosen.rise,
                 chosen.within,
               ))
-              (behind.within quiet)
+              (behind.within far quiet)
 
           pub none_chosen : r.hi ≤ r.lo
-              → ChildrenVisited lay st q path w u d lo hi p.tally (record { at = two.at; spent = false })
+              → ChildrenVisited lay st q path w u d lo hi p.tally (Some far)
           none_chosen none =
               all_visited framed
-              (visited_before (behind.added quiet)
-              (record {
-                added = λ calm. added_none q (suc d) (range_none lay w r.lo r.hi none);
-                within = λ calm. behind.within quiet;
-                beyond = λ spent. true-false spent refl;
-              }))
-              (λ calm. second.rows quiet)
+              (visited_before (behind.added far quiet)
+              (visited_some (added_none q (suc d) (range_none lay w r.lo r.hi none)) (behind.within far quiet)))
+              (kept_some (second.rows far quiet))
 
           module _ (more : r.lo < r.hi) where
             beyond : r.lo < hi
@@ -269,12 +263,12 @@ module _ {lay : Layout} {st : WalkSettings} {q : Query} {path w : List ℕ} {d l
             abbrev pub chosen_path : List ℕ
             chosen_path = path ++ ((key_at q d (left_in lay w r.lo) - 1) ∷ [])
 
-            pub chosen_node : Node lay st q chosen_path u (d + 1) r.lo r.hi from to two.at
+            pub chosen_node : Node lay st q chosen_path u (d + 1) r.lo r.hi from to far
             chosen_node =
-                node_framed under at.after.below framed left_own (second.rows quiet) (next_node own beyond (chosen.end more))
+                node_framed under at.after.below framed left_own (second.rows far quiet) (next_node own beyond (chosen.end more))
 
-            pub chosen_visited : {x : List ℕ} {three : Walked}
-                → NodeVisited lay st q chosen_path u x (d + 1) r.lo r.hi two.at.tally three
+            pub chosen_visited : {x : List ℕ} {three : Option Progress}
+                → NodeVisited lay st q chosen_path u x (d + 1) r.lo r.hi far.tally three
                 → ChildrenVisited lay st q path w x d lo hi p.tally three
             chosen_visited {x} {three} done =
                 all_visited
@@ -284,9 +278,9 @@ module _ {lay : Layout} {st : WalkSettings} {q : Query} {path w : List ℕ} {d l
                       (omega (arith, chosen_node.at.candidates.last)),
                   slot_beyond own beyond (chosen.end more),
                 )) framed done.framed)
-                (visited_before (behind.added quiet)
-                (subst (λ (l : List ℕ). Visited q st.budget (suc d) l two.at.tally three)
+                (visited_before (behind.added far quiet)
+                (subst (λ (l : List ℕ). Visited q st.budget (suc d) l far.tally three)
                 (range_framed at.kids.index framed under r.lo r.hi (omega (arith, chosen.within, at.kids.few)))
-                (subst (λ (e : ℕ). Visited q st.budget e (lefts_in lay u r.lo r.hi) two.at.tally three) (add-one d)
+                (subst (λ (e : ℕ). Visited q st.budget e (lefts_in lay u r.lo r.hi) far.tally three) (add-one d)
                 done.visited)))
                 done.rows

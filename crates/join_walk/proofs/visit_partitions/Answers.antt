@@ -1,7 +1,6 @@
 use native.Mathlib.Omega.{arith}
 use mathlib.Core.List.{[]}
-use mathlib.Core.Path.{sym, ◌∙◌}
-use Prim.Native.Nat.{◌-◌}
+use mathlib.Core.Path.{refl, sym, ◌∙◌}
 use Rattle.join_nodes.proofs.PartLoop.{continuing_start, continuing_step, continuing_spent, continuing_end}
 use Rattle.join_walk.proofs.visit.ChildSteps.{kids_range, child_rank, first_child}
 use Rattle.join_walk.proofs.PartitionRanges.{partitions_done}
@@ -16,8 +15,8 @@ range_end-j-requires c =
     let some = c.loop-i.invariant.0.some in
     record { query = some.query; holds = kids_range some.holds c.loop-i-test.true }
 
-pub visit_partition-one-requires : goal.visit_partition-one-requires
-visit_partition-one-requires c =
+pub visit_partition-requires : goal.visit_partition-requires
+visit_partition-requires c =
     let inv = c.loop-i.invariant in
     let some = inv.0.some in
     record {
@@ -29,22 +28,14 @@ visit_partition-one-requires c =
       clear_2 = inv.1;
     }
 
-pub shape_of-work-then-one : goal.shape_of-work-then-one
-shape_of-work-then-one c =
-    c.visit_partition-one.auto.work ∙ c.loop-i.invariant.0.size
-
-pub shape_of-flags-then-one : goal.shape_of-flags-then-one
-shape_of-flags-then-one c =
-    c.visit_partition-one.ensures.clear.size ∙ sym c.requires.clear_2.size
-
-pub returns-then-one : goal.returns-then-one
-returns-then-one c =
+pub returns-in_err-r : goal.returns-in_err-r
+returns-in_err-r c =
     record {
       visited = λ q first.
-          continuing_spent c.loop-i.invariant.0 (omega (arith, c.range_end-j.ensures.more)) c.range_end-j.ensures.within
-          (partitions_done c.loop-i-test.true c.range_end-j.ensures c.visit_partition-one.ensures.visited)
-          c.if-one.true q [] first;
-      clear = c.visit_partition-one.ensures.clear;
+          rw c.from_residual.ensures
+          (continuing_spent c.loop-i.invariant.0 (omega (arith, c.range_end-j.ensures.more)) c.range_end-j.ensures.within
+          (partitions_done c.loop-i-test.true c.range_end-j.ensures c.in_err-r.ensures.visited) refl q [] first);
+      clear = c.in_err-r.ensures.clear;
     }
 
 pub loop-i-smaller : goal.loop-i-smaller
@@ -54,9 +45,9 @@ loop-i-smaller c =
 pub loop-i-preserved : goal.loop-i-preserved
 loop-i-preserved c = (
   continuing_step c.loop-i.invariant.0 (omega (arith, c.range_end-j.ensures.more)) c.range_end-j.ensures.within
-      (partitions_done c.loop-i-test.true c.range_end-j.ensures c.visit_partition-one.ensures.visited)
-      c.visit_partition-one.auto.work c.if-one.false,
-  c.visit_partition-one.ensures.clear,
+      (partitions_done c.loop-i-test.true c.range_end-j.ensures c.in_ok-r.ensures.visited)
+      c.visit_partition.auto.work refl,
+  c.in_ok-r.ensures.clear,
 )
 
 pub shape_of-work : goal.shape_of-work

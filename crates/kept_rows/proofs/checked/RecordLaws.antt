@@ -28,8 +28,8 @@ use Rattle.join_index.proofs.Places.{place_right}
 use Rattle.join_check.proofs.Tallying.{tallied_same, probe_rising, probe_check}
 use Rattle.join_check.proofs.RowChecks.{RowChecking, row_start, row_step, row_end, check-confirmed}
 use Rattle.kept_rows.specs.Kept.{contained_at, containing, RowIs, RowsKept}
-use Rattle.kept_rows.specs.Keeping.{WordsRoom, row_stored}
-use Rattle.kept_rows.proofs.RowLaws.{index_kept, rows_grown, rows_stored, words_room, stored_frame, stored_size}
+use Rattle.kept_rows.specs.Keeping.{row_stored}
+use Rattle.kept_rows.proofs.RowLaws.{index_kept, rows_grown, rows_stored, stored_frame, stored_size}
 use Rattle.kept_rows.specs.checked.Recording.{RowRecordable, RowRecorded}
 
 -- the confirmed ones of the places up to i stand from top up to n
@@ -100,9 +100,6 @@ module _ {lay : Layout} {w₀ : List ℕ} {k e from to top : ℕ} {tally : Tally
               is = (keeping_end (so.keeping q there) past).is ∙ sym there.complete;
             }
 
-        pub row_room : WordsRoom lay k top n w
-        row_room = words_room recording_index.ground k top n there.row.left.below so.low row_within
-
         row-frame : take lay.row_starts (row_stored lay k top n w) ≡ take lay.row_starts w₀
         row-frame = stored_frame recording_index.ground k top n there.row.left.below ∙ recording_frame
 
@@ -121,14 +118,6 @@ module _ {lay : Layout} {w₀ : List ℕ} {k e from to top : ℕ} {tally : Tally
             )
 
       module _ (more : i < to) where
-        pub recording_read : i < length w
-        recording_read = omega (arith, more, there.row.places.within, so.changed.size)
-
-        pub recording_room : n < length w
-        recording_room =
-            let kept = so.keeping q there in
-            omega (arith, more, kept.behind, kept.from, (behind there).room, so.changed.size)
-
         module _ {s : ℕ} (word : Word w i s) where
           first_word : Word w₀ i s
           first_word =

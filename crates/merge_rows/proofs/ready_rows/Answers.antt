@@ -5,4 +5,4 @@ use Rattle.merge_rows.proofs.ready_rows.Goals as goal
 pub returns : goal.returns
 returns c =
     ground_ready c.requires c.fill_rows.ensures c.fill_rows.auto.work
-    c.clear.ensures
+    (rw (c.len.ensures, c.len-2.ensures) at c.clear.ensures)

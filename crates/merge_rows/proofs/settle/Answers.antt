@@ -1,10 +1,12 @@
 -- `merge_rows::settle` meets its contract: zeros after a refusal.
 use mathlib.Core.Path.{sym, ap, ◌∙◌}
-use Rattle.join_spec.specs.declared.JoinAnswer.{JoinAnswer}
+use Rattle.std.specs.Prelude.{Result}
 use Rattle.merge_rows.specs.Merging.{settled}
 use Rattle.merge_rows.proofs.settle.Goals as goal
+use Rattle.join_spec.specs.declared.Counts.{Counts}
+use Rattle.sets.specs.declared.Refusal.{Refusal}
 
-pub returns-in-Refused : goal.returns-in-Refused
-returns-in-Refused c =
+pub returns-in-Err : goal.returns-in-Err
+returns-in-Err c =
     let pairs = c.args.pairs.now in
-    c.zero_u16.ensures ∙ sym (ap (λ (a : JoinAnswer). settled a pairs) c.in-Refused.is)
+    c.fill.ensures.after (λ y h. h) ∙ sym (ap (λ (a : Result Counts Refusal). settled a pairs) c.in-Err.is)

@@ -10,7 +10,7 @@ use Rattle.pool_fill.proofs.SecondWalk.{SecondWalk}
 use Rattle.pool_fill.proofs.fill_right.Given as goal
 
 abbrev pub invariant-loop-side : goal.invariant-loop-side
-invariant-loop-side l = FirstWalk l.first l.second (table_of l.heads l.tails l.n l.ids) l.used l.initial.slots l.initial.numbers l.initial.ends l.initial.items l.slots l.numbers l.ends l.items l.marks l.done l.at
+invariant-loop-side l = FirstWalk l.first l.second (table_of l.index l.n) l.used l.initial.slots l.initial.numbers l.initial.ends l.initial.items l.slots l.numbers l.ends l.items l.marks l.done l.at
 
 abbrev pub decreases-loop-side : goal.decreases-loop-side
 decreases-loop-side l = length l.first - l.at
@@ -19,8 +19,8 @@ decreases-loop-side l = length l.first - l.at
 abbrev pub invariant-loop-side-2 : goal.invariant-loop-side-2
 invariant-loop-side-2 l =
     (n₀ e₀ i₀ : List ℕ)
-    → SecondWalk l.first l.second (table_of l.heads l.tails l.n l.ids) l.used n₀ e₀ i₀ l.slots l.initial.numbers l.initial.ends l.initial.items l.initial.marks l.initial.done l.initial.on
-    → SecondWalk l.first l.second (table_of l.heads l.tails l.n l.ids) l.used n₀ e₀ i₀ l.slots l.numbers l.ends l.items l.marks l.done l.on
+    → SecondWalk l.first l.second (table_of l.index l.n) l.used n₀ e₀ i₀ l.slots l.initial.numbers l.initial.ends l.initial.items l.initial.marks l.initial.done l.initial.on
+    → SecondWalk l.first l.second (table_of l.index l.n) l.used n₀ e₀ i₀ l.slots l.numbers l.ends l.items l.marks l.done l.on
 
 abbrev pub decreases-loop-side-2 : goal.decreases-loop-side-2
 decreases-loop-side-2 l = length l.second - l.on

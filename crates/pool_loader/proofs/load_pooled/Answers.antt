@@ -1,19 +1,8 @@
 -- `pool_loader::load_pooled` meets its contract: by what goes on from the first file.
-use Prim.Native.Nat.{ℕ}
-use lib.ListN.{length-replicate}
-use Rattle.tag_index.specs.Index.{index_room}
 use Rattle.pool_loader.proofs.load_pooled.Goals as goal
 
-pub scan_first-answer-requires : goal.scan_first-answer-requires
-scan_first-answer-requires c =
-    record {
-      heads_full = length-replicate {A = ℕ} index_room 0;
-      tails_full = length-replicate {A = ℕ} index_room 0;
-      ids_full = length-replicate {A = ℕ} index_room 0;
-    }
-
 pub pool_second-requires : goal.pool_second-requires
-pool_second-requires c = c.scan_first-answer.ensures
+pool_second-requires c = c.scan-answer.ensures
 
 -- each list is as long as it was: so says the call, of its parameters in their order
 pub shape_of-tags : goal.shape_of-tags

@@ -5,15 +5,12 @@ use mathlib.Core.Bool.{Bool, not}
 use Prim.Native.Nat.{ℕ}
 use native.Mathlib.Omega.{arith}
 use lib.ListN.{length}
+use Rattle.std.specs.Prelude.{Result, Err, Ok, ⊤}
 use Rattle.sets.specs.Refusals.{refuse_if, unless}
 use Rattle.sets.specs.declared.Refusal.{Refusal}
 use Rattle.sets.specs.declared.Refusal.TheVariants.{ShortOutput}
-use Rattle.sets.specs.declared.Tested.{Tested}
-use Rattle.sets.specs.declared.Tested.TheVariants.{Passed, Failed}
 use Rattle.tag_file.specs.declared.Loaded.{Loaded}
 use Rattle.tag_file.specs.declared.Repeats.{Repeats}
-use Rattle.tag_file.specs.declared.LoadAnswer.{LoadAnswer}
-use Rattle.tag_file.specs.declared.LoadAnswer.TheVariants as load
 use Rattle.tag_file.specs.Records.{records}
 use Rattle.tag_file.specs.Repeats.{repeat_totals}
 use Rattle.tag_file.specs.Loading.{Lists, file_fault, totals_of}
@@ -30,35 +27,36 @@ use Rattle.pool_loader.specs.answer.Deciding.{decided, LimitedIf}
 use Rattle.pool_scan.specs.declared.counting.Second.{Second}
 use Rattle.pool_scan.specs.Second.{SecondScanned}
 use Rattle.pool_loader.specs.second_file.Judging.{PoolFillable, PoolDecided}
+use Rattle.tag_index.specs.declared.TagIndex.{TagIndex}
 
 -- ---- the first file
 
 -- it has no fault, was taken in, and its repeats are counted
-pub record FirstTaken (first : List ℕ) (total : Loaded) (repeats : Repeats) (heads tails ids : List ℕ) : Type 0 where
-  pub clean : file_fault first ≡ Passed
-  pub taken : Taken (records first) total heads tails ids
+pub record FirstTaken (first : List ℕ) (total : Loaded) (repeats : Repeats) (index : TagIndex) : Type 0 where
+  pub clean : file_fault first ≡ Ok tt
+  pub taken : Taken (records first) total index
   pub repeated : repeats ≡ repeat_totals (records first)
 
-pub first_taken : (first : List ℕ) {heads tails ids : List ℕ} {r : LoadAnswer} (total : Loaded) (repeats : Repeats)
-    → Scanned first heads tails ids r → r ≡ load.Loaded total repeats → FirstTaken first total repeats heads tails ids
-first_taken first {heads} {tails} {ids} total repeats s e =
+pub first_taken : (first : List ℕ) {index : TagIndex} {r : Result (Loaded × Repeats) Refusal} (total : Loaded) (repeats : Repeats)
+    → Scanned first index r → r ≡ Ok (total, repeats) → FirstTaken first total repeats index
+first_taken first {index} total repeats s e =
     let parts =
     tested_loaded (file_fault first) (totals_of (records first)) (repeat_totals (records first)) total repeats (sym s.answer ∙ e) in
     record {
       clean = parts.0;
-      taken = subst (λ (t : Loaded). Taken (records first) t heads tails ids) (sym parts.1) (s.taken parts.0);
+      taken = subst (λ (t : Loaded). Taken (records first) t index) (sym parts.1) (s.taken parts.0);
       repeated = parts.2;
     }
 
 module _ (first second : List ℕ) (lent : Lists) where
-  answer_fault : (why : Refusal) → file_fault first ≡ Failed why → pooled_answer first second lent ≡ load.Refused why
+  answer_fault : (why : Refusal) → file_fault first ≡ Err why → pooled_answer first second lent ≡ Err why
   unfolding pooled_answer
   answer_fault why e = rw e
 
   -- its fault is the answer
-  pub first_refused : {heads tails ids used counts slots : List ℕ} {r : LoadAnswer} (why : Refusal)
-      → Scanned first heads tails ids r → r ≡ load.Refused why
-      → PoolDecided first second heads tails ids used counts slots lent r
+  pub first_refused : {index : TagIndex} {used counts slots : List ℕ} {r : Result (Loaded × Repeats) Refusal} (why : Refusal)
+      → Scanned first index r → r ≡ Err why
+      → PoolDecided first second index used counts slots lent r
   first_refused why s e =
       record {
         answered = e ∙ sym (answer_fault why (tested_refused (file_fault first) (totals_of (records first))
@@ -68,8 +66,8 @@ module _ (first second : List ℕ) (lent : Lists) where
 
 -- ---- the second file
 
-module _ (first second : List ℕ) {heads tails ids used slots : List ℕ} {r : Second} (clean : file_fault first ≡ Passed)
-    (s : SecondScanned first second heads tails ids used slots r) where
+module _ (first second : List ℕ) {index : TagIndex} {used slots : List ℕ} {r : Second} (clean : file_fault first ≡ Ok tt)
+    (s : SecondScanned first second index used slots r) where
   pub second_limited : LimitedIf r.answer
   second_limited t repeats e =
       let parts = tested_loaded (second_fault (records first) (length first) second) (totals_of (pooled_records first second))
@@ -81,24 +79,24 @@ module _ (first second : List ℕ) {heads tails ids used slots : List ℕ} {r : 
     unfolding pooled_answer
     decided_is = by_fault (second_fault (records first) (length first) second) refl
       where
-        by_fault : (t : Tested) → second_fault (records first) (length first) second ≡ t
+        by_fault : (t : Result ⊤ Refusal) → second_fault (records first) (length first) second ≡ t
             → decided r.answer r.long (room_in lent) ≡ pooled_answer first second lent
-        by_fault (Failed why) e =
-            let is : r.answer ≡ load.Refused why = s.answer ∙ rw e in
-            ap (λ (a : LoadAnswer). decided a r.long (room_in lent)) is ∙ rw (clean, e)
-        by_fault Passed e =
+        by_fault (Err why) e =
+            let is : r.answer ≡ Err why = s.answer ∙ rw e in
+            ap (λ (a : Result (Loaded × Repeats) Refusal). decided a r.long (room_in lent)) is ∙ rw (clean, e)
+        by_fault (Ok _) e =
             let totals = totals_of (pooled_records first second) in
             let repeats = pooled_repeats (records first) (records second) in
-            let is : r.answer ≡ load.Loaded totals repeats = s.answer ∙ rw e in
-            ap₂ (λ (a : LoadAnswer) (t : Tested). decided a t (room_in lent)) is (s.long e)
-            ∙ ap (λ (b : Bool). unless load.Refused (refuse_if (not b) ShortOutput)
-            (unless load.Refused (first_overlong (records first) (length first) [] (records second)) (load.Loaded totals repeats)))
+            let is : r.answer ≡ Ok (totals, repeats) = s.answer ∙ rw e in
+            ap₂ (λ (a : Result (Loaded × Repeats) Refusal) (t : Result ⊤ Refusal). decided a t (room_in lent)) is (s.long e)
+            ∙ ap (λ (b : Bool). unless Err (refuse_if (not b) ShortOutput)
+            (unless Err (first_overlong (records first) (length first) [] (records second)) (Ok (totals, repeats))))
             (room_counted (pooled_records first second) lent)
             ∙ rw (clean, e)
 
     pub pool_fillable : {counts : List ℕ} (total : Loaded) (repeats : Repeats) → NumbersNoted (records first) used
-        → BlocksCounted used counts → pooled_answer first second lent ≡ load.Loaded total repeats
-        → PoolFillable first second heads tails ids total.tag_count used counts slots lent
+        → BlocksCounted used counts → pooled_answer first second lent ≡ Ok (total, repeats)
+        → PoolFillable first second index total.tag_count used counts slots lent
     pool_fillable total repeats noted counted e =
         let a = answer_accepted first second lent total repeats e in
         record {
@@ -114,9 +112,9 @@ module _ (first second : List ℕ) {heads tails ids used slots : List ℕ} {r : 
         }
 
     -- what is decided by the lengths of the lists is decided for them
-    pub second_decided : {counts : List ℕ} {answer : LoadAnswer} {room : LoadRoom} → NumbersNoted (records first) used
+    pub second_decided : {counts : List ℕ} {answer : Result (Loaded × Repeats) Refusal} {room : LoadRoom} → NumbersNoted (records first) used
         → BlocksCounted used counts → room ≡ room_in lent → answer ≡ decided r.answer r.long room
-        → PoolDecided first second heads tails ids used counts slots lent answer
+        → PoolDecided first second index used counts slots lent answer
     second_decided {answer = answer} noted counted same told =
         let is : answer ≡ pooled_answer first second lent =
         told ∙ ap (decided r.answer r.long) same ∙ decided_is in

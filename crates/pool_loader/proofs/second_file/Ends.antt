@@ -2,11 +2,10 @@
 use mathlib.Core.Path.{◌≡◌, sym, ◌∙◌}
 use mathlib.Core.List.{List}
 use Prim.Native.Nat.{ℕ}
+use Rattle.std.specs.Prelude.{Result, Err, Ok}
 use Rattle.sets.specs.declared.Refusal.{Refusal}
 use Rattle.tag_file.specs.declared.Loaded.{Loaded}
 use Rattle.tag_file.specs.declared.Repeats.{Repeats}
-use Rattle.tag_file.specs.declared.LoadAnswer.{LoadAnswer}
-use Rattle.tag_file.specs.declared.LoadAnswer.TheVariants as load
 use Rattle.tag_file.specs.Loading.{Lists}
 use Rattle.pool_loader_spec.specs.Pooling.{pooled_records, pooled_answer, PooledCall}
 use Rattle.pool_loader_spec.proofs.Answers.{answer_clears}
@@ -14,8 +13,8 @@ use Rattle.tag_loader.specs.lent_lists.LentLists.{AllCleared}
 use Rattle.tag_loader.specs.Passes.{AllFilled}
 
 module _ (first second : List ℕ) (lent : Lists) where
-  pub call_refused : {after : Lists} {answer : LoadAnswer} (why : Refusal) → answer ≡ pooled_answer first second lent
-      → answer ≡ load.Refused why → AllCleared lent after → PooledCall first second lent after answer
+  pub call_refused : {after : Lists} {answer : Result (Loaded × Repeats) Refusal} (why : Refusal) → answer ≡ pooled_answer first second lent
+      → answer ≡ Err why → AllCleared lent after → PooledCall first second lent after answer
   call_refused why is e z =
       let told = sym is ∙ e in
       let zeros = answer_clears first second lent why told in
@@ -30,8 +29,8 @@ module _ (first second : List ℕ) (lent : Lists) where
         right_items = rw (told, zeros) z.right.items_zero;
       }
 
-  pub call_filled : {after : Lists} (total : Loaded) (repeats : Repeats) → pooled_answer first second lent ≡ load.Loaded total repeats
-      → AllFilled (pooled_records first second) lent after → PooledCall first second lent after (load.Loaded total repeats)
+  pub call_filled : {after : Lists} (total : Loaded) (repeats : Repeats) → pooled_answer first second lent ≡ Ok (total, repeats)
+      → AllFilled (pooled_records first second) lent after → PooledCall first second lent after (Ok (total, repeats))
   call_filled total repeats told f =
       record {
         answered = sym told;

@@ -1,10 +1,10 @@
 -- A file without a fault is one whose right sets can have slots: not too many, each number once, and places that fit.
+use Rattle.std.specs.Prelude.{Ok}
 use Rattle.std.proofs.Common.{◌≡◌, ℕ, suc, ◌+◌, ◌<◌, ◌≤◌, List, [], ◌∷◌, length, get_or, refl, subst, arith}
 use Rattle.lists.specs.Lists.{onto, keep}
 use Rattle.sets.specs.Limits.{max_sets, max_set_length}
 use Rattle.sets.specs.declared.Side.{Side}
 use Rattle.sets.specs.declared.Side.TheVariants.{Left, Right}
-use Rattle.sets.specs.declared.Tested.TheVariants.{Passed}
 use Rattle.tag_file.specs.Records.{TagRecord, total_length, records, same_side, of_side}
 use Rattle.tag_file.specs.Loading.{file_fault}
 use Rattle.tag_file.proofs.FaultFree.{FaultFree, file_free, free_unused}
@@ -23,7 +23,7 @@ length_sides (r ∷ rs) = one_more r.side (length_sides rs)
     one_more Left e = omega arith
     one_more Right e = omega arith
 
-module _ (file : List ℕ) (clear : file_fault file ≡ Passed) where
+module _ (file : List ℕ) (clear : file_fault file ≡ Ok tt) where
   free : FaultFree (records file)
   free = file_free file clear
 

@@ -1,4 +1,4 @@
--- The blocks being counted: the invariant of the loop, with its start, step and end.
+-- The blocks being counted: the invariant of the loop, with its start and step.
 use Rattle.std.proofs.Common.{◌≡◌, ℕ, ◌+◌, ◌*◌, ◌<◌, ◌≤◌, eqb, List, length, get_or, set, sym, ap, ◌∙◌, arith, length-set, get_or-set_other, get_or-set_same, eqb-true}
 use borrow.Author.Tests.{eqb-false}
 use Rattle.lists.specs.Lists.{count, range, upto}
@@ -7,7 +7,7 @@ use Rattle.lists.proofs.Counting.{count_bound}
 use Rattle.lists.proofs.Ranges.{length-range}
 use Rattle.bit_sets.specs.BitSets.{bit_at, member}
 use Rattle.sets.specs.Limits.{max_sets, half_words}
-use Rattle.pool_scan.specs.right_slots.Slots.{number_words, block_length, blocks, number_slot, BlocksCounted}
+use Rattle.pool_scan.specs.right_slots.Slots.{block_length, blocks, number_slot}
 use Rattle.pool_scan.proofs.right_slots.Counted.{slot_add, slot_start, slot_rising, word_ones}
 
 -- a block's members, word by word
@@ -70,6 +70,3 @@ module _ {used counts : List ℕ} {total b : ℕ} (w : Counting used counts tota
 
       other : (j : ℕ) → j < b + 1 → (j ≡ b → ⊥) → get_or (set counts b total) j 0 ≡ number_slot used (block_length * j)
       other j h ne = get_or-set_other counts b j total 0 ne ∙ w.done j (omega arith)
-
-  pub counting_end : length used ≡ number_words → blocks ≤ b → BlocksCounted used counts
-  counting_end wide past = record { wide = wide; size = w.size; at = λ j h. w.done j (omega (arith, w.within)) }

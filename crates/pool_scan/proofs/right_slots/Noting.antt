@@ -1,5 +1,5 @@
 -- The numbers of the right sets being noted: the invariant of the walk, with its start, steps and end.
-use Rattle.std.proofs.Common.{◌≡◌, ℕ, ◌+◌, ◌≤◌, Bool, true, false, ◌||◌, eqb, List, [], ◌∷◌, ◌++◌, map, length, replicate, sym, ap, ◌∙◌, ap₂, arith, length-append}
+use Rattle.std.proofs.Common.{◌≡◌, ℕ, ◌≤◌, Bool, true, false, ◌||◌, eqb, List, [], ◌∷◌, ◌++◌, map, length, replicate, sym, ap, ◌∙◌, ap₂, arith, length-append}
 use mathlib.Core.Bool.{or-false, or_comm}
 use lib.ListN.{length-replicate}
 use Rattle.lists.specs.Lists.{keep, memb, upto}

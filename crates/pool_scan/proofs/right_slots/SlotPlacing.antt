@@ -1,5 +1,5 @@
 -- The byte places being put into their slots: the invariant of the walk, with its start, steps and end.
-use Rattle.std.proofs.Common.{◌≡◌, ℕ, ◌+◌, ◌<◌, true, false, List, [], ◌∷◌, ◌++◌, length, get_or, set, sym, ap, ◌∙◌, subst, ap₂, append_assoc, arith, length-append, length-set}
+use Rattle.std.proofs.Common.{◌≡◌, ℕ, ◌<◌, true, false, List, [], ◌∷◌, ◌++◌, length, get_or, set, sym, ap, ◌∙◌, subst, ap₂, append_assoc, arith, length-append, length-set}
 use Rattle.lists.proofs.Bools.{true-false}
 use Rattle.bit_sets.specs.BitSets.{member}
 use Rattle.sets.specs.Limits.{max_sets, half_words}

@@ -1,13 +1,14 @@
-use Rattle.std.proofs.Common.{◌≡◌, ℕ, ◌-◌, ◌<◌, ◌≤◌, true, false, get_or, sym, ap, ◌∙◌, arith}
+use Rattle.std.specs.Prelude.{Err}
+use Rattle.std.proofs.Common.{◌≡◌, ℕ, ◌<◌, ◌≤◌, true, false, get_or, sym, ap, ◌∙◌, arith}
 use Rattle.bit_sets.specs.BitSets.{member}
 use Rattle.sets.specs.Limits.{max_set_length, half_words}
 use Rattle.sets.specs.declared.Refusal.TheVariants.{Malformed, NumberUsed, TooMany}
 use Rattle.sets.specs.declared.Side.TheVariants.{Right}
-use Rattle.tag_file.specs.declared.LoadAnswer.TheVariants as load
 use Rattle.tag_file.specs.declared.ReadAnswer.TheVariants.{Record}
 use Rattle.tag_file.specs.Reading.{read_at}
 use Rattle.tag_file.specs.Records.{same_side}
 use Rattle.tag_file.proofs.Ended.{no_records}
+use Rattle.tag_file.proofs.Sides.{told_equal, told_unequal}
 use Rattle.tag_file.proofs.RecordLaws.{read_less, read_number, read_count}
 use Rattle.pool_scan.specs.declared.counting.Counted.{Counted}
 use Rattle.pool_scan.specs.counting.Counting.{counted_by}
@@ -16,7 +17,7 @@ use Rattle.pool_scan.proofs.Passing.{passing_repeats, passing_past, passing_next
 use Rattle.pool_scan.proofs.Step.{step_ready, step_bounds, stepped}
 use Rattle.pool_scan.proofs.Words.{noted_start}
 use Rattle.pool_scan.proofs.scan_second.Goals as goal
-use Rattle.pool_scan.proofs.scan_second.Goals.{Else-claim, In-Record, Then-is_side}
+use Rattle.pool_scan.proofs.scan_second.Goals.{Else-claim, In-Record, Then-eq}
 
 -- the record that was read
 read : (a : In-Record)
@@ -31,11 +32,11 @@ few : (a : In-Record) → a.in-Record.count ≤ max_set_length
 few a = read_count _ _ (read a) (λ i. (a.type_inv.second i).fits)
 
 -- it is of the right side
-right : (a : Then-is_side) → same_side Right a.in-Record.side ≡ true
-right a = sym a.is_side.ensures ∙ a.if-is_side.true
+right : (a : Then-eq) → same_side Right a.in-Record.side ≡ true
+right a = told_equal a.in-Record.side Right a.eq.ensures a.if-eq.true
 
 right_here : (e : Else-claim) → same_side Right e.in-Record.side ≡ true
-right_here e = right (goal.at.Else-claim e).Then-is_side
+right_here e = right (goal.at.Else-claim e).Then-eq
 
 -- its number was not noted
 free : (e : Else-claim) → member e.loop-side.noted e.in-Record.number ≡ false
@@ -81,10 +82,7 @@ returns-in_default c =
     let read = c.read_record-answer in
     let stop = no_records c.args.second.now c.loop-side.at read.result (sym read.ensures) c.in_default.not-Record in
     passing_cut c.loop-side.invariant stop c.if-at-second.false
-    (c.refused.ensures ∙ ap (λ (k : ℕ). load.Refused (Malformed k)) c.wrapping_add_usize-place.ensures.value)
-
-pub is_side-requires : goal.is_side-requires
-is_side-requires c = tt
+    (c.refused.ensures ∙ ap (λ (k : ℕ). Err (Malformed k)) c.wrapping_add_usize-place.ensures.value)
 
 pub slice_bounds-claim-end : goal.slice_bounds-claim-end
 slice_bounds-claim-end c = sym c.loop-side.invariant.numbers.wide
@@ -101,8 +99,8 @@ shape_of-slots-then-claim c = c.loop-side.invariant.size ∙ sym c.requires.slot
 pub returns-then-claim : goal.returns-then-claim
 returns-then-claim c =
     let l = c.loop-side in
-    passing_used l.invariant (read (goal.at.returns-then-claim c).In-Record) (right (goal.at.returns-then-claim c).Then-is_side) (small (goal.at.returns-then-claim c).In-Record) (sym c.claim.ensures.before ∙ c.if-claim.true) l.invariant.size
-    (c.refused-then-claim.ensures ∙ ap (λ (k : ℕ). load.Refused (NumberUsed k)) c.wrapping_add_usize-place.ensures.value)
+    passing_used l.invariant (read (goal.at.returns-then-claim c).In-Record) (right (goal.at.returns-then-claim c).Then-eq) (small (goal.at.returns-then-claim c).In-Record) (sym c.claim.ensures.before ∙ c.if-claim.true) l.invariant.size
+    (c.refused-then-claim.ensures ∙ ap (λ (k : ℕ). Err (NumberUsed k)) c.wrapping_add_usize-place.ensures.value)
 
 pub unite-united-requires : goal.unite-united-requires
 unite-united-requires c =
@@ -139,7 +137,7 @@ returns-then-is_past c =
     let one = stepped c.requires (bytes (goal.at.returns-then-is_past c).Else-claim) inv (read (goal.at.returns-then-is_past c).In-Record) (right_here (goal.at.returns-then-is_past c).Else-claim) (small (goal.at.returns-then-is_past c).In-Record) (free (goal.at.returns-then-is_past c).Else-claim) c.unite-united.ensures in
     passing_past inv (read (goal.at.returns-then-is_past c).In-Record) (right_here (goal.at.returns-then-is_past c).Else-claim) (small (goal.at.returns-then-is_past c).In-Record) (free (goal.at.returns-then-is_past c).Else-claim) c.unite-united.result one.one one.size
     (sym (ap (λ (k : Counted). over_of k.total) c.count_set-counted.ensures) ∙ sym c.is_past.ensures ∙ c.if-is_past.true)
-    (c.refused-then-is_past.ensures ∙ ap (λ (k : ℕ). load.Refused (TooMany k)) c.wrapping_add_usize-place.ensures.value)
+    (c.refused-then-is_past.ensures ∙ ap (λ (k : ℕ). Err (TooMany k)) c.wrapping_add_usize-place.ensures.value)
 
 pub loop-side-smaller-else-is_past : goal.loop-side-smaller-else-is_past
 loop-side-smaller-else-is_past c = read_less _ _ (read (goal.at.loop-side-smaller-else-is_past c).In-Record)
@@ -158,4 +156,4 @@ pub loop-side-smaller : goal.loop-side-smaller
 loop-side-smaller c = read_less _ _ (read (goal.at.loop-side-smaller c).In-Record)
 
 pub loop-side-preserved : goal.loop-side-preserved
-loop-side-preserved c = passing_left c.loop-side.invariant (read (goal.at.loop-side-preserved c).In-Record) (sym c.is_side.ensures ∙ c.if-is_side.false)
+loop-side-preserved c = passing_left c.loop-side.invariant (read (goal.at.loop-side-preserved c).In-Record) (told_unequal c.in-Record.side Right c.eq.ensures c.if-eq.false)

@@ -1,12 +1,10 @@
 -- Inner: what is counted over the second of two pooled files, from the first file's counts on, and what is answered at its end.
-use Rattle.std.specs.Prelude.{ℕ, ◌+◌, ◌-◌, ◌<◌, ◌≤◌, Bool, true, false, nat_lt}
+use Rattle.std.specs.Prelude.{ℕ, ◌+◌, ◌-◌, ◌<◌, ◌≤◌, Bool, true, false, nat_lt, Err, Ok}
 use Rattle.sets.specs.Limits.{max_set_length}
 use Rattle.sets.specs.Refusals.{refuse_if, unless}
 use Rattle.sets.specs.declared.Refusal.TheVariants.{Overlong}
-use Rattle.sets.specs.declared.Tested.TheVariants.{Passed, Failed}
 use Rattle.tag_file.specs.declared.Loaded.{Loaded}
 use Rattle.tag_file.specs.declared.Repeats.{Repeats}
-use Rattle.tag_file.specs.declared.LoadAnswer.TheVariants as load
 use Rattle.tag_scan.specs.totals.Totals.{word_numbers, Limited}
 use Rattle.pool_scan.specs.declared.union.United.{United}
 use Rattle.pool_scan.specs.declared.counting.Counted.{Counted}
@@ -14,7 +12,7 @@ use Rattle.pool_scan.specs.declared.counting.Second.{Second}
 
 -- before the second file: the first file's counts and repeats, and no set that is too long
 abbrev pub counted_from : Loaded → Repeats → Counted
-counted_from before found = record { total = before; repeats = found; long = Passed }
+counted_from before found = record { total = before; repeats = found; long = Ok tt }
 
 -- the counts with one more right set of the second file
 abbrev pub united_by : Loaded → United → Bool → Loaded
@@ -41,7 +39,7 @@ counted_by c u count place =
     record {
       total = united_by c.total u u.met;
       repeats = record { left = c.repeats.left; right = c.repeats.right + (count - u.second) };
-      long = unless Failed c.long (refuse_if (nat_lt max_set_length u.all) (Overlong place));
+      long = unless Err c.long (refuse_if (nat_lt max_set_length u.all) (Overlong place));
     }
 
 -- its counts fit
@@ -54,4 +52,4 @@ pub record CountReady (c : Counted) (u : United) (count : ℕ) : Type 0 where
 
 -- the answer at the end of a file without fault
 abbrev pub accepted_by : Counted → Second
-accepted_by c = record { answer = load.Loaded c.total c.repeats; long = c.long }
+accepted_by c = record { answer = Ok (c.total, c.repeats); long = c.long }

@@ -1,5 +1,5 @@
 use Prim.Native.Nat.{◌<◌}
-use mathlib.Core.Path.{refl, sym, ◌∙◌}
+use mathlib.Core.Path.{sym, ◌∙◌}
 use native.Mathlib.Omega.{arith}
 use lib.ListN.{get_or}
 use Rattle.sets.proofs.Positions.{position_bound}
@@ -12,12 +12,6 @@ bit_low : (c : After-position_of-bit) → c.position_of-bit.result < 64
 bit_low c =
     let a = c.args in
     omega (arith, c.position_of-bit.ensures, position_bound (get_or a.items.now c.loop-i.i 0))
-
-pub loop-i-init : goal.loop-i-init
-loop-i-init c = refl
-
-pub overflow_cast-mark : goal.overflow_cast-mark
-overflow_cast-mark c = omega (arith, bit_low (goal.at.overflow_cast-mark c).After-position_of-bit)
 
 pub overflow_shl-mark : goal.overflow_shl-mark
 overflow_shl-mark c = bit_low (goal.at.overflow_shl-mark c).After-position_of-bit

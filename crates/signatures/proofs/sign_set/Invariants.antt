@@ -1,6 +1,5 @@
--- `signatures::sign_set` meets its contract. The invariant: the word so far, with the bits of the items that are
--- left, is the signature. The measure is how many items are left.
-use Prim.Native.Nat.{◌-◌}
+-- `signatures::sign_set` meets its contract. The invariant: the word so far, with the bits of the items that are left, is the
+-- signature.
 use mathlib.Core.Path.{◌≡◌}
 use Rattle.sets.specs.Collections.{between}
 use Rattle.sets.specs.Signatures.{signature_from, signature}
@@ -8,6 +7,3 @@ use Rattle.signatures.proofs.sign_set.Given as goal
 
 abbrev pub invariant-loop-i : goal.invariant-loop-i
 invariant-loop-i l = signature_from l.mark (between l.i l.end l.items) ≡ signature (between l.start l.end l.items)
-
-abbrev pub decreases-loop-i : goal.decreases-loop-i
-decreases-loop-i l = l.end - l.i

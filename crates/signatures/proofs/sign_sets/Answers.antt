@@ -1,13 +1,9 @@
-use mathlib.Core.Path.{refl}
 use native.Mathlib.Omega.{arith}
 use Rattle.signatures.proofs.SigningSets.{signing_start, signing_step, signing_end}
 use Rattle.signatures.proofs.sign_sets.Goals as goal
 
 pub loop-k-init : goal.loop-k-init
-loop-k-init c = (refl, signing_start)
-
-pub overflow_cast-end : goal.overflow_cast-end
-overflow_cast-end c = omega (arith, c.type_inv.ends c.loop-k.k)
+loop-k-init c = signing_start
 
 pub sign_set-mark-requires : goal.sign_set-mark-requires
 sign_set-mark-requires c =
@@ -18,16 +14,13 @@ sign_set-mark-requires c =
 
 pub store_double-requires : goal.store_double-requires
 store_double-requires c =
-    let size = c.loop-k.invariant.1.signed.size in
+    let size = c.loop-k.invariant.signed.size in
     omega arith
 
 pub loop-k-preserved : goal.loop-k-preserved
 loop-k-preserved c =
-    let rest = signing_step c.loop-k.invariant.1 (omega arith) in
-    (refl, rest c.sign_set-mark.ensures c.store_double.ensures)
-
-pub shape_of-work : goal.shape_of-work
-shape_of-work c = c.loop-k.invariant.1.signed.size
+    let rest = signing_step c.loop-k.invariant (omega arith) in
+    rest c.sign_set-mark.ensures c.store_double.ensures
 
 pub returns : goal.returns
-returns c = signing_end c.loop-k.invariant.1 (omega arith)
+returns c = signing_end c.loop-k.invariant (omega arith)

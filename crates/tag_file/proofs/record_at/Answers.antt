@@ -7,12 +7,12 @@ use Rattle.tag_file.proofs.record_at.Goals as goal
 pub returns-then-count-room : goal.returns-then-count-room
 returns-then-count-room c =
     let a = c.args in
-    rw (c.byte_at-high.ensures.is, c.byte_at-low.ensures.is, c.byte_at-count.ensures.is)
+    rw (c.from-high.ensures, c.from-low.ensures, c.from-count.ensures)
     (sym
-    (whole_record a.file.now a.at a.side c.requires (omega (arith, c.byte_at-count.ensures.is, c.if-count-room.true))))
+    (whole_record a.file.now a.at a.side c.requires (omega (arith, c.from-count.ensures, c.if-count-room.true))))
 
 pub returns-else-count-room : goal.returns-else-count-room
 returns-else-count-room c =
     let a = c.args in
     sym
-    (cut_record a.file.now a.at a.side c.requires (omega (arith, c.byte_at-count.ensures.is, c.if-count-room.false)))
+    (cut_record a.file.now a.at a.side c.requires (omega (arith, c.from-count.ensures, c.if-count-room.false)))

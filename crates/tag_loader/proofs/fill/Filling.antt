@@ -27,6 +27,7 @@ use Rattle.tag_loader.specs.declared.record_items.Filled.{Filled}
 use Rattle.tag_loader.proofs.record_items.Marks.{unmarked_zeros, more_fresh, marked_items}
 use Rattle.tag_loader.specs.fill.Fill.{FillReady}
 use Rattle.tag_loader.proofs.fill.Runs.{flatten_one, numbers_cons, sets_cons, flatten-onto, ends_onto}
+use Rattle.tag_index.specs.declared.TagIndex.{TagIndex}
 
 pub record SideFilling (file : List ℕ) (side : Side) (table numbers₀ ends₀ items₀ : List ℕ)
     (marks numbers ends items : List ℕ) (done : Filled) (at : ℕ) : Type 0 where
@@ -38,12 +39,12 @@ pub record SideFilling (file : List ℕ) (side : Side) (table numbers₀ ends₀
   pub held : (y : ℕ) → memb y (all_tags (of_side side (records_at file at))) ≡ true → memb y table ≡ true
   pub unmarked : Unmarked marks
 
-pub side_filling_start : {file heads tails : List ℕ} {n : ℕ} {ids ranks : List ℕ} {side : Side} {numbers ends items : List ℕ}
-    → FillReady file heads tails n ids ranks side numbers ends items
-    → SideFilling file side (table_of heads tails n ids) numbers ends items (replicate mark_words 0) numbers ends items
+pub side_filling_start : {file : List ℕ} {index : TagIndex} {n : ℕ} {ranks : List ℕ} {side : Side} {numbers ends items : List ℕ}
+    → FillReady file index n ranks side numbers ends items
+    → SideFilling file side (table_of index n) numbers ends items (replicate mark_words 0) numbers ends items
     (record { sets = 0; entries = 0 }) 0
-side_filling_start {file} {heads} {tails} {n} {ids} {ranks} {side} {numbers} {ends} {items} r =
-    let sets = sets_of_side side (table_of heads tails n ids) (records file) in
+side_filling_start {file} {index} {n} {ranks} {side} {numbers} {ends} {items} r =
+    let sets = sets_of_side side (table_of index n) (records file) in
     record {
       for_numbers = writing_start numbers 0 (numbers_of side (records file)) (omega (arith, r.for_numbers));
       for_ends = writing_start ends 0 (ends_from 0 sets) (omega (arith, r.for_ends));
@@ -125,9 +126,9 @@ module _ {file : List ℕ} {side : Side} {table numbers₀ ends₀ items₀ mark
         ∙ memb_append y (tags_at c file p) (all_tags later)
         ∙ or_left (memb y (tags_at c file p)) (memb y (all_tags later)) m)
 
-    pub filling_known : {heads tails : List ℕ} {m : ℕ} {ids ranks : List ℕ} → Sorted heads tails m ids → Ranked m ids ranks
-        → table_of heads tails m ids ≡ table → m ≤ max_items → same_side side kind ≡ true
-        → TagsKnown file heads tails m ids ranks p c
+    pub filling_known : {index : TagIndex} {m : ℕ} {ranks : List ℕ} → Sorted index m → Ranked m index.ids ranks
+        → table_of index m ≡ table → m ≤ max_items → same_side side kind ≡ true
+        → TagsKnown file index m ranks p c
     filling_known sorted ranked same small mine =
         record {
           sorted = sorted;

@@ -39,7 +39,7 @@ returns-in_default c =
 
 pub has_room-requires : goal.has_room-requires
 has_room-requires c =
-    sound_limited c.scan-answer.ensures c.in-Loaded.is
+    sound_limited c.scan-answer.ensures c.in-Ok.is
 
 pub shape_of-tags-then-not-has_room : goal.shape_of-tags-then-not-has_room
 shape_of-tags-then-not-has_room c = c.clear_lists-then-not-has_room.auto.tags
@@ -64,13 +64,13 @@ shape_of-right_items-then-not-has_room c = c.clear_lists-then-not-has_room.auto.
 
 pub returns-then-not-has_room : goal.returns-then-not-has_room
 returns-then-not-has_room c =
-    call_short c.scan-answer.ensures c.in-Loaded.is (lent (goal.at.returns-then-not-has_room c).After-scan-answer)
+    call_short c.scan-answer.ensures c.in-Ok.is (lent (goal.at.returns-then-not-has_room c).After-scan-answer)
     c.has_room.ensures c.if-not-has_room.true-raw
     c.clear_lists-then-not-has_room.ensures
 
 pub fill_lists-requires : goal.fill_lists-requires
 fill_lists-requires c =
-    room_fillable c.scan-answer.ensures c.in-Loaded.is (lent (goal.at.fill_lists-requires c).After-scan-answer)
+    room_fillable c.scan-answer.ensures c.in-Ok.is (lent (goal.at.fill_lists-requires c).After-scan-answer)
     c.has_room.ensures c.if-not-has_room.false-raw
 
 pub shape_of-tags : goal.shape_of-tags
@@ -96,6 +96,7 @@ shape_of-right_items c = c.fill_lists.auto.right_items
 
 pub returns : goal.returns
 returns c =
-    call_loaded c.scan-answer.ensures c.in-Loaded.is (lent (goal.at.returns c).After-scan-answer)
+    rw c.in-Ok.is
+    (call_loaded c.scan-answer.ensures c.in-Ok.is (lent (goal.at.returns c).After-scan-answer)
     c.has_room.ensures c.if-not-has_room.false-raw
-    c.fill_lists.ensures
+    c.fill_lists.ensures)

@@ -4,10 +4,10 @@ use mathlib.Core.Bool.{false}
 use Prim.Native.Nat.{ℕ, ◌<◌, ◌≤◌}
 use native.Mathlib.Omega.{arith}
 use lib.ListN.{length, replicate, length-replicate}
+use Rattle.std.specs.Prelude.{Result}
 use Rattle.lists.specs.Lists.{keep, sum}
 use Rattle.bit_sets.specs.BitSets.{member}
 use Rattle.sets.specs.Limits.{max_set_length, half_words}
-use Rattle.tag_file.specs.declared.LoadAnswer.{LoadAnswer}
 use Rattle.tag_file.specs.declared.ReadAnswer.TheVariants.{Record}
 use Rattle.tag_file.specs.Reading.{read_at}
 use Rattle.tag_file.specs.Records.{insert_all, all_tags}
@@ -23,6 +23,9 @@ use Rattle.tag_scan.proofs.Scanning.{scanning_start, scanning_stop, scanning_use
 use Rattle.tag_scan.proofs.Scanning.{distinct_few, repeats_room, scanning_past, scanning_next}
 use Rattle.tag_scan.proofs.scan_records.Goals as goal
 use Rattle.tag_scan.proofs.scan_records.Goals.{After-add_tags-added, At-loop-side, In-Record, Start}
+use Rattle.sets.specs.declared.Refusal.{Refusal}
+use Rattle.tag_file.specs.declared.Loaded.{Loaded}
+use Rattle.tag_file.specs.declared.Repeats.{Repeats}
 
 -- the record that was read
 read : (a : In-Record)
@@ -38,7 +41,7 @@ few a = read_count _ _ (read a) (λ i. (a.type_inv.file i).fits)
 
 -- no tags of it are added yet
 none_added : (l : At-loop-side)
-    → Adding [] l.loop-side.heads l.loop-side.tails l.loop-side.total.tag_count 0 l.loop-side.ids (replicate seen_words 0)
+    → Adding [] l.loop-side.index l.loop-side.total.tag_count 0 (replicate seen_words 0)
 none_added l = adding_start l.loop-side.invariant.taken.sorted
 
 free : (g : After-add_tags-added)
@@ -53,7 +56,7 @@ pub loop-side-init : goal.loop-side-init
 unfolding keep sum insert_all all_tags
 loop-side-init c =
     let a = c.args in
-    scanning_start a.file.now _ a.heads.now a.tails.now a.ids.now (taken_start _ _ _ _ c.requires.lengths refl)
+    scanning_start a.file.now _ a.index.now (taken_start _ _ c.requires.lengths refl)
     (subst (λ (l : List ℕ). Noted l []) (sym c.requires.used_value) noted_start)
 
 pub read_record-answer-requires : goal.read_record-answer-requires
@@ -74,7 +77,7 @@ returns-in_default c =
     let file = c.args.file.now in
     let read = c.read_record-answer in
     let stop = no_records file l.at read.result (sym read.ensures) c.in_default.not-Record in
-    subst (λ (r : LoadAnswer). Scanned file l.heads l.tails l.ids r) (sym c.stopped.ensures)
+    subst (λ (r : Result (Loaded × Repeats) Refusal). Scanned file l.index r) (sym c.stopped.ensures)
     (scanning_stop l.invariant read.result (sym read.ensures) stop)
 
 pub claim-requires : goal.claim-requires

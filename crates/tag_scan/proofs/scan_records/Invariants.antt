@@ -6,7 +6,7 @@ use Rattle.tag_scan.proofs.Scanning.{Scanning}
 use Rattle.tag_scan.proofs.scan_records.Given as goal
 
 abbrev pub invariant-loop-side : goal.invariant-loop-side
-invariant-loop-side l = Scanning l.file l.used l.heads l.tails l.ids l.total l.repeats l.at
+invariant-loop-side l = Scanning l.file l.used l.index l.total l.repeats l.at
 
 abbrev pub decreases-loop-side : goal.decreases-loop-side
 decreases-loop-side l = length l.file - l.at

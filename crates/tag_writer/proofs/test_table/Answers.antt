@@ -1,21 +1,15 @@
 -- `test_table` meets its contract: a case for each return.
-use mathlib.Core.Path.{◌≡◌, sym, ◌∙◌}
-use Rattle.inputs.specs.Tests.{items_test}
+use mathlib.Core.Path.{sym, ◌∙◌}
+use Rattle.sets.proofs.Testing.{handed_on}
 use Rattle.tag_writer_spec.proofs.Tests.{table_items, table_other, table_whole}
 use Rattle.tag_writer.proofs.test_table.Goals as goal
-use Rattle.tag_writer.proofs.test_table.Goals.{After-test_items-items}
 
-found : (p : After-test_items-items) → items_test p.args.t ≡ p.test_items-items.result
-found p = sym p.test_items-items.ensures
-
-pub returns-in-Failed : goal.returns-in-Failed
-returns-in-Failed c =
-    table_items c.args.t c.args.tags.now (found (goal.at.returns-in-Failed c).After-test_items-items ∙ c.in-Failed.is)
+pub returns-in_err-test_items : goal.returns-in_err-test_items
+returns-in_err-test_items c =
+    handed_on c.from_residual.result c.from_residual.ensures.1 ∙ table_items c.args.t c.args.tags.now (sym c.in_err-test_items.ensures)
 
 pub returns-then-tags-t : goal.returns-then-tags-t
-returns-then-tags-t c =
-    table_other c.args.t c.args.tags.now (found (goal.at.returns-then-tags-t c).After-test_items-items ∙ c.in_default.is) c.if-tags-t.true
+returns-then-tags-t c = table_other c.args.t c.args.tags.now (sym c.in_ok-test_items.ensures) c.if-tags-t.true
 
 pub returns : goal.returns
-returns c =
-    table_whole c.args.t c.args.tags.now (found (goal.at.returns c).After-test_items-items ∙ c.in_default.is) c.if-tags-t.false
+returns c = table_whole c.args.t c.args.tags.now (sym c.in_ok-test_items.ensures) c.if-tags-t.false

@@ -1,31 +1,20 @@
 -- `write` meets its contract: lists that are refused, and lists that are written.
-use mathlib.Core.Path.{◌≡◌, sym, ◌∙◌}
-use Rattle.tag_file.specs.Loading.{Lists, lists_of}
-use Rattle.tag_writer_spec.specs.Writer.{lists_test}
+use mathlib.Core.Path.{sym}
+use Rattle.sets.proofs.Testing.{handed_on}
+use Rattle.tag_file.specs.Loading.{read_lists}
 use Rattle.tag_writer_spec.proofs.Tests.{lists_passed}
 use Rattle.tag_writer_spec.proofs.Answers.{call_refused, call_passed}
 use Rattle.tag_writer.proofs.write.Goals as goal
-use Rattle.tag_writer.proofs.write.Goals.{After-test_lists-tested, Start}
-
--- the seven lists of a call
-abbrev lists : Start → Lists
-lists s =
-    let a = s.args in
-    lists_of a.tags.now a.left_numbers.now a.left_ends.now a.left_items.now
-    a.right_numbers.now a.right_ends.now a.right_items.now
-
-tested : (p : After-test_lists-tested) → lists_test p.args.t (lists (goal.at.After-test_lists-tested p).Start) ≡ p.test_lists-tested.result
-tested p = sym p.test_lists-tested.ensures
 
 pub write_good-requires : goal.write_good-requires
-write_good-requires c =
-    lists_passed c.args.t (lists (goal.at.write_good-requires c).Start) (tested (goal.at.write_good-requires c).After-test_lists-tested ∙ c.in-Passed.is)
+write_good-requires c = lists_passed c.args.t (read_lists c.args.lists.now) (sym c.in_ok-test_lists.ensures)
 
-pub returns-in-Failed : goal.returns-in-Failed
-returns-in-Failed c =
-    call_refused c.args.t (lists (goal.at.returns-in-Failed c).Start) c.args.file.now _ (tested (goal.at.returns-in-Failed c).After-test_lists-tested ∙ c.in-Failed.is)
+pub returns-in_err-test_lists : goal.returns-in_err-test_lists
+returns-in_err-test_lists c =
+    rw (handed_on c.from_residual.result c.from_residual.ensures.1)
+    (call_refused c.args.t (read_lists c.args.lists.now) c.args.file.now _ (sym c.in_err-test_lists.ensures))
 
-pub returns-in-Passed : goal.returns-in-Passed
-returns-in-Passed c =
-    call_passed c.args.t (lists (goal.at.returns-in-Passed c).Start) c.args.file.now _ _ (tested (goal.at.returns-in-Passed c).After-test_lists-tested ∙ c.in-Passed.is)
+pub returns : goal.returns
+returns c =
+    call_passed c.args.t (read_lists c.args.lists.now) c.args.file.now _ _ (sym c.in_ok-test_lists.ensures)
     c.write_good.ensures.answer c.write_good.ensures.file

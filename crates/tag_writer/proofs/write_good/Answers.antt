@@ -3,28 +3,21 @@ use mathlib.Core.Path.{◌≡◌, sym, ◌∙◌}
 use Prim.Native.Nat.{◌+◌}
 use native.Mathlib.Omega.{arith}
 use lib.ListN.{length}
-use Rattle.tag_file.specs.Loading.{Lists, lists_of}
+use Rattle.tag_file.specs.Loading.{read_lists}
 use Rattle.tag_writer_spec.specs.Writer.{left_bytes, right_bytes, file_bytes}
 use Rattle.tag_writer_spec.proofs.Answers.{side_limits, left_size, right_size, file_size, put_sides, within, short}
 use Rattle.tag_writer.proofs.write_good.Goals as goal
-use Rattle.tag_writer.proofs.write_good.Goals.{After-side_length-right, Start}
+use Rattle.tag_writer.proofs.write_good.Goals.{After-side_length-right}
 
--- the seven lists of a call
-abbrev lists : Start → Lists
-lists s =
-    let a = s.args in
-    lists_of a.tags.now a.left_numbers.now a.left_ends.now a.left_items.now
-    a.right_numbers.now a.right_ends.now a.right_items.now
+left_long : (p : After-side_length-right) → length (left_bytes (read_lists p.args.lists.now)) ≡ p.side_length-left.result
+left_long p = left_size (read_lists p.args.lists.now) p.requires ∙ sym p.side_length-left.ensures
 
-left_long : (p : After-side_length-right) → length (left_bytes (lists (goal.at.After-side_length-right p).Start)) ≡ p.side_length-left.result
-left_long p = left_size (lists (goal.at.After-side_length-right p).Start) p.requires ∙ sym p.side_length-left.ensures
-
-right_long : (p : After-side_length-right) → length (right_bytes (lists (goal.at.After-side_length-right p).Start)) ≡ p.side_length-right.result
-right_long p = right_size (lists (goal.at.After-side_length-right p).Start) p.requires ∙ sym p.side_length-right.ensures
+right_long : (p : After-side_length-right) → length (right_bytes (read_lists p.args.lists.now)) ≡ p.side_length-right.result
+right_long p = right_size (read_lists p.args.lists.now) p.requires ∙ sym p.side_length-right.ensures
 
 file_long : (p : After-side_length-right)
-    → length (file_bytes (lists (goal.at.After-side_length-right p).Start)) ≡ p.side_length-left.result + p.side_length-right.result
-file_long p = omega (arith, file_size (lists (goal.at.After-side_length-right p).Start) p.requires, left_long p, right_long p)
+    → length (file_bytes (read_lists p.args.lists.now)) ≡ p.side_length-left.result + p.side_length-right.result
+file_long p = omega (arith, file_size (read_lists p.args.lists.now) p.requires, left_long p, right_long p)
 
 pub side_length-left-requires : goal.side_length-left-requires
 side_length-left-requires c =
@@ -43,9 +36,9 @@ overflow_add-left c =
 pub returns-then-file-left : goal.returns-then-file-left
 returns-then-file-left c =
     record {
-      answer = short (length c.args.file.now) (file_bytes (lists (goal.at.returns-then-file-left c).Start)) _ (file_long (goal.at.returns-then-file-left c).After-side_length-right)
+      answer = short (length c.args.file.now) (file_bytes (read_lists c.args.lists.now)) _ (file_long (goal.at.returns-then-file-left c).After-side_length-right)
           c.if-file-left.true;
-      file = c.zero_u8.ensures;
+      file = c.fill.ensures.after (λ y h. h);
     }
 
 pub put_side-requires : goal.put_side-requires
@@ -67,7 +60,7 @@ returns c =
     let file = c.args.file.now in
     let room = c.if-file-left.false in
     record {
-      answer = within (length file) (file_bytes (lists (goal.at.returns c).Start)) _ (file_long (goal.at.returns c).After-side_length-right) room;
-      file = put_sides (lists (goal.at.returns c).Start) c.requires file _ _ _ (left_long (goal.at.returns c).After-side_length-right) (omega (arith, file_long (goal.at.returns c).After-side_length-right, room))
+      answer = within (length file) (file_bytes (read_lists c.args.lists.now)) _ (file_long (goal.at.returns c).After-side_length-right) room;
+      file = put_sides (read_lists c.args.lists.now) c.requires file _ _ _ (left_long (goal.at.returns c).After-side_length-right) (omega (arith, file_long (goal.at.returns c).After-side_length-right, room))
           c.put_side.ensures c.put_side-2.ensures;
     }

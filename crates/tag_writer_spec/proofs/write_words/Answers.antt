@@ -4,9 +4,9 @@ use Rattle.tag_writer_spec.specs.Writer.{write_words}
 use Rattle.sets.proofs.Words.{refused_words_lem}
 use Rattle.tag_writer_spec.proofs.write_words.Goals as goal
 
-pub returns-in-Written : goal.returns-in-Written
-returns-in-Written c = sym (ap write_words c.in-Written.is)
+pub returns-in-Ok : goal.returns-in-Ok
+returns-in-Ok c = sym (ap write_words c.in-Ok.is)
 
-pub returns-in-Refused : goal.returns-in-Refused
-returns-in-Refused c =
-    refused_words_lem c.in-Refused.why 1 c.head_of-head.ensures.0 c.head_of-head.ensures.1 c.head_of-head.ensures.2 ∙ sym (ap write_words c.in-Refused.is)
+pub returns-in-Err : goal.returns-in-Err
+returns-in-Err c =
+    refused_words_lem c.in-Err.why 1 c.head_of-head.ensures.0 c.head_of-head.ensures.1 c.head_of-head.ensures.2 ∙ sym (ap write_words c.in-Err.is)

@@ -6,10 +6,9 @@ use mathlib.Core.List.{List, ◌++◌}
 use native.Mathlib.Omega.{arith}
 use lib.ListN.{length, take}
 use lib.Seq.{length-take-le}
+use Rattle.std.specs.Prelude.{Result, Err, Ok}
 use Rattle.sets.specs.declared.Refusal.{Refusal}
 use Rattle.join_spec.specs.declared.Counts.{Counts}
-use Rattle.join_spec.specs.declared.JoinAnswer.{JoinAnswer}
-use Rattle.join_spec.specs.declared.JoinAnswer.TheVariants.{Joined, Refused}
 use Rattle.tag_file.specs.declared.Repeats.{Repeats}
 use Rattle.text.specs.counts_line.Room.{line_room}
 use Rattle.text.specs.pair_lines.Room.{PairsRoom}
@@ -18,18 +17,18 @@ use Rattle.text.specs.number_lines.Room.{repeats_room}
 use Rattle.text.specs.answer_text.AnswerText.{answer_text}
 use Rattle.text.specs.answer_text.Inner.{found_pairs, AnswerFits}
 
-module _ (repeats : Repeats) (left_numbers right_numbers pairs : List ℕ) {answer : JoinAnswer} where
-  pub text_joined : {counts : Counts} → answer ≡ Joined counts
+module _ (repeats : Repeats) (left_numbers right_numbers pairs : List ℕ) {answer : Result Counts Refusal} where
+  pub text_joined : {counts : Counts} → answer ≡ Ok counts
       → counts_line counts ++ (repeats_line repeats ++ pair_lines left_numbers right_numbers (take (2 * counts.pairs) pairs))
       ≡ answer_text repeats left_numbers right_numbers (found_pairs answer pairs) answer
-  text_joined is = sym (ap (λ (a : JoinAnswer). answer_text repeats left_numbers right_numbers (found_pairs a pairs) a) is)
+  text_joined is = sym (ap (λ (a : Result Counts Refusal). answer_text repeats left_numbers right_numbers (found_pairs a pairs) a) is)
 
-  pub text_refused : {why : Refusal} → answer ≡ Refused why
+  pub text_refused : {why : Refusal} → answer ≡ Err why
       → refusal_line why ≡ answer_text repeats left_numbers right_numbers (found_pairs answer pairs) answer
-  text_refused is = sym (ap (λ (a : JoinAnswer). answer_text repeats left_numbers right_numbers (found_pairs a pairs) a) is)
+  text_refused is = sym (ap (λ (a : Result Counts Refusal). answer_text repeats left_numbers right_numbers (found_pairs a pairs) a) is)
 
-pub lines_room : {answer : JoinAnswer} {pairs left_numbers right_numbers text : List ℕ} {counts : Counts}
-    → AnswerFits answer pairs left_numbers right_numbers text → answer ≡ Joined counts
+pub lines_room : {answer : Result Counts Refusal} {pairs left_numbers right_numbers text : List ℕ} {counts : Counts}
+    → AnswerFits answer pairs left_numbers right_numbers text → answer ≡ Ok counts
     → (now : List ℕ) (n : ℕ) → n ≤ line_room + repeats_room → length now ≡ length text
     → PairsRoom now n (take (2 * counts.pairs) pairs) left_numbers right_numbers
 lines_room {answer} {pairs} {left_numbers} {right_numbers} {text} {counts} fits is now n low same =

@@ -4,7 +4,10 @@ use mathlib.Core.Path.{◌≡◌, refl, sym, ap, subst, ◌∙◌}
 use mathlib.Core.List.{List, [], ◌++◌, append_assoc, append-nil}
 use mathlib.Core.Bool.{true}
 use native.Mathlib.Omega.{arith}
+use borrow.Author.Tests.{ltb-true, ltb-false}
+use lib.Dec.{ltb}
 use lib.ListN.{length, get_or, drop}
+use Rattle.lists.proofs.Bools.{by_test}
 use Rattle.lists.specs.Writing.{Put}
 use Rattle.lists.proofs.Writing.{put_append}
 use Rattle.text.specs.Lines.{pair_line, pair_lines}
@@ -58,8 +61,12 @@ module _ {was : List ℕ} {at : ℕ} {pairs lefts rights text : List ℕ} {n i :
           same = kept ∙ l.same;
         }
 
-  pub lines_all : length pairs ≤ i → Put was at (pair_lines lefts rights pairs) n text
+  -- so few places are left that no pair is
+  pub lines_all : length pairs < i + 2 → Put was at (pair_lines lefts rights pairs) n text
   lines_all past =
+      let end : length pairs ≤ i = by_test (ltb i (length pairs))
+      (λ t. let w = (pair_next (ltb-true i (length pairs) t)).whole in absurd (omega arith))
+      (λ f. ltb-false i (length pairs) f) in
       subst (λ (all : List ℕ). Put was at all n text)
-      (sym (append-nil l.done) ∙ ap (λ (rest : List ℕ). l.done ++ rest) (sym (lines_end lefts rights pairs i past)) ∙ l.whole)
+      (sym (append-nil l.done) ∙ ap (λ (rest : List ℕ). l.done ++ rest) (sym (lines_end lefts rights pairs i end)) ∙ l.whole)
       l.put

@@ -1,15 +1,26 @@
 -- One step through pairs of places that lie within two lists: the pair at the front of what is left, and its line.
-use Prim.Native.Nat.{ℕ, zero, suc, ◌+◌, ◌<◌, ◌≤◌}
+use Prim.Native.Nat.{ℕ, zero, suc, ◌+◌, ◌*◌, ◌<◌, ◌≤◌}
 use mathlib.Core.Path.{◌≡◌, refl, ap, subst, ◌∙◌}
 use mathlib.Core.List.{List, [], ◌∷◌, ◌++◌}
 use mathlib.Core.Bool.{true, ◌&&◌}
 use native.Mathlib.Omega.{arith}
 use lib.Dec.{ltb}
 use lib.ListN.{length, get_or, drop, drop_of_length-le}
+use lib.Seq.{get_or-take, get_or-drop}
 use borrow.Author.Tests.{ltb-true}
+use Rattle.std.specs.Simd.{first_chunks}
 use Rattle.lists.proofs.Bools.{and_left, and_right}
 use Rattle.text.specs.Lines.{pair_line, pair_lines}
 use Rattle.text.specs.pair_lines.Room.{pairs_within}
+
+-- a place of the pair p, read from the pairs as arrays of two
+pub place_at : (pairs : List ℕ) (m p j i : ℕ) → p < m → j < 2 → i ≡ 2 * p + j
+    → get_or (get_or (first_chunks 2 m pairs) p []) j 0 ≡ get_or pairs i 0
+place_at pairs (suc m) zero j i less in_pair e = get_or-take 2 pairs j 0 in_pair ∙ ap (λ (k : ℕ). get_or pairs k 0) (omega arith)
+place_at pairs (suc m) (suc p) j i less in_pair e =
+    place_at (drop 2 pairs) m p j (2 * p + j) (omega arith) in_pair refl ∙ get_or-drop 2 pairs (2 * p + j) 0
+    ∙ ap (λ (k : ℕ). get_or pairs k 0) (omega arith)
+place_at pairs zero p j i less in_pair e = absurd (omega arith)
 
 -- a pair of places at the front of what is left, its line, and the rest
 pub record PairAt (lefts rights pairs : List ℕ) (i : ℕ) : Type 0 where

@@ -9,6 +9,7 @@ use native.Mathlib.Omega.{arith}
 use borrow.Author.Tests.{le-leb, eqb-true, eq-eqb}
 use lib.Dec.{eqb, leb}
 use lib.ListN.{length}
+use Rattle.std.specs.Prelude.{Option, None, Some}
 use Rattle.lists.specs.Lists.{count, slice}
 use Rattle.lists.proofs.Bools.{and_both, same_test}
 use Rattle.lists.proofs.Slices.{slice_from}
@@ -19,15 +20,13 @@ use Rattle.validation.proofs.falls.Ends.{FirstEnd, ends_first, ends_rest, ends_b
 use Rattle.sets.specs.Limits.{max_sets, max_entries, max_set_length}
 use Rattle.sets.specs.Collections.{between, good_end, good_items, first_bad_from, first_bad, last_end, entries}
 use Rattle.validation.specs.collections.WholeList.{is_good}
-use Rattle.sets.specs.declared.Verdict.{Verdict}
-use Rattle.sets.specs.declared.Verdict.TheVariants.{Good, Bad}
 use Rattle.sets.proofs.Between.{length-between}
 use Rattle.sets.proofs.Entries.{entries_below}
 use Rattle.sets.proofs.Good.{good_cons, good_rest, last_above, not_bad}
 
-pub is_good_lem : (v : Verdict) → is_good v ≡ true → v ≡ Good
-is_good_lem Good e = refl
-is_good_lem (Bad k) e = let z : ◌≡◌ {A = ℕ} 0 1 = cc in absurd (omega arith)
+pub is_good_lem : (v : Option ℕ) → is_good v ≡ true → v ≡ None
+is_good_lem None e = refl
+is_good_lem (Some k) e = let z : ◌≡◌ {A = ℕ} 0 1 = cc in absurd (omega arith)
 
 -- no end is above the last
 ends_above : (start : ℕ) (ends : List ℕ) → good_ends max_set_length start ends ≡ true → start ≤ last_end start ends
@@ -103,7 +102,7 @@ module _ (T n : ℕ) (items : List ℕ) (few : n ≤ max_entries) (within : n �
       (sym (falls_none set) ∙ eq-eqb (falls set) 0 steady)))
 
   list_good : (k start : ℕ) (ends : List ℕ) → k + length ends ≤ max_sets → OneList T n start ends items
-      → first_bad_from T k start ends items ≡ Good
+      → first_bad_from T k start ends items ≡ None
   unfolding first_bad_from
   list_good k start [] room w = refl
   list_good k start (end ∷ ends) room w =
@@ -112,7 +111,7 @@ module _ (T n : ℕ) (items : List ℕ) (few : n ≤ max_entries) (within : n �
       (list_good (suc k) end ends (omega arith) c.rest)
 
 -- and where no set is bad, the test holds
-good_ends_from : (T k start : ℕ) (ends items : List ℕ) → first_bad_from T k start ends items ≡ Good
+good_ends_from : (T k start : ℕ) (ends items : List ℕ) → first_bad_from T k start ends items ≡ None
     → good_ends max_set_length start ends ≡ true
 good_ends_from T k start [] items e = ends_none max_set_length start
 good_ends_from T k start (end ∷ ends) items e =
@@ -120,7 +119,7 @@ good_ends_from T k start (end ∷ ends) items e =
     ends_both max_set_length start end ends here.ordered here.short
     (good_ends_from T (suc k) end ends items (good_rest T k start end ends items e))
 
-good_steady_from : (T n k start : ℕ) (ends items : List ℕ) → first_bad_from T k start ends items ≡ Good → last_end start ends ≡ n
+good_steady_from : (T n k start : ℕ) (ends items : List ℕ) → first_bad_from T k start ends items ≡ None → last_end start ends ≡ n
     → n ≤ length items → falls (slice start n items) ≡ border_falls n start ends items
 unfolding last_end border_falls
 good_steady_from T n k start [] items e last within = falls_end n items within start (omega arith)
@@ -134,11 +133,11 @@ good_steady_from T n k start (end ∷ ends) items e last within =
       good_steady_from T n (suc k) end ends items rest last within,
     )
 
-pub good_ends_lem : (T : ℕ) (ends items : List ℕ) → first_bad T ends items ≡ Good → good_ends max_set_length 0 ends ≡ true
+pub good_ends_lem : (T : ℕ) (ends items : List ℕ) → first_bad T ends items ≡ None → good_ends max_set_length 0 ends ≡ true
 good_ends_lem T ends items e = good_ends_from T 0 0 ends items e
 
 module _ (T n : ℕ) (ends items : List ℕ) (last : entries ends ≡ n) where
-  pub good_low : first_bad T ends items ≡ Good → count (leb T) (slice 0 n items) ≡ 0
+  pub good_low : first_bad T ends items ≡ None → count (leb T) (slice 0 n items) ≡ 0
   good_low e =
       eqb-true (count (leb T) (slice 0 n items)) 0
       (high_none T (slice 0 n items) ∙ rw (← last, slice_from 0 (entries ends) items, sub-zero (entries ends)) (entries_below T ends items e))

@@ -4,11 +4,10 @@ use mathlib.Core.Path.{◌≡◌, refl}
 use mathlib.Core.List.{List, [], ◌∷◌}
 use mathlib.Core.Bool.{true, false, ◌&&◌}
 use Prim.Native.Nat.{ℕ, ◌+◌, ◌-◌, ◌<◌, ◌≤◌}
-use native.Mathlib.Numerals.{add-one}
 use borrow.Author.Tests.{leb-true, le-leb, lt-leb}
 use lib.Dec.{leb}
 use lib.ListN.{length, get_or, drop, drop_of_length-le}
-use lib.Seq.{drop-cons}
+use Rattle.std.proofs.lemmas.List.{drop_more}
 use Rattle.lists.proofs.Bools.{and_left, and_right, and_both}
 use Rattle.validation.specs.falls.Falls.{good_ends}
 
@@ -45,23 +44,22 @@ ends_none longest start = refl
 module _ (longest : ℕ) (ends : List ℕ) (k start : ℕ) where
   pub ends_low : k < length ends → get_or ends k 0 < start → good_ends longest start (drop k ends) ≡ false
   unfolding good_ends
-  ends_low below low = rw (drop-cons ends k 0 below, lt-leb start (get_or ends k 0) low)
+  ends_low below low = rw (drop_more ends k 0 below, lt-leb start (get_or ends k 0) low)
 
   pub ends_long : k < length ends → start ≤ get_or ends k 0 → longest < get_or ends k 0 - start
       → good_ends longest start (drop k ends) ≡ false
   unfolding good_ends
   ends_long below low long =
-      rw (drop-cons ends k 0 below, le-leb start (get_or ends k 0) low, lt-leb (get_or ends k 0 - start) longest long)
+      rw (drop_more ends k 0 below, le-leb start (get_or ends k 0) low, lt-leb (get_or ends k 0 - start) longest long)
 
   pub ends_next : k < length ends → start ≤ get_or ends k 0 → get_or ends k 0 - start ≤ longest
       → good_ends longest start (drop k ends) ≡ good_ends longest (get_or ends k 0) (drop (k + 1) ends)
   unfolding good_ends
   ends_next below low short =
       rw (
-        drop-cons ends k 0 below,
+        drop_more ends k 0 below,
         le-leb start (get_or ends k 0) low,
         le-leb (get_or ends k 0 - start) longest short,
-        add-one k,
       )
 
   pub ends_end : length ends ≤ k → good_ends longest start (drop k ends) ≡ true

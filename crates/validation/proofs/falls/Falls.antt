@@ -58,6 +58,14 @@ module _ (n : ℕ) (l : List ℕ) (within : n ≤ length l) where
       (λ b. rw (slice_next e n l (ltb-true e n b) within, slice_past (e + 1) n l past))
       (λ b. rw (slice_past e n l (ltb-false e n b)))
 
+  -- the same told by the later of the two numbers
+  pub falls_before : (e : ℕ) → 1 ≤ e → e < n
+      → falls (slice (e - 1) n l) ≡ one (leb (get_or l e 0) (get_or l (e - 1) 0)) + falls (slice (e + 1 - 1) n l)
+  falls_before e some below =
+      let here : e - 1 + 1 ≡ e = omega arith in
+      let next : e + 1 - 1 ≡ e = omega arith in
+      rw next (rw here at (falls_next (e - 1) (omega arith)))
+
 -- a part with a number before its border
 border_inner : (n start mid : ℕ) (l : List ℕ) → start < mid
     → border_fall n start mid l ≡ one (ltb mid n && leb (get_or l mid 0) (get_or l (mid - 1) 0))

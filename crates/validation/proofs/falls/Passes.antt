@@ -2,18 +2,23 @@
 -- in Falls.
 use mathlib.Core.Path.{◌≡◌, refl}
 use mathlib.Core.List.{List, [], ◌∷◌}
-use mathlib.Core.Bool.{◌&&◌}
+use mathlib.Core.Bool.{Bool, true, false, ◌&&◌}
 use Prim.Native.Nat.{ℕ, ◌+◌, ◌-◌, ◌<◌, ◌≤◌}
 use native.Mathlib.Omega.{arith}
-use native.Mathlib.Numerals.{add-one}
 use lib.Dec.{eqb, leb, ltb}
 use lib.ListN.{length, get_or, drop, drop_of_length-le}
-use lib.Seq.{drop-cons}
+use Rattle.std.specs.Int.{from_bool}
+use Rattle.std.proofs.lemmas.List.{drop_more}
 use Rattle.lists.specs.Lists.{one, count, all, slice}
 use Rattle.lists.proofs.Counting.{one_bound, count_append}
-use Rattle.lists.proofs.Slices.{slice_next, slice_past, slice-split}
+use Rattle.lists.proofs.Slices.{slice-split}
 use Rattle.validation.specs.falls.Falls.{border_fall, border_falls}
 use Rattle.validation.proofs.falls.Falls.{none_first}
+
+-- a test as a number
+pub number_one : (b : Bool) → from_bool b ≡ one b
+number_one true = refl
+number_one false = refl
 
 -- no number is T or more exactly where all are below
 pub high_none : (T : ℕ) (l : List ℕ) → eqb (count (leb T) l) 0 ≡ all (λ i. ltb i T) l
@@ -21,22 +26,23 @@ unfolding count all
 high_none T [] = refl
 high_none T (x ∷ xs) = none_first x T (count (leb T) xs) (all (λ i. ltb i T) xs) (high_none T xs)
 
--- the count of such numbers from place e up to n, and cut in two at a place
-module _ (T n : ℕ) (list : List ℕ) (within : n ≤ length list) where
-  pub high_next : (e : ℕ) → e < n
-      → count (leb T) (slice e n list) ≡ one (leb T (get_or list e 0)) + count (leb T) (slice (e + 1) n list)
+-- the count of such numbers from place k on
+module _ (T : ℕ) (list : List ℕ) (k : ℕ) where
+  pub high_next : k < length list
+      → count (leb T) (drop k list) ≡ one (leb T (get_or list k 0)) + count (leb T) (drop (k + 1) list)
   unfolding count
-  high_next e below = rw (slice_next e n list below within)
+  high_next below = rw (drop_more list k 0 below)
 
-  pub high_end : (e : ℕ) → n ≤ e → count (leb T) (slice e n list) ≡ 0
+  pub high_end : length list ≤ k → count (leb T) (drop k list) ≡ 0
   unfolding count
-  high_end e past = rw (slice_past e n list past)
+  high_end past = rw (drop_of_length-le list {i = k} past)
 
-  pub high_cut : (start mid : ℕ) → start ≤ mid → mid ≤ n
-      → count (leb T) (slice start n list) ≡ count (leb T) (slice start mid list) + count (leb T) (slice mid n list)
-  high_cut start mid low high =
-      rw (slice-split start mid n list low high (omega arith))
-      (count_append (leb T) (slice start mid list) (slice mid n list))
+-- and of those of a part, cut in two at a place
+pub high_cut : (T n : ℕ) (list : List ℕ) → n ≤ length list → (start mid : ℕ) → start ≤ mid → mid ≤ n
+    → count (leb T) (slice start n list) ≡ count (leb T) (slice start mid list) + count (leb T) (slice mid n list)
+high_cut T n list within start mid low high =
+    rw (slice-split start mid n list low high (omega arith))
+    (count_append (leb T) (slice start mid list) (slice mid n list))
 
 -- the borders from place k on: the next place, and the end
 module _ (n : ℕ) (ends list : List ℕ) (k start : ℕ) where
@@ -44,7 +50,7 @@ module _ (n : ℕ) (ends list : List ℕ) (k start : ℕ) where
       → border_falls n start (drop k ends) list
       ≡ border_fall n start (get_or ends k 0) list + border_falls n (get_or ends k 0) (drop (k + 1) ends) list
   unfolding border_falls
-  borders_next below = rw (drop-cons ends k 0 below, add-one k)
+  borders_next below = rw (drop_more ends k 0 below)
 
   pub borders_end : length ends ≤ k → border_falls n start (drop k ends) list ≡ 0
   unfolding border_falls

@@ -7,9 +7,8 @@ use Prim.Native.Nat.{ℕ, suc, ◌+◌, ◌<◌, ◌≤◌}
 use native.Mathlib.Numerals.{add-one}
 use borrow.Author.Tests.{lt-leb, le-leb, lt-ltb, le-ltb}
 use lib.Dec.{leb, ltb, leb-zero}
-use lib.ListN.{length, get_or}
-use Rattle.sets.specs.Collections.{between}
-use Rattle.sets.proofs.Between.{between_cons, between_nil}
+use lib.ListN.{length, get_or, drop, drop_of_length-le}
+use Rattle.std.proofs.lemmas.List.{drop_more}
 use Rattle.lists.specs.Lists.{all, rising, rising_after}
 
 -- whether the numbers are below T, the first at least least, and each later one above the one before
@@ -41,24 +40,24 @@ rises_all T [] = refl
 rises_all T (x ∷ xs) =
     rw (leb-zero x, rises_after T x xs) (sym (and_assoc (ltb x T) (all (λ i. ltb i T) xs) (rising_after x xs)))
 
--- the test along the part of a list from i up to end, where x stands at i
-module _ (T end i : ℕ) (l : List ℕ) (below : i < end) (within : end ≤ length l) where
-  pub rises_low : (least : ℕ) → get_or l i 0 < least → rises_from T least (between i end l) ≡ false
+-- the test from place i on, where x stands
+module _ (T i : ℕ) (l : List ℕ) (below : i < length l) where
+  pub rises_low : (least : ℕ) → get_or l i 0 < least → rises_from T least (drop i l) ≡ false
   unfolding rises_from
-  rises_low least low = rw (between_cons i end l below within, lt-leb least (get_or l i 0) low)
+  rises_low least low = rw (drop_more l i 0 below, lt-leb least (get_or l i 0) low)
 
-  pub rises_high : (least : ℕ) → T ≤ get_or l i 0 → rises_from T least (between i end l) ≡ false
+  pub rises_high : (least : ℕ) → T ≤ get_or l i 0 → rises_from T least (drop i l) ≡ false
   unfolding rises_from
   rises_high least high =
-      rw (between_cons i end l below within, le-ltb (get_or l i 0) T high)
-      (never (leb least (get_or l i 0)) (rises_from T (suc (get_or l i 0)) (between (i + 1) end l)))
+      rw (drop_more l i 0 below, le-ltb (get_or l i 0) T high)
+      (never (leb least (get_or l i 0)) (rises_from T (suc (get_or l i 0)) (drop (i + 1) l)))
 
   pub rises_next : (least : ℕ) → least ≤ get_or l i 0 → get_or l i 0 < T
-      → rises_from T least (between i end l) ≡ rises_from T (get_or l i 0 + 1) (between (i + 1) end l)
+      → rises_from T least (drop i l) ≡ rises_from T (get_or l i 0 + 1) (drop (i + 1) l)
   unfolding rises_from
   rises_next least low high =
-      rw (between_cons i end l below within, le-leb least (get_or l i 0) low, lt-ltb (get_or l i 0) T high, add-one (get_or l i 0))
+      rw (drop_more l i 0 below, le-leb least (get_or l i 0) low, lt-ltb (get_or l i 0) T high, add-one (get_or l i 0))
 
-pub rises_end : (T end i least : ℕ) (l : List ℕ) → end ≤ i → rises_from T least (between i end l) ≡ true
+pub rises_end : (T i least : ℕ) (l : List ℕ) → length l ≤ i → rises_from T least (drop i l) ≡ true
 unfolding rises_from
-rises_end T end i least l past = rw (between_nil i end l past)
+rises_end T i least l past = rw (drop_of_length-le l {i = i} past)

@@ -1,23 +1,23 @@
--- Tables of flags: the flags of no word, of one word more, and what they tell; and the invariants of `flag_words` and of
--- `unflag_words`, with their start, step and end.
-use Prim.Native.Nat.{ℕ, ◌+◌, ◌≤◌, ◌<◌}
+-- Tables of flags: the flags of no word, and what flags tell; the invariant of `set_flags`, with its start, step and end, and what
+-- it makes of a table.
+use Prim.Native.Nat.{ℕ, ◌+◌, ◌-◌, ◌≤◌, ◌<◌}
 use mathlib.Core.Path.{◌≡◌, refl, sym, ap, subst, ◌∙◌}
-use mathlib.Core.List.{List, [], ◌∷◌, ◌++◌}
-use mathlib.Core.Bool.{Bool, true, false, or-false, or-true}
+use mathlib.Core.List.{List, [], ◌∷◌}
+use mathlib.Core.Bool.{Bool, true, false, ◌||◌, or-false}
 use native.Mathlib.Omega.{arith}
-use native.Mathlib.Numerals.{add-one}
 use lib.Dec.{eqb, ltb}
-use lib.ListN.{length, get_or, set, replicate, length-set, length-replicate}
+use lib.ListN.{length, get_or, take, drop, set, replicate, length-set, length-replicate}
 use lib.Seq.{get_or-set_same, get_or-set_other}
 use borrow.Author.Tests.{ltb-true, eqb-true, eqb-false}
-use Rattle.lists.specs.Lists.{one, memb, slice}
+use Rattle.std.proofs.lemmas.List.{take_all, take_more}
+use Rattle.lists.specs.Lists.{one, all, memb, slice}
 use Rattle.lists.proofs.Counting.{one_bound}
-use Rattle.lists.proofs.Bools.{by_test}
+use Rattle.lists.proofs.Bools.{by_test, or_left_false, or_right_false}
 use Rattle.lists.proofs.Zeros.{get_d_zeros}
-use Rattle.lists.proofs.Membership.{memb_append}
-use Rattle.lists.proofs.Slices.{slice_none, slice_past, slice_next, slice_snoc, all_slice}
-use Rattle.words.specs.Words.{Word}
-use Rattle.words.specs.flags.Flags.{flag_room, Below, Flagged, is_flagged, Clear}
+use Rattle.lists.proofs.Membership.{memb_nil, memb_append}
+use Rattle.lists.proofs.Throughout.{all_at}
+use Rattle.lists.proofs.Slices.{slice_from, all_slice}
+use Rattle.words.specs.flags.Flags.{flag_room, Below, Flagged, FlagsSet, is_flagged, Clear}
 
 -- a word of a part
 pub word_below : {bound lo hi : ℕ} {w : List ℕ} → Below bound lo hi w → (i : ℕ) → lo ≤ i → i < hi → get_or w i 0 < bound
@@ -56,112 +56,62 @@ flagged_own f = record { is = λ s low. f.is s low ∙ ap one (sym (flag_tells f
 pub flag_small : {test : ℕ → Bool} {flags : List ℕ} → Flagged test flags → (s : ℕ) → s < length flags → get_or flags s 0 ≤ 1
 flag_small {test} {flags} f s low = subst (λ (n : ℕ). n ≤ 1) (sym (f.is s low)) (one_bound (test s))
 
--- one word more
-one_more : (s x : ℕ) (list flags : List ℕ) → x < length flags → get_or flags s 0 ≡ one (memb s list)
-    → get_or (set flags x 1) s 0 ≡ one (memb s (list ++ (x ∷ [])))
+-- a word of a part that is gone through
+pub item_below : {bound lo hi : ℕ} {w : List ℕ} → Below bound lo hi w
+    → (k : ℕ) → k < length (take (hi - lo) (drop lo w)) → get_or (take (hi - lo) (drop lo w)) k 0 < bound
+item_below {bound} {lo} {hi} {w} p k low =
+    let test = λ (s : ℕ). ltb s bound in
+    let part = take (hi - lo) (drop lo w) in
+    ltb-true (get_or part k 0) bound (all_at test 0 part (ap (all test) (sym (slice_from lo hi w)) ∙ p.below) k low)
+
+-- the flags of the words passed are set: at the start, after one word more, and at the end
+pub setting_start : (flag : ℕ) (flags : List ℕ) → FlagsSet flag [] flags flags
+setting_start flag flags =
+    record { size = refl; member = λ s low m. memb_nil s m; other = λ s m. refl }
+
+pub setting_step : {flag : ℕ} (list : List ℕ) (k : ℕ) {was flags : List ℕ} → FlagsSet flag (take k list) was flags
+    → k < length list → get_or list k 0 < length flags → FlagsSet flag (take (k + 1) list) was (set flags (get_or list k 0) flag)
 unfolding memb
-one_more s x list flags room is =
-    by_test (eqb s x)
-    (λ e.
-    let same : s ≡ x = eqb-true s x e in
-    let there : memb s (list ++ (x ∷ [])) ≡ true =
-    memb_append s list (x ∷ []) ∙ rw (e, or-true (memb s list)) in
-    ap (λ (n : ℕ). get_or (set flags x 1) n 0) same ∙ get_or-set_same flags x 1 0 room ∙ sym (ap one there))
-    (λ e.
-    let other : memb s (list ++ (x ∷ [])) ≡ memb s list =
-    memb_append s list (x ∷ []) ∙ rw (e, or-false (memb s list)) in
-    get_or-set_other flags x s 1 0 (eqb-false s x e) ∙ is ∙ sym (ap one other))
+setting_step {flag} list k {was} {flags} f below low =
+    let x = get_or list k 0 in
+    let last = λ (s : ℕ).
+    sym (ap (λ (b : Bool). memb s (take k list) || b) (or-false (eqb s x))) ∙ sym (memb_append s (take k list) (x ∷ []))
+    ∙ ap (memb s) (sym (take_more list k 0 below))
+    in
+    record {
+      size = length-set flags x flag ∙ f.size;
+      member = λ s small m.
+          by_test (eqb s x)
+          (λ e. ap (λ (n : ℕ). get_or (set flags x flag) n 0) (eqb-true s x e) ∙ get_or-set_same flags x flag 0 low)
+          (λ e.
+          let before : (memb s (take k list) || eqb s x) ≡ true = last s ∙ m in
+          get_or-set_other flags x s flag 0 (eqb-false s x e)
+          ∙ f.member s small (sym (or-false (memb s (take k list))) ∙ ap (λ (b : Bool). memb s (take k list) || b) (sym e) ∙ before));
+      other = λ s m.
+          let neither : (memb s (take k list) || eqb s x) ≡ false = last s ∙ m in
+          get_or-set_other flags x s flag 0 (eqb-false s x (or_right_false (memb s (take k list)) (eqb s x) neither))
+          ∙ f.other s (or_left_false (memb s (take k list)) (eqb s x) neither);
+    }
 
-flagged_more : (x : ℕ) (list flags : List ℕ) → x < length flags → Flagged (λ s. memb s list) flags
-    → Flagged (λ s. memb s (list ++ (x ∷ []))) (set flags x 1)
-flagged_more x list flags low f =
-    record { is = λ s small. one_more s x list flags low (f.is s (rw length-set at small)) }
+pub setting_end : (lo hi : ℕ) (w : List ℕ) {flag k : ℕ} {was flags : List ℕ} → FlagsSet flag (take k (take (hi - lo) (drop lo w))) was flags
+    → length (take (hi - lo) (drop lo w)) ≤ k → FlagsSet flag (slice lo hi w) was flags
+setting_end lo hi w {flag} {k} {was} {flags} f past =
+    let part = take (hi - lo) (drop lo w) in
+    subst (λ (l : List ℕ). FlagsSet flag l was flags) (take_all k part past ∙ sym (slice_from lo hi w)) f
 
--- the words of a part are flagged up to place i
-pub record Flagging (w : List ℕ) (a b : ℕ) (was flags : List ℕ) (i : ℕ) : Type 0 where
-  pub size : length flags ≡ length was
-  pub low : a ≤ i
-  pub high : i ≤ b
-  pub flagged : Flagged (λ s. memb s (slice a i w)) flags
+-- where no number was flagged, the words of a list now are; and their flags are taken away again
+pub flags_put : {list was flags : List ℕ} → Flagged (λ s. false) was → FlagsSet 1 list was flags → Flagged (λ s. memb s list) flags
+flags_put {list} {was} {flags} none f =
+    record {
+      is = λ s low.
+          let small : s < length was = omega (arith, f.size) in
+          by_test (memb s list) (λ m. f.member s small m ∙ sym (ap one m)) (λ m. f.other s m ∙ none.is s small ∙ sym (ap one m));
+    }
 
-module _ {w : List ℕ} {a b : ℕ} {was : List ℕ} (places : Below (length was) a b w) where
-  pub flagging_start : Flagged (λ s. false) was → Flagging w a b was was a
-  unfolding memb
-  flagging_start none =
-      record {
-        size = refl;
-        low = omega arith;
-        high = places.order;
-        flagged = flagged_same none (λ s. sym (ap (memb s) (slice_none a w)));
-      }
-
-  pub flagging_low : {flags : List ℕ} {i s : ℕ} → Flagging w a b was flags i → i < b → Word w i s → s < length flags
-  flagging_low {flags} {i} f more word = omega (arith, f.size, word_below places i f.low more, word.is)
-
-  pub flagging_step : {flags : List ℕ} {i x : ℕ} → Flagging w a b was flags i → i < b → Word w i x
-      → Flagging w a b was (set flags x 1) (i + 1)
-  flagging_step {flags} {i} {x} f more word =
-      let longer : slice a (i + 1) w ≡ slice a i w ++ (x ∷ []) =
-      ap (λ (n : ℕ). slice a n w) (add-one i) ∙ slice_snoc 0 a i w f.low (omega (arith, places.within))
-      ∙ ap (λ (y : ℕ). slice a i w ++ (y ∷ [])) (sym word.is)
-      in
-      record {
-        size = length-set flags x 1 ∙ f.size;
-        low = omega (arith, f.low);
-        high = omega arith;
-        flagged =
-            flagged_same (flagged_more x (slice a i w) flags (flagging_low f more word) f.flagged)
-            (λ s. sym (ap (memb s) longer));
-      }
-
-  pub flagging_end : {flags : List ℕ} {i : ℕ} → Flagging w a b was flags i → b ≤ i → Flagged (λ s. memb s (slice a b w)) flags
-  flagging_end {flags} {i} f past =
-      let here : i ≡ b = omega (arith, f.high) in
-      subst (λ (n : ℕ). Flagged (λ s. memb s (slice a n w)) flags) here f.flagged
-
--- of a part whose words were flagged those from place i on may still be; no other number is
-pub record Unflagging (w : List ℕ) (a b : ℕ) (was flags : List ℕ) (i : ℕ) : Type 0 where
-  pub size : length flags ≡ length was
-  pub low : a ≤ i
-  pub high : i ≤ b
-  pub others : (s : ℕ) → s < length flags → memb s (slice i b w) ≡ false → get_or flags s 0 ≡ 0
-
-module _ {w : List ℕ} {a b : ℕ} {was : List ℕ} (places : Below (length was) a b w) where
-  pub unflagging_start : Flagged (λ s. memb s (slice a b w)) was → Unflagging w a b was was a
-  unflagging_start f =
-      record {
-        size = refl;
-        low = omega arith;
-        high = places.order;
-        others = λ s low other. f.is s low ∙ ap one other;
-      }
-
-  pub unflagging_low : {flags : List ℕ} {i s : ℕ} → Unflagging w a b was flags i → i < b → Word w i s → s < length flags
-  unflagging_low {flags} {i} f more word = omega (arith, f.size, word_below places i f.low more, word.is)
-
-  pub unflagging_step : {flags : List ℕ} {i x : ℕ} → Unflagging w a b was flags i → i < b → Word w i x
-      → Unflagging w a b was (set flags x 0) (i + 1)
-  unfolding memb
-  unflagging_step {flags} {i} {x} f more word =
-      let next : slice i b w ≡ x ∷ slice (i + 1) b w =
-      slice_next i b w more places.within ∙ ap (λ (y : ℕ). y ∷ slice (i + 1) b w) (sym word.is)
-      in
-      record {
-        size = length-set flags x 0 ∙ f.size;
-        low = omega (arith, f.low);
-        high = omega arith;
-        others =
-            λ s small other.
-            by_test (eqb s x)
-            (λ e.
-            ap (λ (n : ℕ). get_or (set flags x 0) n 0) (eqb-true s x e)
-            ∙ get_or-set_same flags x 0 0 (unflagging_low f more word))
-            (λ e.
-            get_or-set_other flags x s 0 0 (eqb-false s x e)
-            ∙ f.others s (rw length-set at small) (ap (memb s) next ∙ rw (e, other)));
-      }
-
-  pub unflagging_end : {flags : List ℕ} {i : ℕ} → Unflagging w a b was flags i → b ≤ i → Flagged (λ s. false) flags
-  unfolding memb
-  unflagging_end {flags} {i} f past =
-      record { is = λ s low. f.others s low (ap (memb s) (slice_past i b w past)) }
+pub flags_taken : {list was flags : List ℕ} → Flagged (λ s. memb s list) was → FlagsSet 0 list was flags → Flagged (λ s. false) flags
+flags_taken {list} {was} {flags} put f =
+    record {
+      is = λ s low.
+          let small : s < length was = omega (arith, f.size) in
+          by_test (memb s list) (λ m. f.member s small m) (λ m. f.other s m ∙ put.is s small ∙ ap one m);
+    }

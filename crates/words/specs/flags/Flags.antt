@@ -1,6 +1,6 @@
 -- Inner: tables of flags, one for each number below their length, and the words of a part that one keeps, written behind the part.
 use Rattle.std.specs.Prelude.{ℕ, ◌+◌, ◌-◌, ◌≤◌, ◌<◌, ◌≡◌, List, Bool, true, false, eqb, ltb, length, get_or}
-use Rattle.lists.specs.Lists.{one, all, keep, slice}
+use Rattle.lists.specs.Lists.{one, all, keep, memb, slice}
 use Rattle.lists.specs.Parts.{Changed}
 
 -- how many flags a table has
@@ -16,6 +16,12 @@ pub record Below (bound lo hi : ℕ) (w : List ℕ) : Type 0 where
 -- the flag of each number in the table is 1 if the test holds of it, else 0
 pub record Flagged (test : ℕ → Bool) (flags : List ℕ) : Type 0 where
   pub is : (s : ℕ) → s < length flags → get_or flags s 0 ≡ one (test s)
+
+-- the flag of each number of a list became the one given; the others are as they were
+pub record FlagsSet (flag : ℕ) (list was is : List ℕ) : Type 0 where
+  pub size : length is ≡ length was
+  pub member : (s : ℕ) → s < length was → memb s list ≡ true → get_or is s 0 ≡ flag
+  pub other : (s : ℕ) → memb s list ≡ false → get_or is s 0 ≡ get_or was s 0
 
 -- whether the flag of a number is 1
 abbrev pub is_flagged : List ℕ → ℕ → Bool

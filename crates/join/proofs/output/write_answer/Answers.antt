@@ -5,14 +5,14 @@ use Rattle.join.proofs.output.write_answer.Goals as goal
 pub write_pairs-requires : goal.write_pairs-requires
 write_pairs-requires c =
     record {
-      some_query = record { query = c.requires.some_query.query; holds = c.requires.some_query.holds.joined _ c.in-Joined.is };
+      some_query = record { query = c.requires.some_query.query; holds = c.requires.some_query.holds.joined _ c.in-Ok.is };
       clear = c.requires.clear;
     }
 
-pub returns-in-Joined : goal.returns-in-Joined
-returns-in-Joined c = λ q room.
-    after_joined _ _ c.in-Joined.is (c.write_pairs.ensures q (room.joined _ c.in-Joined.is))
+pub returns-in-Ok : goal.returns-in-Ok
+returns-in-Ok c = λ q room.
+    after_joined _ _ c.in-Ok.is (c.write_pairs.ensures q (room.joined _ c.in-Ok.is))
 
-pub returns-in-Refused : goal.returns-in-Refused
-returns-in-Refused c = λ q room.
-    after_refused _ _ c.in-Refused.is (room.refused _ c.in-Refused.is) c.zero_u16.ensures
+pub returns-in-Err : goal.returns-in-Err
+returns-in-Err c = λ q room.
+    after_refused _ _ c.in-Err.is (room.refused _ c.in-Err.is) (c.fill.ensures.after (λ y h. h))

@@ -2,18 +2,9 @@ use Prim.Native.Nat.{ℕ, ◌+◌, ◌-◌, ◌*◌}
 use mathlib.Core.Path.{◌≡◌, ap, ◌∙◌}
 use native.Mathlib.Omega.{arith}
 use native.Mathlib.Nat.{one-mul}
-use Rattle.join_check.proofs.gather.Gathering.{ranges_within, ranges_row, row_ranges}
-use Rattle.join_check.proofs.gather.Gathering.{left_start, left_room, left_front, left_none}
+use Rattle.join_check.proofs.gather.Gathering.{ranges_row, row_ranges}
+use Rattle.join_check.proofs.gather.Gathering.{left_room, left_front, left_none}
 use Rattle.join_check.proofs.gather.check_range.Goals as goal
-
-pub loop-i-init : goal.loop-i-init
-loop-i-init c = left_start
-
-pub overflow_add-order : goal.overflow_add-order
-overflow_add-order c = omega (arith, ranges_within c.requires.some_query.holds)
-
-pub word_at-k-requires : goal.word_at-k-requires
-word_at-k-requires c = omega (arith, ranges_within c.requires.some_query.holds)
 
 pub check_row-r-requires : goal.check_row-r-requires
 check_row-r-requires c =

@@ -1,10 +1,6 @@
--- `join_check::gather::check_range` meets its contract. The invariant: the left sets from place i on are left. The measure is how many.
-use Prim.Native.Nat.{◌-◌}
+-- `join_check::gather::check_range` meets its contract. The invariant: the left sets from place i on are left.
 use Rattle.join_check.proofs.gather.Gathering.{RangesLeft}
 use Rattle.join_check.proofs.gather.check_range.Given as goal
 
 abbrev pub invariant-loop-i : goal.invariant-loop-i
 invariant-loop-i l = RangesLeft l.lay l.work l.e l.lo l.hi l.from l.to l.initial.r l.r l.i l.hi
-
-abbrev pub decreases-loop-i : goal.decreases-loop-i
-decreases-loop-i l = l.hi - l.i

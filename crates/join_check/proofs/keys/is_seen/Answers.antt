@@ -4,21 +4,12 @@ use Prim.Native.Nat.{ℕ, ◌+◌}
 use native.Mathlib.Omega.{arith}
 use lib.Dec.{leb}
 use lib.ListN.{get_or}
-use Rattle.join_index.proofs.Reading.{right_stored}
 use Rattle.join_index.proofs.Places.{right_none, right_first}
 use Rattle.join_check.proofs.keys.is_seen.Goals as goal
 
 pub returns-then-to-from : goal.returns-then-to-from
 returns-then-to-from c =
     λ q there. right_none c.args.r there (omega arith)
-
-pub overflow_add-ranks : goal.overflow_add-ranks
-overflow_add-ranks c =
-    let t = right_stored c.requires.holds in omega arith
-
-pub word_at-least-requires : goal.word_at-least-requires
-word_at-least-requires c =
-    let t = right_stored c.requires.holds in omega arith
 
 pub returns : goal.returns
 returns c =

@@ -3,28 +3,12 @@ use mathlib.Core.Path.{ap, ◌∙◌}
 use Prim.Native.Nat.{ℕ, ◌+◌}
 use native.Mathlib.Omega.{arith}
 use lib.ListN.{get_or}
-use Rattle.join_index.proofs.Reading.{left_stored, key_none, key_rank}
+use Rattle.join_index.proofs.Reading.{key_none, key_rank}
 use Rattle.join_check.proofs.keys.key_at.Goals as goal
-
-pub overflow_sub-to : goal.overflow_sub-to
-overflow_sub-to c =
-    let s = left_stored c.requires.holds in omega arith
 
 pub returns-then-to-from : goal.returns-then-to-from
 returns-then-to-from c =
     λ q there. key_none c.args.d there (omega arith)
-
-pub overflow_add-ranks : goal.overflow_add-ranks
-overflow_add-ranks c =
-    let s = left_stored c.requires.holds in omega arith
-
-pub overflow_add-ranks-2 : goal.overflow_add-ranks-2
-overflow_add-ranks-2 c =
-    let s = left_stored c.requires.holds in omega arith
-
-pub word_at-requires : goal.word_at-requires
-word_at-requires c =
-    let s = left_stored c.requires.holds in omega arith
 
 pub returns : goal.returns
 returns c =

@@ -1,31 +1,18 @@
-use Prim.Native.Nat.{◌-◌}
+use Prim.Native.Nat.{ℕ}
+use mathlib.Core.Path.{◌≡◌, subst}
 use native.Mathlib.Omega.{arith}
-use Rattle.join_index.proofs.Orders.{range_left, range_within}
+use Rattle.join_index.specs.Ranges.{RangeEnd}
+use Rattle.join_index.proofs.Orders.{range_left}
 use Rattle.join_check.proofs.keys.RangeEnds.{reaching_start, reaching_stop, reaching_step, reaching_end}
 use Rattle.join_check.proofs.keys.range_end.Goals as goal
-
-pub overflow_add-order : goal.overflow_add-order
-overflow_add-order c = omega (arith, range_within c.requires.holds)
-
-pub word_at-first-requires : goal.word_at-first-requires
-word_at-first-requires c = omega (arith, range_within c.requires.holds, c.requires.holds.some)
 
 pub key_at-key-requires : goal.key_at-key-requires
 key_at-key-requires c =
     let there = c.requires.holds in
     record { query = c.requires.query; holds = range_left there c.args.i there.some c.word_at-first.ensures }
 
-pub overflow_add-j : goal.overflow_add-j
-overflow_add-j c = omega (arith, c.requires.holds.some)
-
 pub loop-j-init : goal.loop-j-init
 loop-j-init c = reaching_start c.requires.holds.some
-
-pub overflow_add-order-in-loop-j : goal.overflow_add-order-in-loop-j
-overflow_add-order-in-loop-j c = omega (arith, range_within c.requires.holds)
-
-pub word_at-k-requires : goal.word_at-k-requires
-word_at-k-requires c = omega (arith, range_within c.requires.holds)
 
 pub key_at-requires : goal.key_at-requires
 key_at-requires c =
@@ -45,4 +32,8 @@ loop-j-preserved c =
     c.word_at-k.ensures c.key_at.ensures c.if-key_at-key.false
 
 pub returns : goal.returns
-returns c = reaching_end c.loop-j.invariant c.loop-j-test.false
+returns c =
+    let a = c.args in
+    let all : c.loop-j.j ≡ a.hi = omega (arith, c.loop-j.invariant.within) in
+    subst (λ (n : ℕ). RangeEnd a.lay a.work.now a.d a.i a.hi n) all
+    (reaching_end c.loop-j.invariant c.loop-j-test.false)

@@ -15,7 +15,7 @@ pair_ended-at-requires c =
     record {
       some_query = some-query c.requires.some_path (λ q path going. merged_list going c.requires.lo_lt_hi c.merged_end-mid.ensures);
       lo_le_hi = c.merged_end-mid.ensures.low;
-      is_by_path_bound = going_room c.requires.some_path.holds (c.merged_end-mid.result - c.args.lo) (omega (arith, c.merged_end-mid.ensures.high));
+      is_by_path_bound = going_room c.requires.some_path.holds (c.merged_end-mid.result - c.args.node.now.lo) (omega (arith, c.merged_end-mid.ensures.high));
     }
 
 pub returns : goal.returns

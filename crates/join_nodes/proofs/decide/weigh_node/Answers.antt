@@ -18,7 +18,7 @@ rank_on-root-requires c = some_path c.requires (λ q path node. node_path node 0
 
 pub rank_on-rank-requires : goal.rank_on-rank-requires
 rank_on-rank-requires c =
-    some_path c.requires (λ q path node. node_path node (c.args.d - 1) (omega (arith, node.candidates.deep)))
+    some_path c.requires (λ q path node. node_path node (c.args.node.now.depth - 1) (omega (arith, node.candidates.deep)))
 
 -- both words of the last rank's offsets lie in the work list
 rank_low : (c : After-rank_on-rank)
@@ -74,8 +74,8 @@ count_seen-t-requires c =
     (inverted_read node.candidates (last_read node c.rank_on-rank.ensures) c.word_at-first.ensures
     c.word_at-last.ensures))
 
-pub overflow_cast-to : goal.overflow_cast-to
-overflow_cast-to c =
+pub overflow_cast-node : goal.overflow_cast-node
+overflow_cast-node c =
     let node = c.requires.holds in
     omega (arith, node.candidates.few, node.candidates.index.ground.right_few)
 
@@ -101,4 +101,4 @@ returns c =
     let held = inverted_read node.candidates rank c.word_at-first.ensures c.word_at-last.ensures in
     c.weigh.ensures
     ∙ sym (counted_goes _ _ _ node held c.count_seen-t.ensures (weighed_asks q weighed) (first_read node c.rank_on-root.ensures)
-    ∙ ap (λ (rule : Rule). goes_on rule (a.to - a.from) c.count_seen-t.result (a.hi - a.lo)) weighed)
+    ∙ ap (λ (rule : Rule). goes_on rule (a.node.now.to - a.node.now.from) c.count_seen-t.result (a.node.now.hi - a.node.now.lo)) weighed)

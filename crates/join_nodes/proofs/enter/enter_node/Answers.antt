@@ -3,8 +3,8 @@
 use Prim.Native.Nat.{ℕ, ◌-◌}
 use mathlib.Core.Path.{refl, sym, subst}
 use mathlib.Core.List.{List}
-use mathlib.Core.Bool.{false}
 use native.Mathlib.Omega.{arith}
+use Rattle.std.specs.Prelude.{Some}
 use Rattle.join_spec.specs.Query.{Query}
 use Rattle.join_nodes.specs.Visiting.{RangeVisited}
 use Rattle.join_nodes.proofs.Asked.{some_path, some-query}
@@ -16,18 +16,18 @@ use Rattle.join_nodes.specs.lone.Lone.{Lone}
 use Rattle.join_nodes.specs.enter.Entering.{GoesOn}
 use Rattle.join_nodes.proofs.enter.NodeSteps.{Onward, onward_read, onward_going, node_limit, limit_visited}
 use Rattle.join_nodes.proofs.enter.EmptyNodes.{empty_kept}
-use Rattle.join_nodes.proofs.enter.NodeEntries.{entered_over, entered-settled}
+use Rattle.join_nodes.proofs.enter.NodeEntries.{entered_over, entered_spent, entered-settled}
 use Rattle.join_nodes.proofs.enter.enter_node.Goals as goal
 use Rattle.join_nodes.proofs.enter.enter_node.Goals.{After-narrow-part, Start}
 
-pub overflow_sub-d : goal.overflow_sub-d
-overflow_sub-d c = omega (arith, c.requires.some_path.holds.node.at.candidates.deep)
+pub overflow_sub-node : goal.overflow_sub-node
+overflow_sub-node c = omega (arith, c.requires.some_path.holds.node.at.candidates.deep)
 
 pub rank_on-rank-requires : goal.rank_on-rank-requires
 rank_on-rank-requires c =
     some_path c.requires.some_path
     (λ q path going.
-    node_path going.node.at (c.args.d - 1) (omega (arith, going.node.at.candidates.deep)))
+    node_path going.node.at (c.args.node.now.depth - 1) (omega (arith, going.node.at.candidates.deep)))
 
 pub narrow-part-requires : goal.narrow-part-requires
 narrow-part-requires c =
@@ -40,11 +40,11 @@ narrow-part-requires c =
 abbrev Begun : Start → Query → List ℕ → Type 0
 Begun s q path =
     let a = s.args in
-    GoesOn a.lay a.st q path a.work.now a.d a.lo a.hi a.from a.to a.p
+    GoesOn a.lay a.st q path a.work.now a.node.now.depth a.node.now.lo a.node.now.hi a.node.now.from a.node.now.to a.p
 
 onward : (c : After-narrow-part) (q : Query) (path : List ℕ) → Begun (goal.at.After-narrow-part c).Start q path
     → let a = c.args in
-    Onward a.lay a.st q path a.work.now c.narrow-part.new.work a.d a.lo a.hi a.from a.to a.p
+    Onward a.lay a.st q path a.work.now c.narrow-part.new.work a.node.now.depth a.node.now.lo a.node.now.hi a.node.now.from a.node.now.to a.p
     c.narrow-part.result a.p.top
 onward c q path going = onward_read going.node going.on c.rank_on-rank.ensures c.narrow-part.ensures.narrowed
 
@@ -52,28 +52,38 @@ onward c q path going = onward_read going.node going.on c.rank_on-rank.ensures c
 pub keep_list-top-requires : goal.keep_list-top-requires
 keep_list-top-requires c =
     some-query c.requires.some_path
-    (λ q path going. empty_list (onward_going (onward (goal.at.keep_list-top-requires c).After-narrow-part q path going)) c.if-last-first.true)
+    (λ q path going. empty_list (onward_going (onward (goal.at.keep_list-top-requires c).After-narrow-part q path going)) c.if-after.true)
 
-pub returns-then-last-first : goal.returns-then-last-first
-returns-then-last-first c =
+pub returns-then-after : goal.returns-then-after
+returns-then-after c =
     record {
       entered = λ q path going.
-          let so = onward (goal.at.returns-then-last-first c).After-narrow-part q path going in
-          entered_over refl (limit_visited so (empty_kept so c.if-last-first.true c.keep_list-top.ensures));
+          let so = onward (goal.at.returns-then-after c).After-narrow-part q path going in
+          entered_over refl (limit_visited so (empty_kept so c.if-after.true c.keep_list-top.ensures));
       clear = c.narrow-part.ensures.clear;
     }
 
 -- the limit is reached
-pub finish-done-requires : goal.finish-done-requires
-finish-done-requires c =
-    some_path c.requires.some_path (λ q path going. node_limit (onward (goal.at.finish-done-requires c).After-narrow-part q path going) (omega (arith, c.if-limit-d.true)))
+pub finish-requires : goal.finish-requires
+finish-requires c =
+    some_path c.requires.some_path (λ q path going. node_limit (onward (goal.at.finish-requires c).After-narrow-part q path going) (omega (arith, c.if-limit-after.true)))
 
-pub returns-then-limit-d : goal.returns-then-limit-d
-returns-then-limit-d c =
+pub returns-in_err-at : goal.returns-in_err-at
+returns-in_err-at c =
     record {
       entered = λ q path going.
-          let so = onward (goal.at.returns-then-limit-d c).After-narrow-part q path going in
-          entered_over refl (limit_visited so (c.finish-done.ensures q path (node_limit so (omega (arith, c.if-limit-d.true)))));
+          let so = onward (goal.at.returns-in_err-at c).After-narrow-part q path going in
+          rw c.from_residual.ensures
+          (entered_spent (limit_visited so (c.in_err-at.ensures q path (node_limit so (omega (arith, c.if-limit-after.true))))));
+      clear = c.narrow-part.ensures.clear;
+    }
+
+pub returns-then-limit-after : goal.returns-then-limit-after
+returns-then-limit-after c =
+    record {
+      entered = λ q path going.
+          let so = onward (goal.at.returns-then-limit-after c).After-narrow-part q path going in
+          entered_over refl (limit_visited so (c.in_ok-at.ensures q path (node_limit so (omega (arith, c.if-limit-after.true)))));
       clear = c.narrow-part.ensures.clear;
     }
 
@@ -97,9 +107,9 @@ pair_lone-paired-requires c =
     record {
       some_path = some_path c.requires.some_path
           (λ q path going.
-          subst (λ (n : ℕ). Going a.lay a.st q path w a.d a.lo n p.from p.to a.p) lone.one
+          subst (λ (n : ℕ). Going a.lay a.st q path w a.node.now.depth a.node.now.lo n p.from p.to a.p) lone.one
           (onward_going (onward (goal.at.pair_lone-paired-requires c).After-narrow-part q path going)));
-      lone = subst (λ (n : ℕ). Lone a.lay a.st w a.lo n p.from p.to a.p.top) lone.one lone;
+      lone = subst (λ (n : ℕ). Lone a.lay a.st w a.node.now.lo n p.from p.to a.p.top) lone.one lone;
     }
 
 pub returns-then-is_lone : goal.returns-then-is_lone
@@ -114,11 +124,11 @@ returns-then-is_lone c =
           entered_over refl
           (limit_visited so
           (subst
-          (λ (n : ℕ). RangeVisited a.lay q a.st.budget a.lay.row_starts a.d w c.pair_lone-paired.new.work a.lo n
-          a.p.tally (record { at = c.pair_lone-paired.result; spent = false }))
+          (λ (n : ℕ). RangeVisited a.lay q a.st.budget a.lay.row_starts a.node.now.depth w c.pair_lone-paired.new.work a.node.now.lo n
+          a.p.tally (Some c.pair_lone-paired.result))
           (sym lone.one)
           (c.pair_lone-paired.ensures q path
-          (subst (λ (n : ℕ). Going a.lay a.st q path w a.d a.lo n p.from p.to a.p) lone.one
+          (subst (λ (n : ℕ). Going a.lay a.st q path w a.node.now.depth a.node.now.lo n p.from p.to a.p) lone.one
           (onward_going so)))));
       clear = c.narrow-part.ensures.clear;
     }
@@ -134,6 +144,6 @@ settle-settled-requires c =
 pub returns : goal.returns
 returns c =
     record {
-      entered = λ q path going. entered-settled (onward (goal.at.returns c).After-narrow-part q path going) c.if-limit-d.false c.settle-settled.ensures;
+      entered = λ q path going. entered-settled (onward (goal.at.returns c).After-narrow-part q path going) c.if-limit-after.false c.settle-settled.ensures;
       clear = c.narrow-part.ensures.clear;
     }

@@ -23,15 +23,15 @@ overflow_add-result c =
     let low = list_low (goal.at.overflow_add-result c).After-word_at-last in
     omega (arith, low.0, low.1, c.well_formed.0)
 
-pub overflow_add-result-then-d-eq1 : goal.overflow_add-result-then-d-eq1
-overflow_add-result-then-d-eq1 c = omega (arith, (list_low (goal.at.overflow_add-result-then-d-eq1 c).After-word_at-last).1, c.well_formed.0)
+pub overflow_add-result-then-node-eq1 : goal.overflow_add-result-then-node-eq1
+overflow_add-result-then-node-eq1 c = omega (arith, (list_low (goal.at.overflow_add-result-then-node-eq1 c).After-word_at-last).1, c.well_formed.0)
 
-pub returns-then-d-eq1 : goal.returns-then-d-eq1
-returns-then-d-eq1 c =
+pub returns-then-node-eq1 : goal.returns-then-node-eq1
+returns-then-node-eq1 c =
     record {
       narrowed = λ q path cands is.
           narrowed_first cands (first_word cands c.word_at-first.ensures is) (last_word cands c.word_at-last.ensures is)
-          c.if-d-eq1.true;
+          c.if-node-eq1.true;
       clear = c.requires.clear_2;
     }
 

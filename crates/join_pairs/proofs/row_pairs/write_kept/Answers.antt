@@ -1,64 +1,60 @@
-use Prim.Native.Nat.{◌+◌, ◌-◌}
-use mathlib.Core.Path.{◌≡◌}
-use mathlib.Core.List.{[], ◌++◌}
+use Prim.Native.Nat.{ℕ, ◌+◌, ◌-◌, ◌<◌}
+use mathlib.Core.Path.{sym, ap, subst, ◌∙◌}
+use mathlib.Core.List.{List, []}
 use mathlib.Core.Bool.{true}
 use native.Mathlib.Omega.{arith}
-use Rattle.lists.specs.Lists.{slice}
+use lib.Dec.{ltb}
+use lib.ListN.{length, get_or, take, drop}
+use borrow.Author.Tests.{ltb-true}
+use Rattle.lists.specs.Lists.{all}
+use Rattle.lists.specs.Writing.{Put}
+use Rattle.lists.proofs.Slices.{slice_from}
+use Rattle.lists.proofs.Throughout.{all_at}
 use Rattle.lists.proofs.Writing.{writing_start, writing_step, writing_end, writing_room}
+use Rattle.sets.specs.Limits.{max_sets}
 use Rattle.join_spec.specs.PairList.{onto_pair}
-use Rattle.words.proofs.flags.Flagging.{word_below}
+use Rattle.words.specs.flags.Flags.{Below}
 use Rattle.join_pairs.specs.row_pairs.Containing.{pairs_with}
 use Rattle.join_pairs.proofs.row_pairs.RowPairs.{kept_next, kept_none}
 use Rattle.join_pairs.proofs.row_pairs.write_kept.Goals as goal
-use Rattle.join_pairs.proofs.row_pairs.write_kept.Goals.{After-word_at-s}
 
-pub loop-place-init : goal.loop-place-init
-loop-place-init c =
+-- a right place of the row
+place_low : {from to : ℕ} {w : List ℕ} → Below max_sets from to w → (i : ℕ) → i < length (take (to - from) (drop from w))
+    → get_or (take (to - from) (drop from w)) i 0 < max_sets
+place_low {from} {to} {w} places i more =
+    let row = take (to - from) (drop from w) in
+    let test = λ (s : ℕ). ltb s max_sets in
+    ltb-true (get_or row i 0) max_sets (all_at test 0 row (ap (all test) (sym (slice_from from to w)) ∙ places.below) i more)
+
+pub loop-s-init : goal.loop-s-init
+loop-s-init c =
     let a = c.args in
-    (omega arith, writing_start a.pairs.now a.at (pairs_with a.k (slice a.from a.to a.work.now)) c.requires.room)
-
-pub word_at-s-requires : goal.word_at-s-requires
-word_at-s-requires c = omega (arith, c.loop-place-test.true, c.requires.right.within)
-
--- the pair of the next place, and the others
-next : (c : After-word_at-s)
-    → let a = c.args in
-    pairs_with a.k (slice c.loop-place.place a.to a.work.now)
-    ≡ onto_pair true a.k c.word_at-s.result [] ++ pairs_with a.k (slice (c.loop-place.place + 1) a.to a.work.now)
-next c =
-    kept_next c.args.k c.word_at-s.ensures c.loop-place-test.true c.requires.right.within
+    writing_start a.pairs.now a.at (pairs_with a.k (take (a.to - a.from) (drop a.from a.work.now)))
+    (omega (arith, c.requires.room, ap (λ (l : List ℕ). length (pairs_with a.k l)) (slice_from a.from a.to a.work.now)))
 
 pub push-n-requires : goal.push-n-requires
 push-n-requires c =
     let a = c.args in
+    let row = take (a.to - a.from) (drop a.from a.work.now) in
+    let i = c.loop-s.s-index in
     record {
       left = c.requires.left;
-      right =
-          omega (
-            arith,
-            c.word_at-s.ensures.is,
-            word_below c.requires.right c.loop-place.place c.loop-place.invariant.0 c.loop-place-test.true,
-          );
+      right = place_low c.requires.right i c.loop-s-test.true;
       room =
-          writing_room c.loop-place.invariant.1 (onto_pair true a.k c.word_at-s.result [])
-          (pairs_with a.k (slice (c.loop-place.place + 1) a.to a.work.now)) (next (goal.at.push-n-requires c).After-word_at-s);
+          writing_room c.loop-s.invariant (onto_pair true a.k (get_or row i 0) []) (pairs_with a.k (drop (i + 1) row))
+          (kept_next a.k row i c.loop-s-test.true);
     }
 
-pub overflow_add-place : goal.overflow_add-place
-overflow_add-place c = omega (arith, c.loop-place-test.true)
-
-pub loop-place-smaller : goal.loop-place-smaller
-loop-place-smaller c = omega (arith, c.loop-place-test.true)
-
-pub loop-place-preserved : goal.loop-place-preserved
-loop-place-preserved c =
-    let inv = c.loop-place.invariant in
-    (omega (arith, inv.0), writing_step inv.1 (next (goal.at.loop-place-preserved c).After-word_at-s) c.push-n.ensures)
-
-pub shape_of-pairs : goal.shape_of-pairs
-shape_of-pairs c = c.loop-place.invariant.1.same
+pub loop-s-preserved : goal.loop-s-preserved
+loop-s-preserved c =
+    let a = c.args in
+    writing_step c.loop-s.invariant (kept_next a.k (take (a.to - a.from) (drop a.from a.work.now)) c.loop-s.s-index c.loop-s-test.true)
+    c.push-n.ensures
 
 pub returns : goal.returns
 returns c =
     let a = c.args in
-    writing_end c.loop-place.invariant.1 (kept_none a.k a.work.now c.loop-place.place a.to c.loop-place-test.false)
+    let loop = c.loop-s in
+    let row = take (a.to - a.from) (drop a.from a.work.now) in
+    subst (λ (l : List ℕ). Put a.pairs.now a.at (pairs_with a.k l) loop.n loop.pairs) (sym (slice_from a.from a.to a.work.now))
+    (writing_end loop.invariant (kept_none a.k row loop.s-index c.loop-s-test.false))

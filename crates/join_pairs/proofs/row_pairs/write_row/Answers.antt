@@ -1,4 +1,4 @@
-use Prim.Native.Nat.{ℕ, ◌+◌, ◌-◌, ◌≤◌, ◌<◌}
+use Prim.Native.Nat.{ℕ, ◌+◌, ◌≤◌, ◌<◌}
 use mathlib.Core.Path.{◌≡◌, sym, ap, ◌∙◌}
 use mathlib.Core.List.{List, [], ◌∷◌, ◌++◌}
 use mathlib.Core.Bool.{Bool}
@@ -6,7 +6,7 @@ use native.Mathlib.Omega.{arith}
 use Rattle.lists.specs.Lists.{slice}
 use Rattle.lists.specs.Writing.{Put}
 use Rattle.lists.proofs.Slices.{slice_past, slice_next}
-use Rattle.lists.proofs.Writing.{writing_start, writing_step, writing_end, writing_room}
+use Rattle.lists.proofs.Writing.{writing_step, writing_end, writing_room}
 use Rattle.join_spec.specs.Query.{Query}
 use Rattle.join_spec.specs.PairList.{onto_pair}
 use Rattle.join_index.specs.declared.Layout.{Layout}
@@ -59,19 +59,6 @@ module _ {lay : Layout} {w : List ℕ} {p : Probe} {k from to at : ℕ} {was : L
               writing_room (writing.written q there) (onto_pair b k s []) (row_among q k (slice (i + 1) to w)) (row-split q there);
         }
 
-pub loop-i-init : goal.loop-i-init
-loop-i-init c =
-    let a = c.args in
-    record {
-      low = omega arith;
-      written = λ q there.
-          writing_start a.pairs.now a.at (row_among q a.k (slice a.from a.to a.work.now)) there.room;
-    }
-
-pub word_at-s-requires : goal.word_at-s-requires
-word_at-s-requires c =
-    omega (arith, c.requires.holds.places.within)
-
 pub is_contained-paired-requires : goal.is_contained-paired-requires
 is_contained-paired-requires c =
     let at-loop = c.loop-i in
@@ -92,18 +79,10 @@ push-n-requires c =
     row_room c.loop-i.invariant c.loop-i-test.true c.word_at-s.ensures
     c.is_contained-paired.ensures c.requires.holds
 
-pub overflow_add-i : goal.overflow_add-i
-overflow_add-i c =
-    omega (arith, c.requires.holds.places.within)
-
 pub loop-i-preserved : goal.loop-i-preserved
 loop-i-preserved c =
     row_step c.loop-i.invariant c.loop-i-test.true c.word_at-s.ensures
     c.is_contained-paired.ensures c.push-n.ensures
-
-pub shape_of-pairs : goal.shape_of-pairs
-shape_of-pairs c =
-    (c.loop-i.invariant.written c.requires.query c.requires.holds).same
 
 pub returns : goal.returns
 returns c =

@@ -1,6 +1,5 @@
--- `join_pairs::row_pairs::write_row` meets its contract. The invariant: the pairs with the places from i on remain to be written. The
--- measure is how many places remain.
-use Prim.Native.Nat.{ℕ, ◌-◌, ◌≤◌}
+-- `join_pairs::row_pairs::write_row` meets its contract. The invariant: the pairs with the places from i on remain to be written.
+use Prim.Native.Nat.{ℕ, ◌≤◌}
 use mathlib.Core.List.{List}
 use Rattle.lists.specs.Lists.{slice}
 use Rattle.lists.proofs.Writing.{Writing}
@@ -20,6 +19,3 @@ pub record RowWriting (lay : Layout) (w : List ℕ) (p : Probe) (k from to at : 
 
 abbrev pub invariant-loop-i : goal.invariant-loop-i
 invariant-loop-i l = RowWriting l.lay l.work l.p l.k l.from l.to l.at l.initial.pairs l.n l.pairs l.i
-
-abbrev pub decreases-loop-i : goal.decreases-loop-i
-decreases-loop-i l = l.to - l.i

@@ -1,4 +1,5 @@
-use Prim.Native.Nat.{ℕ, ◌+◌, ◌-◌, ◌<◌}
+use Prim.Native.Nat.{ℕ, ◌+◌, ◌<◌}
+use mathlib.Core.Path.{◌≡◌, subst}
 use mathlib.Core.List.{List}
 use native.Mathlib.Omega.{arith}
 use Rattle.lists.proofs.Slices.{changed_none}
@@ -8,7 +9,7 @@ use Rattle.words.specs.Words.{Word}
 use Rattle.join_pairs.specs.declared.shortlists.Span.{Span}
 use Rattle.join_pairs.specs.shortlists.Shortlists.{SpanThere, RankMet, FindThere, Shortlisted}
 use Rattle.join_pairs.proofs.shortlists.Meeting.{changed_then}
-use Rattle.join_pairs.proofs.shortlists.Sifting.{pivot_there, sifting_start, sifting_span, sifting_step, sifting_end}
+use Rattle.join_pairs.proofs.shortlists.Sifting.{some_ranks, pivot_there, sifting_start, sifting_span, sifting_step, sifting_end}
 use Rattle.join_pairs.proofs.shortlists.find_candidates.Invariants.{Searching}
 use Rattle.join_pairs.proofs.shortlists.find_candidates.Goals as goal
 
@@ -50,32 +51,12 @@ loop-i-init c = (
   c.requires.clear_2,
 )
 
-pub word_at-r-requires : goal.word_at-r-requires
-word_at-r-requires c =
-    let there = c.requires.some_query.holds in
-    omega (arith, c.loop-i-test.true, c.loop-i.invariant.0.changed.size, there.within, there.index.room)
-
-pub overflow_sub-b : goal.overflow_sub-b
-overflow_sub-b c =
-    (c.loop-i.invariant.0.sifting c.requires.some_query.query c.requires.some_query.holds).order
-
-pub overflow_sub-to : goal.overflow_sub-to
-overflow_sub-to c =
-    omega (arith, c.loop-i.invariant.0.low, c.loop-i-test.true)
-
 pub stops-requires : goal.stops-requires
 stops-requires c =
     record {
       query = c.requires.some_query.query;
       holds = (searching-span c.loop-i.invariant.0 c.loop-i-test.true c.word_at-r.ensures c.requires.some_query.holds).rank;
     }
-
-pub shape_of-work-then-stops : goal.shape_of-work-then-stops
-shape_of-work-then-stops c = c.loop-i.invariant.0.changed.size
-
-pub shape_of-flags-then-stops : goal.shape_of-flags-then-stops
-shape_of-flags-then-stops c =
-    omega (arith, c.loop-i.invariant.1.size, c.requires.clear_2.size)
 
 pub returns-then-stops : goal.returns-then-stops
 returns-then-stops c =
@@ -95,28 +76,20 @@ meet-s-requires c =
       clear_2 = c.loop-i.invariant.1;
     }
 
-pub overflow_add-i : goal.overflow_add-i
-overflow_add-i c =
-    let there = c.requires.some_query.holds in
-    omega (arith, c.loop-i-test.true, there.within, there.index.room)
-
-pub loop-i-smaller : goal.loop-i-smaller
-loop-i-smaller c = omega (arith, c.loop-i-test.true)
-
 pub loop-i-preserved : goal.loop-i-preserved
 loop-i-preserved c = (
   searching-step c.loop-i.invariant.0 c.loop-i-test.true c.word_at-r.ensures c.meet-s.ensures.met,
   c.meet-s.ensures.clear,
 )
 
-pub shape_of-work : goal.shape_of-work
-shape_of-work c = c.loop-i.invariant.0.changed.size
-
-pub shape_of-flags : goal.shape_of-flags
-shape_of-flags c = omega (arith, c.loop-i.invariant.1.size, c.requires.clear_2.size)
-
 pub returns : goal.returns
 returns c = record {
-  listed = searching-end c.loop-i.invariant.0;
+  listed =
+      let a = c.args in
+      let loop = c.loop-i in
+      let some = some_ranks c.requires.some_query.holds in
+      let here : loop.i ≡ a.to = omega (arith, some, loop.auto.i-end, c.loop-i-test.false) in
+      subst (λ (rest : ℕ). Shortlisted a.lay a.work.now a.from a.to a.pivot loop.work (record { from = loop.a; to = loop.b; rest = rest })) here
+      (searching-end loop.invariant.0);
   clear = c.loop-i.invariant.1;
 }

@@ -1,6 +1,6 @@
 -- `join_pairs::shortlists::find_candidates` meets its contract. The invariant: no right set that holds all the ranks is missing
--- from the candidates, and of a candidate the ranks from i on decide. The measure is how many ranks remain.
-use Prim.Native.Nat.{ℕ, ◌-◌, ◌≤◌}
+-- from the candidates, and of a candidate the ranks from i on decide.
+use Prim.Native.Nat.{ℕ, ◌≤◌}
 use mathlib.Core.List.{List}
 use Rattle.lists.specs.Parts.{Changed}
 use Rattle.join_spec.specs.Query.{Query}
@@ -17,6 +17,3 @@ pub record Searching (lay : Layout) (w : List ℕ) (from to pivot : ℕ) (v : Li
 
 abbrev pub invariant-loop-i : goal.invariant-loop-i
 invariant-loop-i l = Searching l.lay l.initial.work l.from l.to l.pivot l.work l.a l.b l.i × Clear l.flags
-
-abbrev pub decreases-loop-i : goal.decreases-loop-i
-decreases-loop-i l = l.to - l.i

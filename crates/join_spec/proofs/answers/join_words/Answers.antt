@@ -4,9 +4,9 @@ use Rattle.join_spec.specs.Answer.{join_words}
 use Rattle.sets.proofs.Words.{refused_words_lem}
 use Rattle.join_spec.proofs.answers.join_words.Goals as goal
 
-pub returns-in-Joined : goal.returns-in-Joined
-returns-in-Joined c = sym (ap join_words c.in-Joined.is)
+pub returns-in-Ok : goal.returns-in-Ok
+returns-in-Ok c = sym (ap join_words c.in-Ok.is)
 
-pub returns-in-Refused : goal.returns-in-Refused
-returns-in-Refused c =
-    refused_words_lem c.in-Refused.why 6 c.head_of-head.ensures.0 c.head_of-head.ensures.1 c.head_of-head.ensures.2 ∙ sym (ap join_words c.in-Refused.is)
+pub returns-in-Err : goal.returns-in-Err
+returns-in-Err c =
+    refused_words_lem c.in-Err.why 6 c.head_of-head.ensures.0 c.head_of-head.ensures.1 c.head_of-head.ensures.2 ∙ sym (ap join_words c.in-Err.is)

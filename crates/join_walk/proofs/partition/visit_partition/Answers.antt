@@ -54,13 +54,13 @@ word_at-seen-requires c =
     let part = c.requires.some_rank.holds in
     omega (arith, key_is (goal.at.word_at-seen-requires c).After-key_at-key c.requires.some_rank.query c.requires.some_rank.rank part, part.last, part.index.ground.least_offsets_within, part.index.room)
 
-pub overflow_add-first : goal.overflow_add-first
-overflow_add-first c =
+pub overflow_add-node : goal.overflow_add-node
+overflow_add-node c =
     let part = c.requires.some_rank.holds in
     omega (
       arith,
-      seen_is (goal.at.overflow_add-first c).After-word_at-seen c.requires.some_rank.query c.requires.some_rank.rank part,
-      part.index.ground.seen_within (asked (goal.at.overflow_add-first c).Then-asks_seen c.requires.some_rank.query c.requires.some_rank.rank part) c.requires.some_rank.rank part.last,
+      seen_is (goal.at.overflow_add-node c).After-word_at-seen c.requires.some_rank.query c.requires.some_rank.rank part,
+      part.index.ground.seen_within (asked (goal.at.overflow_add-node c).Then-asks_seen c.requires.some_rank.query c.requires.some_rank.rank part) c.requires.some_rank.rank part.last,
       part.index.room,
       c.well_formed.0,
     )

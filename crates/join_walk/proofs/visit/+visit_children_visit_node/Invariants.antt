@@ -13,23 +13,23 @@ use Rattle.join_walk.proofs.visit.Descents.{Descending}
 use Rattle.join_walk.proofs.visit.+visit_children_visit_node.Given as goal
 
 abbrev pub decreases-visit_children : goal.decreases-visit_children
-decreases-visit_children l = 2 * (l.st.limit - l.d)
+decreases-visit_children l = 2 * (l.st.limit - l.node.now.depth)
 
 abbrev pub decreases-visit_node : goal.decreases-visit_node
-decreases-visit_node l = 2 * (l.st.limit - l.d) + 1
+decreases-visit_node l = 2 * (l.st.limit - l.node.now.depth) + 1
 
 abbrev pub invariant-visit_children-loop-i : goal.invariant-visit_children-loop-i
 invariant-visit_children-loop-i l =
-    Continuing l.lay l.st.budget (suc l.d) l.hi (λ path w. slot_of l.lay w (suc (last_of path)))
-    (λ q path w i r. ChildrenAt l.lay l.st q path w l.d i l.hi l.from l.to r) l.initial.work l.lo l.initial.r l.work l.i l.r
+    Continuing l.lay l.st.budget (suc l.node.depth) l.node.hi (λ path w. slot_of l.lay w (suc (last_of path)))
+    (λ q path w i r. ChildrenAt l.lay l.st q path w l.node.depth i l.node.hi l.node.from l.node.to r) l.initial.work l.node.lo l.initial.r l.work l.i l.r
     × Clear l.flags
 
 abbrev pub decreases-visit_children-loop-i : goal.decreases-visit_children-loop-i
-decreases-visit_children-loop-i l = l.hi - l.i
+decreases-visit_children-loop-i l = l.node.hi - l.i
 
-abbrev pub invariant-visit_node-loop-i : goal.invariant-visit_node-loop-i
-invariant-visit_node-loop-i l =
-    Descending l.lay l.st l.initial.work l.d l.lo l.hi l.from l.to l.initial.r l.work l.e l.i l.j l.first l.last l.r × Clear l.flags
+abbrev pub invariant-visit_node-loop-at : goal.invariant-visit_node-loop-at
+invariant-visit_node-loop-at l =
+    Descending l.lay l.st l.initial.work l.initial.at.depth l.initial.at.lo l.initial.at.hi l.initial.at.from l.initial.at.to l.initial.r l.work l.at.depth l.at.lo l.at.hi l.at.from l.at.to l.r × Clear l.flags
 
-abbrev pub decreases-visit_node-loop-i : goal.decreases-visit_node-loop-i
-decreases-visit_node-loop-i l = suc l.st.limit - l.e
+abbrev pub decreases-visit_node-loop-at : goal.decreases-visit_node-loop-at
+decreases-visit_node-loop-at l = suc l.st.limit - l.at.depth

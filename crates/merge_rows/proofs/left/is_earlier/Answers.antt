@@ -1,9 +1,8 @@
 -- `merge_rows::left::is_earlier` meets its contract: left set j lies between two ends.
-use mathlib.Core.Path.{refl, sym, ap, ◌∙◌}
+use mathlib.Core.Path.{sym, ap, ◌∙◌}
 use mathlib.Core.List.{[]}
 use native.Mathlib.Omega.{arith}
 use lib.ListN.{get_or}
-use Rattle.lists.proofs.Bools.{true-false}
 use Rattle.sets.specs.Collections.{between, sets_of}
 use Rattle.side_index.specs.inverted.Placing.{start_at}
 use Rattle.side_index.proofs.inverted.Collected.{SetAt, set_at}
@@ -13,21 +12,11 @@ use Rattle.merge_rows.proofs.left.is_earlier.Goals.{After-start_of-start}
 -- left set j
 set_there : (c : After-start_of-start)
     → let a = c.args in
-    SetAt c.requires.T a.j (start_at a.ends.now a.j) (get_or a.ends.now a.j 0)
-    (get_or (sets_of a.ends.now a.items.now) a.j []) a.items.now
+    SetAt c.requires.T a.j (start_at a.sets.now.ends.now a.j) (get_or a.sets.now.ends.now a.j 0)
+    (get_or (sets_of a.sets.now.ends.now a.sets.now.items.now) a.j []) a.sets.now.items.now
 set_there c =
     let a = c.args in
-    set_at c.requires.T a.ends.now a.items.now c.requires.good a.j (omega (arith, c.requires.place))
-
-pub returns-then-k-j : goal.returns-then-k-j
-returns-then-k-j c = λ never. true-false never refl
-
-pub overflow_cast-end : goal.overflow_cast-end
-overflow_cast-end c = omega (arith, (set_there (goal.at.overflow_cast-end c).After-start_of-start).good.entries)
-
-pub offset_bounds-items-start : goal.offset_bounds-items-start
-offset_bounds-items-start c =
-    let here = (set_there (goal.at.offset_bounds-items-start c).After-start_of-start).good in omega (arith, c.start_of-start.ensures, here.ordered, here.entries)
+    set_at c.requires.T a.sets.now.ends.now a.sets.now.items.now c.requires.good a.j (omega (arith, c.requires.place))
 
 pub slice_bounds-same_items-count : goal.slice_bounds-same_items-count
 slice_bounds-same_items-count c = omega (arith, c.start_of-start.ensures, (set_there (goal.at.slice_bounds-same_items-count c).After-start_of-start).good.ordered)
@@ -46,6 +35,6 @@ returns c =
       before = omega (arith, c.if-k-j.false);
       is =
           (set_there (goal.at.returns c).After-start_of-start).is
-          ∙ ap (λ n. between n (get_or a.ends.now a.j 0) a.items.now) (sym c.start_of-start.ensures)
+          ∙ ap (λ n. between n (get_or a.sets.now.ends.now a.j 0) a.sets.now.items.now) (sym c.start_of-start.ensures)
           ∙ c.same_items.ensures same;
     }

@@ -18,6 +18,9 @@ use Rattle.merge_rows.proofs.left.meet_block.Goals as goal
 signed_whole : (more : List ℕ) {mark : ℕ} → mark ≡ signature (between 0 (length more) more) → mark ≡ signature more
 signed_whole more is = is ∙ ap signature (rw (sub-zero (length more)) (take-length more))
 
+pub overflow_add-q : goal.overflow_add-q
+overflow_add-q c = omega (arith, block_places c.requires.there)
+
 pub overflow_mul-t : goal.overflow_mul-t
 overflow_mul-t c =
     omega (arith, row_small c.requires.there.ground c.args.q c.requires.there.block)
@@ -25,6 +28,9 @@ overflow_mul-t c =
 pub shared-held-requires : goal.shared-held-requires
 shared-held-requires c =
     row_room c.requires.there.ground c.args.q c.args.more.now c.requires.there.block c.requires.there.besides
+
+pub overflow_mul-q : goal.overflow_mul-q
+overflow_mul-q c = omega (arith, block_places c.requires.there)
 
 pub list_word-end-requires : goal.list_word-end-requires
 list_word-end-requires c =
@@ -39,6 +45,9 @@ returns-then-held-word c =
       yielded = block_whole c.requires.there c.shared-held.result c.shared-held.ensures c.if-held-word.true c.list_word-end.ensures;
       signs = signs_none c.requires.there.ground.signed;
     }
+
+pub overflow_mul-q-2 : goal.overflow_mul-q-2
+overflow_mul-q-2 c = omega (arith, block_places c.requires.there)
 
 pub count_drops-dropped-requires : goal.count_drops-dropped-requires
 count_drops-dropped-requires c =

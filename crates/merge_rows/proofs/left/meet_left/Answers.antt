@@ -13,7 +13,7 @@ use Rattle.merge_rows.proofs.left.meet_left.Goals.{Else-n-eq0, Else-n-limit}
 has_some : (c : Else-n-eq0) → 0 < length c.args.set.now
 has_some c = omega (arith, c.if-n-eq0.false)
 
-longer : (c : Else-n-limit) → c.args.limit < length c.args.set.now
+longer : (c : Else-n-limit) → c.args.settings.now.limit < length c.args.set.now
 longer c = omega (arith, c.if-n-limit.false)
 
 pub returns-then-n-eq0 : goal.returns-then-n-eq0

@@ -1,9 +1,9 @@
-use Prim.Native.Nat.{ℕ, suc, ◌+◌, ◌-◌, ◌*◌, ◌<◌, ◌≤◌}
+use Prim.Native.Nat.{ℕ, suc, ◌+◌, ◌*◌, ◌<◌, ◌≤◌}
 use mathlib.Core.Path.{◌≡◌, refl, sym, ap, subst, ◌∙◌}
 use mathlib.Core.List.{List, [], ◌∷◌, ◌++◌}
 use native.Mathlib.Numerals.{add-one}
 use native.Mathlib.Omega.{arith}
-use lib.ListN.{get_or, drop, set, length-set, drop_of_length-le}
+use lib.ListN.{get_or, drop, set, drop_of_length-le}
 use lib.Seq.{drop-cons, take-set-le}
 use Rattle.lists.specs.Writing.{Put}
 use Rattle.lists.proofs.Ranges.{length_table, get_d_table}
@@ -24,7 +24,6 @@ copy_start {from} {n} {k} {at} {was} room =
           subst (λ (e : ℕ). Writing was at (pairs_with k (right_places was from n)) was e (pairs_with k (right_places was from n))) here
           (writing_start was at (pairs_with k (right_places was from n)) (omega (arith, room.room)));
       low = refl;
-      within = omega arith;
     }
 
 module _ {was : List ℕ} {from n k at : ℕ} {is : List ℕ} {i : ℕ} (room : CopyRoom from n k at was) (left : CopyLeft was from n k at is i) where
@@ -57,34 +56,21 @@ module _ {was : List ℕ} {from n k at : ℕ} {is : List ℕ} {i : ℕ} (room : 
           low =
               take-set-le at (set is (at + 2 * i) k) (at + 2 * i + 1) right (omega arith)
               ∙ take-set-le at is (at + 2 * i) k (omega arith) ∙ left.low;
-          within = omega arith;
         }
 
-  copy-end : n ≤ i → Put was at (pairs_with k (right_places was from n)) (at + 2 * n) is
+  copy-end : n ≤ i → i ≤ n → Put was at (pairs_with k (right_places was from n)) (at + 2 * n) is
   unfolding pairs_with
-  copy-end past =
+  copy-end past within =
       let table = length_table (λ j. get_or was (from + 2 * j + 1) 0) n in
-      let here : at + 2 * i ≡ at + 2 * n = omega (arith, left.within) in
+      let here : at + 2 * i ≡ at + 2 * n = omega arith in
       subst (λ (e : ℕ). Put was at (pairs_with k (right_places was from n)) e is) here
       (writing_end left.writing (ap (pairs_with k) (drop_of_length-le (right_places was from n) {i = i} (omega arith))))
 
 pub loop-i-init : goal.loop-i-init
 loop-i-init c = copy_start c.requires
 
-pub bounds-pairs-from : goal.bounds-pairs-from
-bounds-pairs-from c = omega (arith, c.loop-i.invariant.writing.same, c.requires.source.below, c.requires.room)
-
-pub bounds-pairs-at : goal.bounds-pairs-at
-bounds-pairs-at c = omega (arith, c.loop-i.invariant.writing.same, c.requires.room)
-
-pub bounds-pairs-at-in-loop-i : goal.bounds-pairs-at-in-loop-i
-bounds-pairs-at-in-loop-i c = simp length-set (omega (arith, c.loop-i.invariant.writing.same, c.requires.room))
-
 pub loop-i-preserved : goal.loop-i-preserved
 loop-i-preserved c = copy_step c.requires c.loop-i.invariant c.loop-i-test.true
 
-pub shape_of-pairs : goal.shape_of-pairs
-shape_of-pairs c = c.loop-i.invariant.writing.same
-
 pub returns : goal.returns
-returns c = copy-end c.requires c.loop-i.invariant c.loop-i-test.false
+returns c = copy-end c.requires c.loop-i.invariant c.loop-i-test.false c.loop-i.auto.i-end

@@ -1,6 +1,6 @@
 -- `merge_rows::listed::put_pairs` meets its contract. The invariant: what is written and the pairs of the digits that are left are
 -- together what is wanted. The measure is how many digits are left.
-use Prim.Native.Nat.{ℕ, ◌-◌, ◌^◌, ◌<◌}
+use Prim.Native.Nat.{ℕ, ◌^◌, ◌<◌}
 use mathlib.Core.List.{List}
 use lib.ListN.{length}
 use Rattle.lists.proofs.Writing.{Writing}

@@ -1,19 +1,18 @@
-use Prim.Native.Nat.{ℕ, ◌+◌, ◌-◌, ◌<◌, ◌≤◌, min, max}
-use mathlib.Core.Path.{◌≡◌, sym, ap, subst, ◌∙◌}
+use Prim.Native.Nat.{ℕ, ◌+◌, ◌<◌, ◌≤◌, min, max}
+use mathlib.Core.Path.{◌≡◌, sym, ap, ◌∙◌}
 use mathlib.Core.List.{List}
 use native.Mathlib.Omega.{arith}
 use borrow.Author.Tests.{ltb-true, ltb-false, lt-ltb, leb-true, le-leb}
 use lib.Dec.{ltb, leb}
 use lib.ListN.{length, get_or, take}
-use lib.Seq.{take_all}
 use Rattle.lists.specs.Lists.{one, count}
 use Rattle.lists.proofs.Bools.{by_test, same_test}
 use Rattle.lists.proofs.Counting.{count-take}
-use Rattle.merge_rows.specs.FirstRanks.{key_of, keys_below, FewerBelow, LeastTwo}
+use Rattle.merge_rows.specs.FirstRanks.{key_of, keys_below, FewerBelow}
 use Rattle.merge_rows.proofs.RankCounts.{RankAt, rank_at}
 use Rattle.merge_rows.proofs.paths.least_two.Invariants.{LeastSoFar}
 use Rattle.merge_rows.proofs.paths.least_two.Goals as goal
-use Rattle.merge_rows.proofs.paths.least_two.Goals.{In-loop-e}
+use Rattle.merge_rows.proofs.paths.least_two.Goals.{In-loop-x}
 
 -- two tests that agree, read as facts and made of them
 there : (a b c d : ℕ) → leb a b ≡ ltb c d → a ≤ b → c < d
@@ -60,7 +59,7 @@ second_step b f s k n first second =
 -- no key at all
 least_start : (ranks set : List ℕ) → LeastSoFar ranks set 4294967295 4294967295 0
 unfolding count
-least_start ranks set = record { one_below = none 1 (omega arith); two-below = none 2 (omega arith); within = omega arith }
+least_start ranks set = record { one_below = none 1 (omega arith); two-below = none 2 (omega arith) }
   where
     none : (m : ℕ) → 0 < m → FewerBelow ranks (take 0 set) m 4294967295
     none m some = record { upto = λ b small. le-leb b 4294967295 (omega arith) ∙ sym (lt-ltb 0 m some) }
@@ -86,60 +85,20 @@ least_step {ranks} {set} {first} {second} {e} so_far more {high} {low} {lowest} 
                 (so_far.two-below.upto b small)
                 ∙ ap (λ (n : ℕ). ltb n 2) (sym (count-take (λ x. ltb (key_of ranks x) b) 0 set e more));
           };
-      within = omega arith;
-    }
-
-least_end : {ranks set : List ℕ} {first second e : ℕ} → LeastSoFar ranks set first second e → length set ≤ e
-    → LeastTwo ranks set (record { first = first; second = second })
-least_end {ranks} {set} {first} {second} {e} so_far past =
-    let whole : take e set ≡ set = take_all e set past in
-    record {
-      first = subst (λ (l : List ℕ). FewerBelow ranks l 1 first) whole so_far.one_below;
-      second = subst (λ (l : List ℕ). FewerBelow ranks l 2 second) whole so_far.two-below;
     }
 
 -- the item and its rank
-here : (c : In-loop-e)
-    → RankAt c.args.ranks.now c.args.set.now c.loop-e.e
-here c = rank_at c.requires c.loop-e.e c.loop-e-test.true
+here : (c : In-loop-x)
+    → RankAt c.args.ranks.now c.args.set.now c.loop-x.x-index
+here c = rank_at c.requires c.loop-x.x-index c.loop-x-test.true
 
-pub loop-e-init : goal.loop-e-init
-loop-e-init c = let a = c.args in least_start a.ranks.now a.set.now
-
-pub overflow_cast-key : goal.overflow_cast-key
-overflow_cast-key c = omega (arith, here (goal.at.overflow_cast-key c).In-loop-e)
-
-pub offset_bounds-ranks-x : goal.offset_bounds-ranks-x
-offset_bounds-ranks-x c = omega (arith, here (goal.at.offset_bounds-ranks-x c).In-loop-e)
+pub loop-x-init : goal.loop-x-init
+loop-x-init c = let a = c.args in least_start a.ranks.now a.set.now
 
 pub bounds-ranks-x : goal.bounds-ranks-x
-bounds-ranks-x c = (here (goal.at.bounds-ranks-x c).In-loop-e).item
+bounds-ranks-x c = (here (goal.at.bounds-ranks-x c).In-loop-x).item
 
-pub overflow_cast-key-in-loop-e : goal.overflow_cast-key-in-loop-e
-overflow_cast-key-in-loop-e c = omega (arith, here (goal.at.overflow_cast-key-in-loop-e c).In-loop-e)
-
-pub overflow_mul-key : goal.overflow_mul-key
-overflow_mul-key c = omega (arith, here (goal.at.overflow_mul-key c).In-loop-e)
-
-pub overflow_cast-key-in-loop-e-2 : goal.overflow_cast-key-in-loop-e-2
-overflow_cast-key-in-loop-e-2 c = omega (arith, here (goal.at.overflow_cast-key-in-loop-e-2 c).In-loop-e)
-
-pub overflow_add-key : goal.overflow_add-key
-overflow_add-key c = omega (arith, here (goal.at.overflow_add-key c).In-loop-e)
-
-pub higher-requires : goal.higher-requires
-higher-requires c = tt
-
-pub lower-second-requires : goal.lower-second-requires
-lower-second-requires c = tt
-
-pub lower-first-requires : goal.lower-first-requires
-lower-first-requires c = tt
-
-pub loop-e-preserved : goal.loop-e-preserved
-loop-e-preserved c =
-    least_step c.loop-e.invariant c.loop-e-test.true
+pub loop-x-preserved : goal.loop-x-preserved
+loop-x-preserved c =
+    least_step c.loop-x.invariant c.loop-x-test.true
     c.higher.ensures c.lower-second.ensures c.lower-first.ensures
-
-pub returns : goal.returns
-returns c = least_end c.loop-e.invariant c.loop-e-test.false

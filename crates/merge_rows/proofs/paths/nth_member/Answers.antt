@@ -14,7 +14,7 @@ use Rattle.merge_rows.proofs.paths.nth_member.Goals as goal
 
 members_start : (words : List ℕ) (n : ℕ) → 0 < n → MembersLeft words n n 0
 unfolding count range
-members_start words n some = record { some = some; total = omega arith; within = omega arith }
+members_start words n some = record { some = some; total = omega arith }
 
 -- the members up to digit d of word w
 count_upto_digit : (words : List ℕ) (w d : ℕ) → d ≤ 64
@@ -40,7 +40,6 @@ module _ {words : List ℕ} {n left w : ℕ} (m : MembersLeft words n left w) wh
               count_upto_digit words w 64 (omega arith),
               ap (λ (k : ℕ). count (member words) (upto k)) next,
             );
-        within = omega arith;
       }
 
   members-found : {r : ℕ} → w < length words → NthDigit (get_or words w 0) left r → NthMember words n (64 * w + r)
@@ -54,28 +53,8 @@ module _ {words : List ℕ} {n left w : ℕ} (m : MembersLeft words n left w) wh
         before = omega (arith, count_upto_digit words w r (omega arith), digit.before, m.total);
       }
 
-  members-none : {r : ℕ} → length words ≤ w → n ≤ count (member words) (upto (64 * length words)) → NthMember words n r
-  members-none {r} past enough =
-      let all_of : w ≡ length words = omega (arith, m.within) in
-      absurd (omega (arith, m.some, m.total, ap (λ (k : ℕ). count (member words) (upto (64 * k))) all_of))
-
 pub loop-w-init : goal.loop-w-init
 loop-w-init c = members_start c.args.words.now c.args.n c.requires.some
-
-pub ones_of-ones-requires : goal.ones_of-ones-requires
-ones_of-ones-requires c = tt
-
-pub overflow_mul-result : goal.overflow_mul-result
-overflow_mul-result c = omega (arith, c.requires.few)
-
-pub nth_digit-requires : goal.nth_digit-requires
-nth_digit-requires c = record {
-  some = c.loop-w.invariant.some;
-  enough = omega (arith, c.if-left-ones.true, c.ones_of-ones.ensures);
-}
-
-pub overflow_add-result : goal.overflow_add-result
-overflow_add-result c = omega (arith, c.nth_digit.ensures.below, c.requires.few)
 
 pub returns-then-left-ones : goal.returns-then-left-ones
 returns-then-left-ones c =
@@ -86,6 +65,3 @@ pub loop-w-preserved : goal.loop-w-preserved
 loop-w-preserved c =
     members_step c.loop-w.invariant c.loop-w-test.true c.ones_of-ones.ensures
     c.if-left-ones.false
-
-pub returns : goal.returns
-returns c = members-none c.loop-w.invariant c.loop-w-test.false c.requires.enough

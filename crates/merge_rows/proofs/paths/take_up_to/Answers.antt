@@ -1,5 +1,5 @@
-use Prim.Native.Nat.{ℕ, ◌+◌, ◌-◌, ◌<◌, ◌≤◌}
-use mathlib.Core.Path.{◌≡◌, refl, sym, ap, ◌∙◌}
+use Prim.Native.Nat.{ℕ, ◌+◌, ◌<◌, ◌≤◌}
+use mathlib.Core.Path.{◌≡◌, sym, ap, ◌∙◌}
 use mathlib.Core.List.{List, [], ◌∷◌, ◌++◌, append-nil, append_assoc}
 use mathlib.Core.Bool.{Bool, true, false}
 use native.Mathlib.Nat.{add-zero}
@@ -10,10 +10,10 @@ use lib.Seq.{drop-cons, take-set-le, take-suc-set}
 use Rattle.lists.specs.Lists.{one, onto, keep}
 use Rattle.lists.proofs.Counting.{one_bound, count-drop, count-drop_end}
 use Rattle.merge_rows.specs.FirstRanks.{UpToTaken}
-use Rattle.merge_rows.proofs.RankCounts.{RankAt, rank_at}
+use Rattle.merge_rows.proofs.RankCounts.{RankAt, rank_at, number_of}
 use Rattle.merge_rows.proofs.paths.take_up_to.Invariants.{TakingUpTo, passes}
 use Rattle.merge_rows.proofs.paths.take_up_to.Goals as goal
-use Rattle.merge_rows.proofs.paths.take_up_to.Goals.{In-loop-e}
+use Rattle.merge_rows.proofs.paths.take_up_to.Goals.{After-from-n, In-loop-x}
 
 -- one number more in front of the rest, where it passes
 take_onto : (l : List ℕ) (n x : ℕ) (rest : List ℕ) → n < length l → (b : Bool)
@@ -38,7 +38,6 @@ module _ {ranks items : List ℕ} {last : ℕ} {was is : List ℕ} {n e : ℕ} (
             ∙ t.taken;
         total = omega (arith, t.total, number, count-drop (passes ranks last) 0 items e more);
         low = omega (arith, t.low, number, one_bound (passes ranks last x));
-        within = omega arith;
         same = length-set is n x ∙ t.same;
       }
 
@@ -53,56 +52,33 @@ module _ {ranks items : List ℕ} {last : ℕ} {was is : List ℕ} {n e : ℕ} (
             ∙ t.taken;
       }
 
-taking_start : (ranks items : List ℕ) (last : ℕ) (was : List ℕ) → TakingUpTo ranks items last was was 0 0
-taking_start ranks items last was =
-    record { taken = refl; total = omega arith; low = omega arith; within = omega arith; same = refl }
-
 -- the item and its rank
-here : (c : In-loop-e)
+here : (c : In-loop-x)
     → RankAt c.args.ranks.now c.args.set.now
-    c.loop-e.e
-here c = rank_at c.requires.ranked c.loop-e.e c.loop-e-test.true
+    c.loop-x.x-index
+here c = rank_at c.requires.ranked c.loop-x.x-index c.loop-x-test.true
 
 -- the path has room for it
-room_here : (c : In-loop-e) → c.loop-e.n < length c.loop-e.path
+room_here : (c : In-loop-x) → c.loop-x.n < length c.loop-x.path
 room_here c =
-    let i = c.loop-e.invariant in
-    omega (arith, i.low, i.same, c.loop-e-test.true, c.requires.room)
-
-pub loop-e-init : goal.loop-e-init
-loop-e-init c = let a = c.args in taking_start a.ranks.now a.set.now a.last a.path.now
-
-pub offset_bounds-path-n : goal.offset_bounds-path-n
-offset_bounds-path-n c = omega (arith, room_here (goal.at.offset_bounds-path-n c).In-loop-e)
-
-pub bounds-path-n : goal.bounds-path-n
-bounds-path-n c = room_here (goal.at.bounds-path-n c).In-loop-e
-
-pub overflow_cast-x : goal.overflow_cast-x
-overflow_cast-x c = omega (arith, here (goal.at.overflow_cast-x c).In-loop-e)
-
-pub offset_bounds-ranks-x : goal.offset_bounds-ranks-x
-offset_bounds-ranks-x c = omega (arith, here (goal.at.offset_bounds-ranks-x c).In-loop-e)
+    let i = c.loop-x.invariant in
+    omega (arith, i.low, i.same, c.loop-x-test.true, c.requires.room)
 
 pub bounds-ranks-x : goal.bounds-ranks-x
-bounds-ranks-x c = (here (goal.at.bounds-ranks-x c).In-loop-e).item
+bounds-ranks-x c = (here (goal.at.bounds-ranks-x c).In-loop-x).item
 
-pub overflow_cast-ranks : goal.overflow_cast-ranks
-overflow_cast-ranks c = omega (arith, here (goal.at.overflow_cast-ranks c).In-loop-e)
+-- 1 for an item that passes
+number_here : (c : After-from-n)
+    → let a = c.args in
+    c.from-n.result ≡ one (passes a.ranks.now a.last (get_or a.set.now c.loop-x.x-index 0))
+number_here c =
+    let a = c.args in
+    c.from-n.ensures ∙ number_of (passes a.ranks.now a.last (get_or a.set.now c.loop-x.x-index 0))
 
-pub number-n-requires : goal.number-n-requires
-number-n-requires c = tt
-
-pub overflow_add-n : goal.overflow_add-n
-overflow_add-n c = omega (arith, c.number-n.ensures.small, room_here (goal.at.overflow_add-n c).In-loop-e)
-
-pub loop-e-preserved : goal.loop-e-preserved
-loop-e-preserved c =
-    taking_step c.loop-e.invariant c.loop-e-test.true (room_here (goal.at.loop-e-preserved c).In-loop-e)
-    c.number-n.ensures.is
-
-pub shape_of-path : goal.shape_of-path
-shape_of-path c = c.loop-e.invariant.same
+pub loop-x-preserved : goal.loop-x-preserved
+loop-x-preserved c =
+    taking_step c.loop-x.invariant c.loop-x-test.true (room_here (goal.at.loop-x-preserved c).In-loop-x)
+    (number_here (goal.at.loop-x-preserved c).After-from-n)
 
 pub returns : goal.returns
-returns c = taking-end c.loop-e.invariant c.loop-e-test.false
+returns c = taking-end c.loop-x.invariant c.loop-x-test.false

@@ -1,6 +1,6 @@
 -- `merge_rows::paths::take_up_to` meets its contract. The invariant: what is taken and what passes among the items that are left are
--- together what is wanted. The measure is how many items are left.
-use Prim.Native.Nat.{ℕ, ◌+◌, ◌-◌, ◌≤◌}
+-- together what is wanted.
+use Prim.Native.Nat.{ℕ, ◌+◌, ◌≤◌}
 use mathlib.Core.Path.{◌≡◌}
 use mathlib.Core.List.{List, ◌++◌}
 use mathlib.Core.Bool.{Bool}
@@ -17,11 +17,7 @@ pub record TakingUpTo (ranks items : List ℕ) (last : ℕ) (was is : List ℕ) 
   pub taken : take n is ++ keep (passes ranks last) (drop e items) ≡ keep (passes ranks last) items
   pub total : n + count (passes ranks last) (drop e items) ≡ count (passes ranks last) items
   pub low : n ≤ e
-  pub within : e ≤ length items
   pub same : length is ≡ length was
 
-abbrev pub invariant-loop-e : goal.invariant-loop-e
-invariant-loop-e l = TakingUpTo l.ranks l.set l.last l.initial.path l.path l.n l.e
-
-abbrev pub decreases-loop-e : goal.decreases-loop-e
-decreases-loop-e l = length l.set - l.e
+abbrev pub invariant-loop-x : goal.invariant-loop-x
+invariant-loop-x l = TakingUpTo l.ranks l.set l.last l.initial.path l.path l.n l.x-index

@@ -1,5 +1,5 @@
-use Prim.Native.Nat.{◌-◌, ◌*◌, ◌≤◌}
-use mathlib.Core.Path.{refl, ◌∙◌}
+use Prim.Native.Nat.{◌*◌, ◌≤◌}
+use mathlib.Core.Path.{refl}
 use mathlib.Core.List.{[]}
 use native.Mathlib.Omega.{arith}
 use lib.ListN.{length, get_or}
@@ -12,36 +12,31 @@ use Rattle.merge_rows.proofs.rows.fill_rows.Goals.{At-loop-s, In-loop-s}
 
 -- after the sums are cleared there is still room
 room_there : (c : At-loop-s)
-    → 2 * row_words c.args.t (length c.args.ends.now) ≤ length c.clear.new.work
+    → 2 * row_words c.args.t (length c.args.sets.now.ends.now) ≤ length c.clear.new.work
 room_there c = omega (arith, c.requires.room, c.clear.ensures.changed.size)
 
 -- the right set at hand, and room for its block
 set_here : (c : In-loop-s)
     → let a = c.args in
     let l = c.loop-s in
-    SetAt a.t l.s l.start (get_or a.ends.now l.s 0) (get_or (sets_of a.ends.now a.items.now) l.s []) a.items.now
+    SetAt a.t l.s l.start (get_or a.sets.now.ends.now l.s 0) (get_or (sets_of a.sets.now.ends.now a.sets.now.items.now) l.s []) a.sets.now.items.now
 set_here c =
-    set_next c.loop-s.invariant.1 c.requires.few c.requires.good (room_there (goal.at.In-loop-s c).At-loop-s) (omega arith)
+    set_next c.loop-s.invariant c.requires.few c.requires.good (room_there (goal.at.In-loop-s c).At-loop-s) (omega arith)
 
 block_here : (c : In-loop-s) → BlockRoom c.args.t c.loop-s.s c.loop-s.work
 block_here c =
-    block_room c.loop-s.invariant.1 c.requires.few c.requires.good (room_there (goal.at.In-loop-s c).At-loop-s) (omega arith)
+    block_room c.loop-s.invariant c.requires.few c.requires.good (room_there (goal.at.In-loop-s c).At-loop-s) (omega arith)
 
 pub loop-s-init : goal.loop-s-init
-loop-s-init c = (
-  refl,
-  record {
-    rows =
-        rows_none c.clear.ensures
-        (omega (arith, c.requires.room, c.clear.ensures.changed.size));
-    size = refl;
-    place = omega arith;
-    begins = refl;
-  },
-)
-
-pub overflow_cast-end : goal.overflow_cast-end
-overflow_cast-end c = omega (arith, c.type_inv.ends c.loop-s.s)
+loop-s-init c =
+    record {
+      rows =
+          rows_none c.clear.ensures
+          (omega (arith, c.requires.room, c.clear.ensures.changed.size));
+      size = refl;
+      place = omega arith;
+      begins = refl;
+    }
 
 pub open_block-requires : goal.open_block-requires
 open_block-requires c = block_here (goal.at.open_block-requires c).In-loop-s
@@ -69,15 +64,9 @@ add_right-requires c =
     }
 
 pub loop-s-preserved : goal.loop-s-preserved
-loop-s-preserved c = (
-  refl,
-  filling_step c.loop-s.invariant.1 c.requires.few c.requires.good (room_there (goal.at.loop-s-preserved c).At-loop-s) (omega arith) c.open_block.ensures
-      c.add_right.ensures,
-)
-
-pub shape_of-work : goal.shape_of-work
-shape_of-work c =
-    c.loop-s.invariant.1.size ∙ c.clear.ensures.changed.size
+loop-s-preserved c =
+    filling_step c.loop-s.invariant c.requires.few c.requires.good (room_there (goal.at.loop-s-preserved c).At-loop-s) (omega arith) c.open_block.ensures
+    c.add_right.ensures
 
 pub returns : goal.returns
-returns c = filling_end c.loop-s.invariant.1 (omega arith)
+returns c = filling_end c.loop-s.invariant (omega arith)

@@ -1,5 +1,5 @@
-use Prim.Native.Nat.{ℕ, ◌+◌, ◌-◌, ◌*◌, ◌<◌, ◌≤◌}
-use mathlib.Core.Path.{◌≡◌, refl, sym, ap, ◌∙◌}
+use Prim.Native.Nat.{ℕ, ◌+◌, ◌*◌, ◌<◌, ◌≤◌}
+use mathlib.Core.Path.{◌≡◌, sym, ap, ◌∙◌}
 use mathlib.Core.List.{List}
 use mathlib.Core.Bool.{Bool, ◌&&◌, and-true, and_assoc}
 use native.Mathlib.Numerals.{add-one}
@@ -9,13 +9,12 @@ use lib.ListN.{length, get_or, drop, drop_of_length-le}
 use lib.Seq.{drop-cons}
 use Rattle.lists.specs.Lists.{all}
 use Rattle.bit_sets.specs.BitSets.{bit_at}
-use Rattle.bit_sets.proofs.Digits.{bit_of_zero}
 use Rattle.bit_sets.proofs.Lowest.{bit_and_lem}
 use Rattle.signatures.specs.Signing.{double}
 use Rattle.merge_rows.specs.Words.{digit}
 use Rattle.merge_rows.proofs.shared.shared.Invariants.{shared_from}
 use Rattle.merge_rows.proofs.shared.shared.Goals as goal
-use Rattle.merge_rows.proofs.shared.shared.Goals.{After-shared_slice_known-in-loop-e-1}
+use Rattle.merge_rows.proofs.shared.shared.Goals.{In-loop-item}
 
 module _ (w : List ℕ) (from : ℕ) (list : List ℕ) (e rest j : ℕ) where
   step : e < length list
@@ -31,49 +30,16 @@ module _ (w : List ℕ) (from : ℕ) (list : List ℕ) (e rest j : ℕ) where
   unfolding all
   end past = sym (rw (drop_of_length-le list {i = e} past, and-true (bit_at rest j)))
 
-  none : rest ≡ 0 → bit_at 0 j ≡ shared_from w from list e rest j
-  none is = bit_of_zero j ∙ sym (rw (is, bit_of_zero j))
-
-pub loop-e-init : goal.loop-e-init
-loop-e-init c = (omega arith, λ j. refl)
-
-pub returns-then-rest-eq0 : goal.returns-then-rest-eq0
-returns-then-rest-eq0 c =
+pub loop-item-preserved : goal.loop-item-preserved
+loop-item-preserved c =
     let a = c.args in
-    let l = c.loop-e in
-    λ j. none a.work.now a.from a.list.now l.e l.rest j c.if-rest-eq0.true ∙ l.invariant.1 j
-
-pub overflow_cast-x : goal.overflow_cast-x
-overflow_cast-x c = omega (arith, c.type_inv.list c.loop-e.e)
-
--- the word of the item at hand is there
-word_there : (c : After-shared_slice_known-in-loop-e-1)
-    → let a = c.args in
-    2 * (a.from + get_or a.list.now c.loop-e.e 0) + 2 ≤ length a.work.now
-word_there c =
-    c.requires c.loop-e.e (omega arith)
-
-pub overflow_add-from : goal.overflow_add-from
-overflow_add-from c = omega (arith, word_there (goal.at.overflow_add-from c).After-shared_slice_known-in-loop-e-1)
-
-pub overflow_mul-from : goal.overflow_mul-from
-overflow_mul-from c = omega (arith, word_there (goal.at.overflow_mul-from c).After-shared_slice_known-in-loop-e-1)
-
-pub double_at-rest-requires : goal.double_at-rest-requires
-double_at-rest-requires c = word_there (goal.at.double_at-rest-requires c).After-shared_slice_known-in-loop-e-1
-
-pub loop-e-preserved : goal.loop-e-preserved
-loop-e-preserved c =
-    let a = c.args in
-    let l = c.loop-e in (
-      omega arith,
-      λ j.
-          ap (λ (d : ℕ). shared_from a.work.now a.from a.list.now (l.e + 1) (bit_and l.rest d) j) c.double_at-rest.ensures
-          ∙ step a.work.now a.from a.list.now l.e l.rest j (omega arith) ∙ l.invariant.1 j,
-    )
+    let l = c.loop-item in
+    λ j.
+    ap (λ (d : ℕ). shared_from a.work.now a.from a.list.now (l.item-index + 1) (bit_and l.rest d) j) c.double_at-rest.ensures
+    ∙ step a.work.now a.from a.list.now l.item-index l.rest j (omega arith) ∙ l.invariant j
 
 pub returns : goal.returns
 returns c =
     let a = c.args in
-    let l = c.loop-e in
-    λ j. end a.work.now a.from a.list.now l.e l.rest j (omega arith) ∙ l.invariant.1 j
+    let l = c.loop-item in
+    λ j. end a.work.now a.from a.list.now l.item-index l.rest j (omega arith) ∙ l.invariant j

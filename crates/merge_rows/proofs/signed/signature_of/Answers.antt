@@ -4,7 +4,7 @@ use mathlib.Core.Path.{sym, ap, ◌∙◌}
 use mathlib.Core.List.{List, []}
 use native.Mathlib.Omega.{arith}
 use lib.ListN.{length, get_or}
-use Rattle.sets.specs.Collections.{between, sets_of}
+use Rattle.sets.specs.Collections.{between, lent_sets, sets_in}
 use Rattle.sets.specs.Signatures.{signature}
 use Rattle.sets.proofs.Between.{length-sets}
 use Rattle.side_index.specs.inverted.Placing.{start_at}
@@ -16,13 +16,13 @@ use Rattle.merge_rows.proofs.signed.signature_of.Goals.{Start}
 -- right set s, among as many right sets as ends
 set_there : (c : Start)
     → let a = c.args in
-    SetAt c.requires.room.T a.s (start_at a.ends.now a.s) (get_or a.ends.now a.s 0)
-    (get_or (sets_of a.ends.now a.items.now) a.s []) a.items.now
+    SetAt c.requires.room.T a.s (start_at a.sets.now.ends.now a.s) (get_or a.sets.now.ends.now a.s 0)
+    (get_or (sets_in (lent_sets a.sets.now)) a.s []) a.sets.now.items.now
 set_there c =
-    let a = c.args in set_at c.requires.room.T a.ends.now a.items.now c.requires.room.good a.s c.requires.place
+    let a = c.args in set_at c.requires.room.T a.sets.now.ends.now a.sets.now.items.now c.requires.room.good a.s c.requires.place
 
-place : (c : Start) → c.args.s < length (sets_of c.args.ends.now c.args.items.now)
-place c = omega (arith, c.requires.place, length-sets 0 c.args.ends.now c.args.items.now)
+place : (c : Start) → c.args.s < length (sets_in (lent_sets c.args.sets.now))
+place c = omega (arith, c.requires.place, length-sets 0 c.args.sets.now.ends.now c.args.sets.now.items.now)
 
 room : (c : Start) → c.args.at + 2 * c.args.s + 2 ≤ length c.args.work.now
 room c = omega (arith, place c, c.requires.room.signed.room)
@@ -56,7 +56,7 @@ returns c =
     let a = c.args in
     let is =
     c.sign_set-mark.ensures
-    ∙ ap (λ (n : ℕ). signature (between n (get_or a.ends.now a.s 0) a.items.now)) c.start_of-start.ensures
+    ∙ ap (λ (n : ℕ). signature (between n (get_or a.sets.now.ends.now a.s 0) a.sets.now.items.now)) c.start_of-start.ensures
     ∙ sym (ap (λ (set : List ℕ). signature set) (set_there (goal.at.returns c).Start).is)
     in
     record {

@@ -9,7 +9,7 @@ returns-in_default c lent lengths =
 
 pub index_right-requires : goal.index_right-requires
 index_right-requires c =
-    let t = first_taken c.args.first.now _ _ c.requires.scanned c.in-Loaded.is in
+    let t = first_taken c.args.first.now _ _ c.requires.scanned c.in-Ok.is in
     record {
       used_value = c.requires.unused;
       counts_len = c.requires.counts_size;
@@ -19,7 +19,7 @@ index_right-requires c =
 
 pub scan_second-scanned-requires : goal.scan_second-scanned-requires
 scan_second-scanned-requires c =
-    let t = first_taken c.args.first.now _ _ c.requires.scanned c.in-Loaded.is in
+    let t = first_taken c.args.first.now _ _ c.requires.scanned c.in-Ok.is in
     record {
       taken = t.taken;
       repeated = t.repeated;
@@ -29,11 +29,11 @@ scan_second-scanned-requires c =
 
 pub decide-requires : goal.decide-requires
 decide-requires c =
-    let t = first_taken c.args.first.now _ _ c.requires.scanned c.in-Loaded.is in
+    let t = first_taken c.args.first.now _ _ c.requires.scanned c.in-Ok.is in
     second_limited c.args.first.now c.args.second.now t.clean c.scan_second-scanned.ensures
 
 pub returns : goal.returns
 returns c lent lengths =
-    let t = first_taken c.args.first.now _ _ c.requires.scanned c.in-Loaded.is in
+    let t = first_taken c.args.first.now _ _ c.requires.scanned c.in-Ok.is in
     second_decided c.args.first.now c.args.second.now t.clean c.scan_second-scanned.ensures lent c.index_right.ensures.noted
     c.index_right.ensures.counted lengths c.decide.ensures

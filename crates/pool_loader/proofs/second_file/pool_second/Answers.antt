@@ -54,7 +54,7 @@ returns-in_default c =
 
 pub fill_pooled-requires : goal.fill_pooled-requires
 fill_pooled-requires c =
-    (c.judge-judged.ensures (lent (goal.at.fill_pooled-requires c).Start) refl).fillable _ _ c.in-Loaded.is
+    (c.judge-judged.ensures (lent (goal.at.fill_pooled-requires c).Start) refl).fillable _ _ c.in-Ok.is
 
 pub shape_of-tags : goal.shape_of-tags
 shape_of-tags c = c.fill_pooled.auto.tags
@@ -79,6 +79,7 @@ shape_of-right_items c = c.fill_pooled.auto.right_items
 
 pub returns : goal.returns
 returns c =
-    call_filled c.args.first.now c.args.second.now (lent (goal.at.returns c).Start) _ _
-    (sym (c.judge-judged.ensures (lent (goal.at.returns c).Start) refl).answered ∙ c.in-Loaded.is)
-    c.fill_pooled.ensures
+    rw c.in-Ok.is
+    (call_filled c.args.first.now c.args.second.now (lent (goal.at.returns c).Start) _ _
+    (sym (c.judge-judged.ensures (lent (goal.at.returns c).Start) refl).answered ∙ c.in-Ok.is)
+    c.fill_pooled.ensures)

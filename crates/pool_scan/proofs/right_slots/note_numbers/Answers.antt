@@ -1,9 +1,10 @@
-use Rattle.std.proofs.Common.{◌≡◌, ◌-◌, ◌<◌, sym, ◌∙◌, arith}
-use borrow.Author.Tests.{not-true, not-false}
+use Rattle.sets.specs.declared.Side.TheVariants.{Right}
+use Rattle.std.proofs.Common.{◌≡◌, ◌<◌, sym, ◌∙◌, arith}
 use Rattle.sets.specs.Limits.{half_words}
 use Rattle.tag_file.specs.Reading.{read_at}
 use Rattle.tag_file.specs.declared.ReadAnswer.TheVariants.{Record}
 use Rattle.tag_file.proofs.Ended.{no_records}
+use Rattle.tag_file.proofs.Sides.{told_same, told_not_same}
 use Rattle.tag_file.proofs.RecordLaws.{read_less, read_number}
 use Rattle.pool_scan.proofs.right_slots.Noting.{noting_wide, noting_start, noting_end, noting_other, noting_own}
 use Rattle.pool_scan.proofs.right_slots.note_numbers.Goals as goal
@@ -34,16 +35,12 @@ returns-in_default c =
     let stop = no_records c.args.file.now c.loop-side.at told.result (sym told.ensures) c.in_default.not-Record in
     noting_end c.loop-side.invariant stop c.requires.file_len_bound
 
-pub is_side-requires : goal.is_side-requires
-is_side-requires c = tt
+pub loop-side-smaller-then-ne : goal.loop-side-smaller-then-ne
+loop-side-smaller-then-ne c = read_less _ _ (read (goal.at.loop-side-smaller-then-ne c).In-Record)
 
-pub loop-side-smaller-then-not-is_side : goal.loop-side-smaller-then-not-is_side
-loop-side-smaller-then-not-is_side c = read_less _ _ (read (goal.at.loop-side-smaller-then-not-is_side c).In-Record)
-
-pub loop-side-preserved-then-not-is_side : goal.loop-side-preserved-then-not-is_side
-loop-side-preserved-then-not-is_side c =
-    let side = c.is_side in
-    noting_other c.loop-side.invariant (read (goal.at.loop-side-preserved-then-not-is_side c).In-Record) (sym side.ensures ∙ not-true side.result c.if-not-is_side.true-raw)
+pub loop-side-preserved-then-ne : goal.loop-side-preserved-then-ne
+loop-side-preserved-then-ne c =
+    noting_other c.loop-side.invariant (read (goal.at.loop-side-preserved-then-ne c).In-Record) (told_not_same c.in-Record.side Right c.ne.ensures c.if-ne.true)
 
 pub overflow_cast-number : goal.overflow_cast-number
 overflow_cast-number c = record { fits = omega (arith, small (goal.at.overflow_cast-number c).In-Record) }
@@ -57,6 +54,5 @@ loop-side-smaller c = read_less _ _ (read (goal.at.loop-side-smaller c).In-Recor
 
 pub loop-side-preserved : goal.loop-side-preserved
 loop-side-preserved c =
-    let side = c.is_side in
     noting_own c.loop-side.invariant (read (goal.at.loop-side-preserved c).In-Record)
-    (sym side.ensures ∙ not-false side.result c.if-not-is_side.false-raw) c.insert.ensures
+    (told_same c.in-Record.side Right c.ne.ensures c.if-ne.false) c.insert.ensures

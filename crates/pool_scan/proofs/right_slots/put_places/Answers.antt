@@ -1,10 +1,10 @@
-use Rattle.std.proofs.Common.{◌≡◌, ℕ, ◌-◌, ◌<◌, true, length, get_or, set, sym, ◌∙◌, subst, arith}
-use borrow.Author.Tests.{not-true, not-false}
+use Rattle.std.proofs.Common.{◌≡◌, ℕ, ◌<◌, true, length, get_or, set, sym, ◌∙◌, subst, arith}
 use Rattle.sets.specs.declared.Side.TheVariants.{Right}
 use Rattle.tag_file.specs.Reading.{read_at}
 use Rattle.tag_file.specs.Records.{same_side}
 use Rattle.tag_file.specs.declared.ReadAnswer.TheVariants.{Record}
 use Rattle.tag_file.proofs.Ended.{no_records}
+use Rattle.tag_file.proofs.Sides.{told_same, told_not_same}
 use Rattle.tag_file.proofs.RecordLaws.{read_less, read_length}
 use Rattle.pool_scan.proofs.right_slots.Walking.{walking_step, walking_within}
 use Rattle.pool_scan.proofs.right_slots.SlotPlacing.{SlotPlacing, placing_start, placing_end, placing_other, placing_room, placing_own}
@@ -23,8 +23,7 @@ byte a i = (a.type_inv.file i).fits
 
 is_right : (c : After-number_slot-slot) → same_side Right c.in-Record.side ≡ true
 is_right c =
-    let side = c.is_side in
-    sym side.ensures ∙ not-false side.result c.if-not-is_side.false-raw
+    told_same c.in-Record.side Right c.ne.ensures c.if-ne.false
 
 room : (c : After-number_slot-slot) → c.number_slot-slot.result < length c.loop-side.slots
 room c =
@@ -57,16 +56,12 @@ returns-in_default c =
       places = placing_end c.loop-side.invariant stop;
     }
 
-pub is_side-requires : goal.is_side-requires
-is_side-requires c = tt
+pub loop-side-smaller-then-ne : goal.loop-side-smaller-then-ne
+loop-side-smaller-then-ne c = read_less _ _ (read (goal.at.loop-side-smaller-then-ne c).In-Record)
 
-pub loop-side-smaller-then-not-is_side : goal.loop-side-smaller-then-not-is_side
-loop-side-smaller-then-not-is_side c = read_less _ _ (read (goal.at.loop-side-smaller-then-not-is_side c).In-Record)
-
-pub loop-side-preserved-then-not-is_side : goal.loop-side-preserved-then-not-is_side
-loop-side-preserved-then-not-is_side c =
-    let side = c.is_side in
-    placing_other c.loop-side.invariant (read (goal.at.loop-side-preserved-then-not-is_side c).In-Record) (sym side.ensures ∙ not-true side.result c.if-not-is_side.true-raw)
+pub loop-side-preserved-then-ne : goal.loop-side-preserved-then-ne
+loop-side-preserved-then-ne c =
+    placing_other c.loop-side.invariant (read (goal.at.loop-side-preserved-then-ne c).In-Record) (told_not_same c.in-Record.side Right c.ne.ensures c.if-ne.true)
 
 pub number_slot-slot-requires : goal.number_slot-slot-requires
 number_slot-slot-requires c = c.requires.blocks_counted

@@ -19,10 +19,10 @@ slot_small a = let below = a.requires.slot (met a) in omega (arith, below, a.num
 
 known : (a : After-number_slot-slot)
     → let s = a.args in
-    KnownRecordAt s.first.now (get_or s.slots.now a.number_slot-slot.result 0) (table_of s.heads.now s.tails.now s.n s.ids.now)
+    KnownRecordAt s.first.now (get_or s.slots.now a.number_slot-slot.result 0) (table_of s.index.now s.n)
 known a =
     let s = a.args in
-    subst (λ (k : ℕ). KnownRecordAt s.first.now (get_or s.slots.now k 0) (table_of s.heads.now s.tails.now s.n s.ids.now))
+    subst (λ (k : ℕ). KnownRecordAt s.first.now (get_or s.slots.now k 0) (table_of s.index.now s.n))
     (sym a.number_slot-slot.ensures) (a.requires.there (met a))
 
 there_at : (a : After-number_slot-slot) {count start : ℕ}
@@ -59,7 +59,7 @@ overflow_cast-at c =
 pub add_both-united-requires : goal.add_both-united-requires
 add_both-united-requires c =
     record {
-      index_ready = c.requires.index;
+      index_ready = c.requires.index_ready;
       tags_inside = c.requires.tags_inside;
       known_record_at = known (goal.at.add_both-united-requires c).After-number_slot-slot;
     }

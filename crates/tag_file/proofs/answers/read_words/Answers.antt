@@ -6,7 +6,7 @@ use Rattle.tag_file.proofs.answers.read_words.Goals as goal
 
 pub returns-in-Record : goal.returns-in-Record
 returns-in-Record c =
-    side_words c.side_word.ensures
+    side_words c.from.ensures
     ∙ sym (ap (λ a. words_read a c.args.read.repeats) c.in-Record.is)
 
 pub returns-in-Refused : goal.returns-in-Refused

@@ -1,31 +1,23 @@
-use mathlib.Core.Path.{sym, ◌∙◌}
-use Prim.Native.Nat.{◌-◌}
 use native.Mathlib.Omega.{arith}
 use Rattle.tag_index.specs.tag_adding.Adding.{Adding}
-use Rattle.tag_index.proofs.tag_adding.AddLaws.{Going, going_start, going_tags, going_distinct, going_step, going_end}
+use Rattle.tag_index.proofs.tag_adding.AddLaws.{Going, going_start, going_tags, going_distinct, going_step}
 use Rattle.tag_index.proofs.tag_adding.add_tags.Goals as goal
 use Rattle.tag_index.proofs.tag_adding.add_tags.Goals.{At-loop-k}
 
 -- what the set had at the start, and what was added to it
 had : (l : At-loop-k)
     → let a = l.args in
-    Adding l.requires.some_adding.done a.heads.now a.tails.now a.sum.tag_count a.sum.distinct a.ids.now a.seen.now
+    Adding l.requires.some_adding.done a.index.now a.sum.tag_count a.sum.distinct a.seen.now
 had l = l.requires.some_adding.adding
 
 going : (l : At-loop-k)
     → let a = l.args in
-    Going l.requires.some_adding.done a.file.now a.start a.count a.sum.tag_count a.heads.now a.tails.now a.ids.now
-    l.loop-k.k l.loop-k.tag_count l.loop-k.distinct l.loop-k.heads l.loop-k.tails l.loop-k.ids l.loop-k.seen
+    Going l.requires.some_adding.done a.file.now a.start a.sum.tag_count a.index.now
+    l.loop-k.k l.loop-k.tag_count l.loop-k.distinct l.loop-k.index l.loop-k.seen
 going l = l.loop-k.invariant l.requires.some_adding.done (had l)
 
 pub loop-k-init : goal.loop-k-init
 loop-k-init c = λ done a. going_start a
-
-pub overflow_mul-place : goal.overflow_mul-place
-overflow_mul-place c = omega (arith, c.requires.room_to_add.inside)
-
-pub overflow_add-place : goal.overflow_add-place
-overflow_add-place c = omega (arith, c.requires.room_to_add.inside)
 
 pub take_tag-found-requires : goal.take_tag-found-requires
 take_tag-found-requires c =
@@ -35,20 +27,10 @@ take_tag-found-requires c =
       next_tag = record { inside = omega (arith, c.requires.room_to_add.inside, more); room = omega (arith, c.requires.room_to_add.room, going_tags (had (goal.at.take_tag-found-requires c).At-loop-k) (going (goal.at.take_tag-found-requires c).At-loop-k), more) };
     }
 
-pub see-distinct-requires : goal.see-distinct-requires
-see-distinct-requires c =
-    (omega (arith, c.take_tag-found.ensures.within, c.take_tag-found.ensures.sorted.listed.room), (going (goal.at.see-distinct-requires c).At-loop-k).adding.wide)
-
 pub overflow_add-distinct : goal.overflow_add-distinct
 overflow_add-distinct c =
-    omega (arith, c.see-distinct.ensures.small, going_distinct (had (goal.at.overflow_add-distinct c).At-loop-k) (going (goal.at.overflow_add-distinct c).At-loop-k), c.requires.room_to_add.count_room, c.loop-k-test.true)
+    omega (arith, c.see-distinct.ensures.small, going_distinct (had (goal.at.overflow_add-distinct c).At-loop-k) (going (goal.at.overflow_add-distinct c).At-loop-k), c.requires.room_to_add.count_room)
 
 pub loop-k-preserved : goal.loop-k-preserved
 loop-k-preserved c =
-    λ done a. going_step a (c.loop-k.invariant done a) c.loop-k-test.true c.take_tag-found.ensures c.see-distinct.ensures
-
-pub shape_of-seen : goal.shape_of-seen
-shape_of-seen c = (going (goal.at.shape_of-seen c).At-loop-k).adding.wide ∙ sym (had (goal.at.shape_of-seen c).At-loop-k).wide
-
-pub returns : goal.returns
-returns c = λ done a. going_end a (c.loop-k.invariant done a) c.loop-k-test.false
+    λ done a. going_step a (c.loop-k.invariant done a) c.take_tag-found.ensures c.see-distinct.ensures

@@ -1,15 +1,12 @@
 -- `tag_index::tag_adding::add_tags` meets its contract. The invariant, for all tags that the set may have had before: k tags of the record were
--- added (`Going`). The measure is how many are left.
+-- added (`Going`).
 use mathlib.Core.List.{List}
-use Prim.Native.Nat.{ℕ, ◌-◌}
+use Prim.Native.Nat.{ℕ}
 use Rattle.tag_index.specs.tag_adding.Adding.{Adding}
 use Rattle.tag_index.proofs.tag_adding.AddLaws.{Going}
 use Rattle.tag_index.proofs.tag_adding.add_tags.Given as goal
 
 abbrev pub invariant-loop-k : goal.invariant-loop-k
 invariant-loop-k l =
-    (done : List ℕ) → Adding done l.initial.heads l.initial.tails l.initial.tag_count l.initial.distinct l.initial.ids l.initial.seen
-    → Going done l.file l.start l.count l.initial.tag_count l.initial.heads l.initial.tails l.initial.ids l.k l.tag_count l.distinct l.heads l.tails l.ids l.seen
-
-abbrev pub decreases-loop-k : goal.decreases-loop-k
-decreases-loop-k l = l.count - l.k
+    (done : List ℕ) → Adding done l.initial.index l.initial.tag_count l.initial.distinct l.initial.seen
+    → Going done l.file l.start l.initial.tag_count l.initial.index l.k l.tag_count l.distinct l.index l.seen

@@ -1,12 +1,11 @@
 use mathlib.Core.Path.{◌≡◌, refl, sym, ◌∙◌}
 use mathlib.Core.List.{[]}
-use Prim.Native.Nat.{◌-◌}
 use native.Mathlib.Omega.{arith}
-use borrow.Author.Tests.{not-true, not-false}
 use Rattle.tag_file.specs.Reading.{read_at, tags_at}
 use Rattle.tag_file.specs.declared.ReadAnswer.TheVariants.{Record}
 use Rattle.tag_file.proofs.Ended.{no_records}
 use Rattle.tag_file.proofs.RecordLaws.{read_less}
+use Rattle.tag_file.proofs.Sides.{told_same, told_not_same}
 use Rattle.tag_index.specs.Index.{table_of}
 use Rattle.tag_index.proofs.Ids.{sorted_size}
 use Rattle.tag_loader.proofs.record_items.Marks.{unmarked_marked}
@@ -47,16 +46,13 @@ returns-in_default c =
       items = filled_items l.invariant stop;
     }
 
-pub is_side-requires : goal.is_side-requires
-is_side-requires c = tt
+pub loop-kind-smaller-then-ne : goal.loop-kind-smaller-then-ne
+loop-kind-smaller-then-ne c = read_less _ _ (read (goal.at.loop-kind-smaller-then-ne c).In-Record)
 
-pub loop-kind-smaller-then-not-is_side : goal.loop-kind-smaller-then-not-is_side
-loop-kind-smaller-then-not-is_side c = read_less _ _ (read (goal.at.loop-kind-smaller-then-not-is_side c).In-Record)
-
-pub loop-kind-preserved-then-not-is_side : goal.loop-kind-preserved-then-not-is_side
-loop-kind-preserved-then-not-is_side c =
-    filling_other c.loop-kind.invariant (read (goal.at.loop-kind-preserved-then-not-is_side c).In-Record)
-    (sym c.is_side.ensures ∙ not-true c.is_side.result c.if-not-is_side.true-raw)
+pub loop-kind-preserved-then-ne : goal.loop-kind-preserved-then-ne
+loop-kind-preserved-then-ne c =
+    filling_other c.loop-kind.invariant (read (goal.at.loop-kind-preserved-then-ne c).In-Record)
+    (told_not_same _ _ c.ne.ensures c.if-ne.true)
 
 pub slice_bounds-mark_tags-end : goal.slice_bounds-mark_tags-end
 slice_bounds-mark_tags-end c = sym c.loop-kind.invariant.unmarked.wide
@@ -67,10 +63,10 @@ mark_tags-requires c =
     let a = c.args in
     record {
       tags_known = filling_known c.loop-kind.invariant (read (goal.at.mark_tags-requires c).In-Record) c.requires.sorted c.requires.ranked refl c.requires.small
-          (sym c.is_side.ensures ∙ not-false c.is_side.result c.if-not-is_side.false-raw);
+          (told_same _ _ c.ne.ensures c.if-ne.false);
       some_marked = record {
         done = [];
-        marked = unmarked_marked (table_of a.heads.now a.tails.now a.n a.ids.now) c.loop-kind.invariant.unmarked;
+        marked = unmarked_marked (table_of a.index.now a.n) c.loop-kind.invariant.unmarked;
       };
     }
 
@@ -84,7 +80,7 @@ put_record-done-requires c =
     record {
       marks_len = filling_wide l.invariant (read (goal.at.put_record-done-requires c).In-Record) c.mark_tags.ensures;
       room_for_one = rw (filling_items l.invariant (read (goal.at.put_record-done-requires c).In-Record) c.mark_tags.ensures (omega (arith, sorted_size c.requires.sorted, c.requires.small)))
-          (filling_room l.invariant (read (goal.at.put_record-done-requires c).In-Record) c.requires.few (sym c.is_side.ensures ∙ not-false c.is_side.result c.if-not-is_side.false-raw));
+          (filling_room l.invariant (read (goal.at.put_record-done-requires c).In-Record) c.requires.few (told_same _ _ c.ne.ensures c.if-ne.false));
     }
 
 pub loop-kind-smaller : goal.loop-kind-smaller
@@ -96,4 +92,4 @@ loop-kind-preserved c =
     let l = c.loop-kind in
     let same = filling_items l.invariant (read (goal.at.loop-kind-preserved c).In-Record) c.mark_tags.ensures
     (omega (arith, sorted_size c.requires.sorted, c.requires.small)) in
-    filling_own l.invariant (read (goal.at.loop-kind-preserved c).In-Record) (sym c.is_side.ensures ∙ not-false c.is_side.result c.if-not-is_side.false-raw) (rw same at c.put_record-done.ensures.lists) c.put_record-done.ensures.marks
+    filling_own l.invariant (read (goal.at.loop-kind-preserved c).In-Record) (told_same _ _ c.ne.ensures c.if-ne.false) (rw same at c.put_record-done.ensures.lists) c.put_record-done.ensures.marks

@@ -7,7 +7,7 @@ use Rattle.tag_loader.proofs.fill.Filling.{SideFilling}
 use Rattle.tag_loader.proofs.fill.fill_side.Given as goal
 
 abbrev pub invariant-loop-kind : goal.invariant-loop-kind
-invariant-loop-kind l = SideFilling l.file l.side (table_of l.heads l.tails l.n l.ids) l.initial.numbers l.initial.ends l.initial.items l.marks l.numbers l.ends l.items l.done l.at
+invariant-loop-kind l = SideFilling l.file l.side (table_of l.index l.n) l.initial.numbers l.initial.ends l.initial.items l.marks l.numbers l.ends l.items l.done l.at
 
 abbrev pub decreases-loop-kind : goal.decreases-loop-kind
 decreases-loop-kind l = length l.file - l.at

@@ -84,15 +84,9 @@ putting_end side tags numbers ends items file₀ at file k start to whole done s
     ap (λ (l : List ℕ). sets file to (records_of side tags l (sets_from start (drop k ends) items))) (sym none) ∙ so.together
 
 now_turn : (p : In-loop-k)
-    → Turn p.args.tags.now p.args.items.now p.loop-k.file p.loop-k.k
-    p.loop-k.start (get_or p.args.ends.now p.loop-k.k 0) p.loop-k.to
+    → Turn p.args.tags.now p.args.from.now.sets.items.now p.loop-k.file p.loop-k.k
+    p.loop-k.start (get_or p.args.from.now.sets.ends.now p.loop-k.k 0) p.loop-k.to
 now_turn p = turn _ _ _ _ _ _ _ _ _ _ _ p.requires.good_side p.requires.in_bounds p.loop-k-test.true p.loop-k.invariant
-
-pub loop-k-init : goal.loop-k-init
-loop-k-init c = putting_start _ _ _ _ _ _ _ c.requires.good_side
-
-pub overflow_cast-end : goal.overflow_cast-end
-overflow_cast-end c = omega (arith, c.type_inv.ends c.loop-k.k)
 
 pub put_record-requires : goal.put_record-requires
 put_record-requires c =
@@ -108,17 +102,10 @@ overflow_sub-end c = omega (arith, (now_turn (goal.at.overflow_sub-end c).In-loo
 pub record_length-to-requires : goal.record_length-to-requires
 record_length-to-requires c = (now_turn (goal.at.record_length-to-requires c).In-loop-k).set.short
 
-pub overflow_add-to : goal.overflow_add-to
-overflow_add-to c =
-    omega (arith, c.record_length-to.ensures, (now_turn (goal.at.overflow_add-to c).In-loop-k).room, c.well_formed)
-
 pub loop-k-preserved : goal.loop-k-preserved
 loop-k-preserved c =
     putting-step _ _ _ _ _ _ _ _ _ _ _ c.requires.good_side c.requires.in_bounds c.loop-k-test.true c.loop-k.invariant _ _
     c.put_record.ensures c.record_length-to.ensures
-
-pub shape_of-file : goal.shape_of-file
-shape_of-file c = c.loop-k.invariant.long
 
 pub returns : goal.returns
 returns c =

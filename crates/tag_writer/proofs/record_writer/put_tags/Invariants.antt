@@ -1,5 +1,5 @@
 -- `put_tags` meets its contract. The loop's invariant: putting the tags that are left gives what putting all of them gave at
--- the start. The measure is the number of items left.
+-- the start.
 use mathlib.Core.Path.{◌≡◌}
 use mathlib.Core.List.{List}
 use Prim.Native.Nat.{ℕ, ◌+◌, ◌*◌, ◌-◌, ◌≤◌}
@@ -21,8 +21,5 @@ pub record PuttingTags (tags items : List ℕ) (start end : ℕ) (file₀ : List
   pub place : to + tag_length * (end - i) ≡ at + tag_length * (end - start)
   pub together : sets file to (run tags items i end) ≡ sets file₀ at (run tags items start end)
 
-abbrev pub invariant-loop-i : goal.invariant-loop-i
-invariant-loop-i l = PuttingTags l.tags l.items l.start l.end l.initial.file l.at l.file l.i l.to
-
-abbrev pub decreases-loop-i : goal.decreases-loop-i
-decreases-loop-i l = l.end - l.i
+abbrev pub invariant-loop-item : goal.invariant-loop-item
+invariant-loop-item l = PuttingTags l.tags l.items l.start l.end l.initial.file l.at l.file (l.start + l.item-index) l.to

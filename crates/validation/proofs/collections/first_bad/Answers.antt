@@ -11,5 +11,5 @@ use Rattle.validation.proofs.collections.first_bad.Goals as goal
 pub returns-then-all_good : goal.returns-then-all_good
 returns-then-all_good c =
     let a = c.args in
-    let verdict = first_bad a.t a.ends.now a.items.now in
+    let verdict = first_bad a.t a.sets.now.ends.now a.sets.now.items.now in
     sym (is_good_lem verdict (and_right (leb a.t max_items) (is_good verdict) (sym c.all_good.ensures ∙ c.if-all_good.true)))

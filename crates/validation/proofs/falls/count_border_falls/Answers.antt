@@ -7,23 +7,20 @@ use Rattle.validation.proofs.falls.Passes.{borders_next, borders_end, borders_bo
 use Rattle.validation.proofs.falls.count_border_falls.Goals as goal
 use Rattle.validation.proofs.falls.count_border_falls.Goals.{After-border_fall-falls}
 
-pub overflow_cast-end : goal.overflow_cast-end
-overflow_cast-end c = omega (arith, c.type_inv.ends c.loop-k.k)
-
 -- this border's part of what was left
 step : (c : After-border_fall-falls)
     → let a = c.args in
-    let found = c.loop-k.falls + c.border_fall-falls.result in
-    let k = c.loop-k.k in
+    let found = c.loop-end.falls + c.border_fall-falls.result in
+    let k = c.loop-end.end-index in
     (found + border_falls a.n (get_or a.ends.now k 0) (drop (k + 1) a.ends.now) a.list.now
     ≡ border_falls a.n 0 a.ends.now a.list.now)
 step c =
     let a = c.args in
     omega (
       arith,
-      c.loop-k.invariant,
+      c.loop-end.invariant,
       c.border_fall-falls.ensures,
-      borders_next a.n a.ends.now a.list.now c.loop-k.k c.loop-k.start (omega arith),
+      borders_next a.n a.ends.now a.list.now c.loop-end.end-index c.loop-end.start (omega arith),
     )
 
 pub overflow_add-falls : goal.overflow_add-falls
@@ -31,14 +28,14 @@ overflow_add-falls c =
     let a = c.args in
     omega (arith, step (goal.at.overflow_add-falls c).After-border_fall-falls, borders_bound a.n 0 a.ends.now a.list.now)
 
-pub loop-k-preserved : goal.loop-k-preserved
-loop-k-preserved c = step (goal.at.loop-k-preserved c).After-border_fall-falls
+pub loop-end-preserved : goal.loop-end-preserved
+loop-end-preserved c = step (goal.at.loop-end-preserved c).After-border_fall-falls
 
 pub returns : goal.returns
 returns c =
     let a = c.args in
     omega (
       arith,
-      c.loop-k.invariant,
-      borders_end a.n a.ends.now a.list.now c.loop-k.k c.loop-k.start (omega arith),
+      c.loop-end.invariant,
+      borders_end a.n a.ends.now a.list.now c.loop-end.end-index c.loop-end.start (omega arith),
     )

@@ -1,13 +1,10 @@
--- `validation::falls::count_high` meets its contract. The invariant: what was counted and what is left to count are the whole. The
--- measure is how many numbers are left.
+-- `validation::falls::count_high` meets its contract. The invariant: what was counted and what is left to count are the whole.
 use mathlib.Core.Path.{◌≡◌}
-use Prim.Native.Nat.{◌+◌, ◌-◌}
+use Prim.Native.Nat.{◌+◌}
 use lib.Dec.{leb}
-use Rattle.lists.specs.Lists.{count, slice}
+use lib.ListN.{drop}
+use Rattle.lists.specs.Lists.{count}
 use Rattle.validation.proofs.falls.count_high.Given as goal
 
-abbrev pub invariant-loop-e : goal.invariant-loop-e
-invariant-loop-e l = l.high + count (leb l.t) (slice l.e l.n l.list) ≡ count (leb l.t) (slice 0 l.n l.list)
-
-abbrev pub decreases-loop-e : goal.decreases-loop-e
-decreases-loop-e l = l.n - l.e
+abbrev pub invariant-loop-x : goal.invariant-loop-x
+invariant-loop-x l = l.high + count (leb l.t) (drop l.x-index l.x-items) ≡ count (leb l.t) l.x-items

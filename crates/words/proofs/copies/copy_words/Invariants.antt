@@ -1,5 +1,4 @@
--- `words::copies::copy_words` meets its contract. The invariant: what was written, with the rest of the part, is the part. The
--- measure is what remains of it.
+-- `words::copies::copy_words` meets its contract. The invariant: what was written, with the rest of the part, is the part.
 use Prim.Native.Nat.{◌+◌, ◌-◌}
 use mathlib.Core.Path.{◌≡◌}
 use mathlib.Core.Bool.{true}
@@ -8,6 +7,3 @@ use Rattle.words.proofs.copies.copy_words.Given as goal
 
 abbrev pub invariant-loop-i : goal.invariant-loop-i
 invariant-loop-i l = Keeping (λ s. true) l.initial.work l.from l.to l.top l.work l.i l.n × (l.n + (l.to - l.i) ≡ l.top + (l.to - l.from))
-
-abbrev pub decreases-loop-i : goal.decreases-loop-i
-decreases-loop-i l = l.to - l.i

@@ -9,20 +9,6 @@ use Rattle.words.proofs.flags.keep_flagged.Goals.{After-slice_known-1}
 pub loop-j-init : goal.loop-j-init
 loop-j-init c = keeping_start
 
-pub offset_bounds-work-j : goal.offset_bounds-work-j
-offset_bounds-work-j c = omega (arith, c.loop-j-test.true, c.requires.below.within, c.loop-j.invariant.changed.size)
-
-pub bounds-work-j : goal.bounds-work-j
-bounds-work-j c =
-    omega (arith, c.loop-j-test.true, c.requires.below.within, c.loop-j.invariant.changed.size)
-
-pub offset_bounds-work-n : goal.offset_bounds-work-n
-offset_bounds-work-n c = omega (arith, c.loop-j-test.true, c.requires.behind, c.loop-j.invariant)
-
-pub bounds-work-n : goal.bounds-work-n
-bounds-work-n c =
-    omega (arith, c.loop-j-test.true, c.requires.behind, c.loop-j.invariant)
-
 -- the word has a flag
 word_low : (c : After-slice_known-1)
     → get_or c.loop-j.work c.loop-j.j 0 < length c.args.flags.now
@@ -48,19 +34,10 @@ pub overflow_add-n : goal.overflow_add-n
 overflow_add-n c =
     omega (arith, flag_low (goal.at.overflow_add-n c).After-slice_known-1, c.loop-j.invariant.high, c.requires.behind.room)
 
-pub overflow_add-j : goal.overflow_add-j
-overflow_add-j c = omega (arith, c.loop-j-test.true)
-
-pub loop-j-smaller : goal.loop-j-smaller
-loop-j-smaller c = omega (arith, c.loop-j-test.true)
-
 pub loop-j-preserved : goal.loop-j-preserved
 loop-j-preserved c =
     keeping_step c.loop-j.invariant c.requires.behind c.loop-j-test.true
     (c.requires.flagged.is (get_or c.loop-j.work c.loop-j.j 0) (word_low (goal.at.loop-j-preserved c).After-slice_known-1))
-
-pub shape_of-work : goal.shape_of-work
-shape_of-work c = c.loop-j.invariant.changed.size
 
 pub returns : goal.returns
 returns c = keeping_end c.loop-j.invariant c.loop-j-test.false

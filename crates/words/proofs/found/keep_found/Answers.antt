@@ -40,10 +40,6 @@ is_among-found-requires c =
 pub overflow_cast-work : goal.overflow_cast-work
 overflow_cast-work c = omega (arith, c.word_at-x.ensures.small)
 
-pub offset_bounds-work-n : goal.offset_bounds-work-n
-offset_bounds-work-n c =
-    omega (arith, c.loop-j-test.true, c.requires.behind, c.loop-j.invariant)
-
 pub bounds-work-n : goal.bounds-work-n
 bounds-work-n c =
     omega (arith, c.loop-j-test.true, c.requires.behind, c.loop-j.invariant)
@@ -51,12 +47,6 @@ bounds-work-n c =
 pub overflow_add-n : goal.overflow_add-n
 overflow_add-n c =
     omega (arith, c.number-n.ensures.small, c.loop-j.invariant.high, c.requires.behind.room)
-
-pub overflow_add-j : goal.overflow_add-j
-overflow_add-j c = omega (arith, c.loop-j-test.true)
-
-pub loop-j-smaller : goal.loop-j-smaller
-loop-j-smaller c = omega (arith, c.loop-j-test.true)
 
 pub loop-j-preserved : goal.loop-j-preserved
 loop-j-preserved c =
@@ -67,9 +57,6 @@ loop-j-preserved c =
     ∙ ap one (c.is_among-found.ensures ∙ ap (memb c.word_at-x.result) (same_part (goal.at.loop-j-preserved c).At-loop-j)
     ∙ ap (λ (x : ℕ). memb x (slice a.a a.b a.work.now)) word) in
     rw word (keeping_step c.loop-j.invariant c.requires.behind c.loop-j-test.true told)
-
-pub shape_of-work : goal.shape_of-work
-shape_of-work c = c.loop-j.invariant.changed.size
 
 pub returns : goal.returns
 returns c = keeping_end c.loop-j.invariant c.loop-j-test.false

@@ -5,11 +5,12 @@ use Prim.Native.Nat.{ℕ}
 use mathlib.Core.Path.{◌≡◌, ◌∙◌}
 use lib.ListN.{length}
 use native.Mathlib.Omega.{arith}
-use Rattle.words.specs.flags.Flags.{flag_room}
-use Rattle.words.proofs.flags.Flagging.{below_length, flagged_own}
+use Rattle.lists.specs.Lists.{memb, slice}
+use Rattle.words.specs.flags.Flags.{flag_room, Flagged}
+use Rattle.words.proofs.flags.Flagging.{below_length, flagged_own, flags_put, flags_taken}
 use Rattle.words.proofs.shared.Sharing.{found_shared, kept_shared, below_changed, flagged_changed}
 use Rattle.words.proofs.shared.intersect.Goals as goal
-use Rattle.words.proofs.shared.intersect.Goals.{After-flag_words}
+use Rattle.words.proofs.shared.intersect.Goals.{After-set_flags}
 
 pub overflow_sub-e : goal.overflow_sub-e
 overflow_sub-e c = omega (arith, c.requires.below_2.order)
@@ -33,42 +34,38 @@ returns-then-is_far_shorter c =
       clear = c.requires.clear_2;
     }
 
-pub flag_words-requires : goal.flag_words-requires
-flag_words-requires c =
-    record {
-      below = below_length c.args.flags.now c.requires.clear_2.size c.requires.below;
-      flagged = c.requires.clear_2.none;
-    }
+pub set_flags-requires : goal.set_flags-requires
+set_flags-requires c = below_length c.args.flags.now c.requires.clear_2.size c.requires.below
 
--- the table is as long after the flagging
-flags_size : (c : After-flag_words) → length {A = ℕ} c.flag_words.new.flags ≡ flag_room
-flags_size c = c.flag_words.auto.flags ∙ c.requires.clear_2.size
+-- the table is as long after the flagging, and has the flags of the first part
+flags_size : (c : After-set_flags) → length {A = ℕ} c.set_flags.new.flags ≡ flag_room
+flags_size c = c.set_flags.auto.flags ∙ c.requires.clear_2.size
+
+flags_are : (c : After-set_flags) → Flagged (λ s. memb s (slice c.args.a c.args.b c.args.work.now)) c.set_flags.new.flags
+flags_are c = flags_put c.requires.clear_2.none c.set_flags.ensures
 
 pub keep_flagged-r-requires : goal.keep_flagged-r-requires
 keep_flagged-r-requires c =
     record {
-      below = below_length c.flag_words.new.flags (flags_size (goal.at.keep_flagged-r-requires c).After-flag_words) c.requires.below_2;
+      below = below_length c.set_flags.new.flags (flags_size (goal.at.keep_flagged-r-requires c).After-set_flags) c.requires.below_2;
       behind = record { low = c.requires.apart.second; room = c.requires.apart.room };
-      flagged = flagged_own c.flag_words.ensures;
+      flagged = flagged_own (flags_are (goal.at.keep_flagged-r-requires c).After-set_flags);
     }
 
-pub unflag_words-requires : goal.unflag_words-requires
-unflag_words-requires c =
-    let changed = c.keep_flagged-r.ensures.changed in
-    record {
-      below = below_length c.flag_words.new.flags (flags_size (goal.at.unflag_words-requires c).After-flag_words)
-          (below_changed c.args.a c.requires.apart.first changed c.requires.below);
-      flagged = flagged_changed c.args.a c.requires.apart.first changed c.flag_words.ensures;
-    }
+pub set_flags-requires-2 : goal.set_flags-requires-2
+set_flags-requires-2 c =
+    below_length c.set_flags.new.flags (flags_size (goal.at.set_flags-requires-2 c).After-set_flags)
+    (below_changed c.args.a c.requires.apart.first c.keep_flagged-r.ensures.changed c.requires.below)
 
 pub returns : goal.returns
 returns c =
-    let flags = c.flag_words.new.flags in
+    let l = (goal.at.returns c).After-set_flags in
+    let changed = c.keep_flagged-r.ensures.changed in
     record {
-      shared = kept_shared c.requires.rising c.requires.rising_2 (below_length flags (flags_size (goal.at.returns c).After-flag_words) c.requires.below_2)
-          c.flag_words.ensures c.keep_flagged-r.ensures;
+      shared = kept_shared c.requires.rising c.requires.rising_2 (below_length c.set_flags.new.flags (flags_size l) c.requires.below_2)
+          (flags_are l) c.keep_flagged-r.ensures;
       clear = record {
-        size = c.unflag_words.auto.flags ∙ flags_size (goal.at.returns c).After-flag_words;
-        none = c.unflag_words.ensures;
+        size = c.set_flags-2.auto.flags ∙ flags_size l;
+        none = flags_taken (flagged_changed c.args.a c.requires.apart.first changed (flags_are l)) c.set_flags-2.ensures;
       };
     }

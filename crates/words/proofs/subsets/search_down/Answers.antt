@@ -1,6 +1,6 @@
 use mathlib.Core.Path.{refl}
 use native.Mathlib.Omega.{arith}
-use Rattle.words.proofs.Trimming.{trimming_stop, trimming_other, trimming_same, trimming_end}
+use Rattle.words.proofs.Trimming.{trimming_rises, trimming_stop, trimming_other, trimming_same, trimming_end}
 use Rattle.words.proofs.subsets.search_down.Goals as goal
 
 pub loop-i-init : goal.loop-i-init
@@ -11,8 +11,8 @@ pub skip_higher-j-requires : goal.skip_higher-j-requires
 skip_higher-j-requires c =
     let m = c.loop-i.invariant in
     record {
-      a_lt_b = c.loop-i-test.true;
-      rising = record { within = omega (arith, m.first, c.requires.rising.within); rise = m.first_rises };
+      a_lt_b = omega (arith, c.loop-i-test.true);
+      rising = trimming_rises m c.requires.rising c.loop-i-test.true;
       rising_2 = record { within = omega (arith, m.second, c.requires.rising_2.within); rise = m.second_rises };
     }
 
