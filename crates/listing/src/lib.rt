@@ -17,7 +17,7 @@ use inputs::Input;
 use join_text::{MAX_PAIRS, list_loaded};
 use lists::filled;
 use sets::{MAX_ITEMS, MAX_SETS, Refusal, Sets};
-use tag_file::{Loaded, Repeats, TAG_LENGTH};
+use tag_file::{Loaded, NumberedSets, Repeats, TAG_LENGTH};
 use text::number_lines::put_refusal;
 
 // The longest file that is read.
@@ -33,42 +33,37 @@ const ITEMS: usize = MAX_FILE / TAG_LENGTH;
 fn list_counted(
     loaded: Loaded,
     repeats: Repeats,
-    left_numbers: &[u16],
-    left_ends: &[u32],
-    left_items: &[u16],
-    right_numbers: &[u16],
-    right_ends: &[u32],
-    right_items: &[u16],
+    left: &NumberedSets,
+    right: &NumberedSets,
     ranks: &mut [u16],
     text: &mut [u8],
 ) -> usize
-    requires { Within loaded left_numbers.now left_ends.now left_items.now
-        right_numbers.now right_ends.now right_items.now ranks.old text.old }
+    requires { Within loaded left.now.numbers.now left.now.sets.ends.now left.now.sets.items.now
+        right.now.numbers.now right.now.sets.ends.now right.now.sets.items.now ranks.old text.old }
     ensures { FillsText (cut_text loaded repeats
-        left_numbers.now left_ends.now left_items.now
-        right_numbers.now right_ends.now right_items.now)
+        left.now.numbers.now left.now.sets.ends.now left.now.sets.items.now
+        right.now.numbers.now right.now.sets.ends.now right.now.sets.items.now)
         text.old result text.new }
 {
     let items = loaded.tag_count;
     let left_sets = loaded.left_sets;
     let right_sets = loaded.right_sets;
-    let left = Sets {
-        ends: &left_ends[..left_sets],
-        items: &left_items[..loaded.left_entries],
-    };
-    let right = Sets {
-        ends: &right_ends[..right_sets],
-        items: &right_items[..loaded.right_entries],
+    let input = Input {
+        t: items as u32,
+        left: Sets {
+            ends: &left.sets.ends[..left_sets],
+            items: &left.sets.items[..loaded.left_entries],
+        },
+        right: Sets {
+            ends: &right.sets.ends[..right_sets],
+            items: &right.sets.items[..loaded.right_entries],
+        },
     };
     list_loaded(
         repeats,
-        &Input {
-            t: items as u32,
-            left,
-            right,
-        },
-        &left_numbers[..left_sets],
-        &right_numbers[..right_sets],
+        &input,
+        &left.numbers[..left_sets],
+        &right.numbers[..right_sets],
         &mut ranks[..items],
         text,
     )
@@ -99,18 +94,25 @@ fn list_short(file: &[u8], text: &mut [u8]) -> usize
         &mut right_items,
     );
     match answer {
-        Ok((loaded, repeats)) => list_counted(
-            loaded,
-            repeats,
-            &left_numbers,
-            &left_ends,
-            &left_items,
-            &right_numbers,
-            &right_ends,
-            &right_items,
-            &mut ranks,
-            text,
-        ),
+        Ok((loaded, repeats)) => {
+            let left_sets = Sets {
+                ends: &left_ends,
+                items: &left_items,
+            };
+            let left = NumberedSets {
+                numbers: &left_numbers,
+                sets: left_sets,
+            };
+            let right_sets = Sets {
+                ends: &right_ends,
+                items: &right_items,
+            };
+            let right = NumberedSets {
+                numbers: &right_numbers,
+                sets: right_sets,
+            };
+            list_counted(loaded, repeats, &left, &right, &mut ranks, text)
+        }
         Err(why) => put_refusal(text, why),
     }
 }

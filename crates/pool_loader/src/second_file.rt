@@ -14,7 +14,7 @@ use tag_file::{Loaded, Repeats};
 use tag_index::tag_items::rank_ids;
 use tag_index::{INDEX_ROOM, TagIndex};
 use tag_loader::fill::fill_side;
-use tag_loader::lent_lists::{LoadRoom, clear_lists};
+use tag_loader::lent_lists::{LoadRoom, SideRoom, clear_lists};
 use tag_loader::tag_table::fill_tags;
 
 // The answer: the first file's, or after the pass over the second that of both, by the lengths of the lists. It leaves the slots of
@@ -120,12 +120,16 @@ pub fn pool_second(
     let mut slots = [0u32; MAX_SETS];
     let room = LoadRoom {
         tags: tags.len(),
-        left_numbers: left_numbers.len(),
-        left_ends: left_ends.len(),
-        left_items: left_items.len(),
-        right_numbers: right_numbers.len(),
-        right_ends: right_ends.len(),
-        right_items: right_items.len(),
+        left: SideRoom {
+            numbers: left_numbers.len(),
+            ends: left_ends.len(),
+            items: left_items.len(),
+        },
+        right: SideRoom {
+            numbers: right_numbers.len(),
+            ends: right_ends.len(),
+            items: right_items.len(),
+        },
     };
     let judged = judge(
         answer,

@@ -254,9 +254,9 @@ module _ {first second noted used : List ℕ} {index : TagIndex} {slots : List �
           second_refused (NumberUsed (place_after base at)) (here ∙ rw (right, sym tells ∙ t, ← p.place)) size answer
 
       module _ (free : member noted n ≡ false) (u : United) {now-index : TagIndex} {now-slots : List ℕ}
-          (one : OneTaken (pooled A (p.seen ++ (this ∷ []))) (united_by counted.total u u.met) now-index)
+          (one : OneTaken (pooled A (p.seen ++ (this ∷ []))) (united_by counted.total u u.first) now-index)
           (size : length now-slots ≡ max_sets) where
-        pub passing_past : {r : Second} → over_of (united_by counted.total u u.met) ≡ true
+        pub passing_past : {r : Second} → over_of (united_by counted.total u u.first) ≡ true
             → r.answer ≡ Err (TooMany (place_after base at))
             → SecondScanned first second now-index used now-slots r
         unfolding second_fault_of
@@ -264,7 +264,7 @@ module _ {first second noted used : List ℕ} {index : TagIndex} {slots : List �
             second_refused (TooMany (place_after base at))
             (here ∙ rw (right, sym tells ∙ free, sym one.over ∙ t, ← p.place)) size answer
 
-        pub passing_next : {now-noted own : List ℕ} → over_of (united_by counted.total u u.met) ≡ false
+        pub passing_next : {now-noted own : List ℕ} → over_of (united_by counted.total u u.first) ≡ false
             → Inserted noted n now-noted → u.second ≡ length (collapse (tags_at c second q))
             → AtSlots (slot_word (p.seen ++ (this ∷ []))) A used now-slots
             → all_tags (keep (same_set this) A) ≡ own → u.all ≡ length (collapse (own ++ tags_at c second q))

@@ -1,6 +1,7 @@
 -- A right set of the second file in the pass: what it asks for before its tags are taken in, and what holds of the pooled records, the
 -- slots and its length once they are. It is one that the first file has, or one that it has not.
-use Rattle.std.proofs.Common.{◌≡◌, ℕ, ◌+◌, ◌<◌, ◌≤◌, Bool, true, false, eqb, List, [], ◌∷◌, ◌++◌, length, get_or, set, sym, refl, ap, ◌∙◌, subst, arith, length-set, eq-eqb, eqb-true}
+use Rattle.std.specs.Prelude.{Option, Some, None, is_some, unwrap_or}
+use Rattle.std.proofs.Common.{◌≡◌, ℕ, ◌+◌, ◌<◌, ◌≤◌, true, false, eqb, List, [], ◌∷◌, ◌++◌, length, get_or, set, sym, refl, ap, ◌∙◌, subst, arith, length-set, eq-eqb, eqb-true}
 use Rattle.lists.specs.Lists.{keep, any, memb}
 use Rattle.lists.proofs.Bools.{by_test, and_right, and_both, or_left_false, or_right_false, refuted}
 use Rattle.lists.proofs.Throughout.{any_append}
@@ -35,10 +36,19 @@ use Rattle.pool_scan.proofs.Passing.{Passing, this}
 use Rattle.pool_scan.proofs.Words.{word_apart, word_met, own_none, own_one, noted_tells}
 use Rattle.tag_index.specs.declared.TagIndex.{TagIndex}
 
+-- an option without a value, and one with a value
+no_value : (o : Option ℕ) → is_some o ≡ false → o ≡ None
+no_value None e = refl
+no_value (Some x) e = cc
+
+its_value : (o : Option ℕ) → is_some o ≡ true → o ≡ Some (unwrap_or o 0)
+its_value None e = cc
+its_value (Some x) e = refl
+
 -- what holds once the tags of a record are taken in
 pub record Stepped (first : List ℕ) (seen : List TagRecord) (s : TagRecord) (used : List ℕ) (total : Loaded) (u : United)
     (now-index : TagIndex) (now-slots : List ℕ) : Type 0 where
-  pub one : OneTaken (pooled (records first) (seen ++ (s ∷ []))) (united_by total u u.met) now-index
+  pub one : OneTaken (pooled (records first) (seen ++ (s ∷ []))) (united_by total u u.first) now-index
   pub size : length now-slots ≡ max_sets
   pub words : AtSlots (slot_word (seen ++ (s ∷ []))) (records first) used now-slots
   pub own : List ℕ
@@ -138,10 +148,13 @@ module _ {first second used counts : List ℕ} {index₀ : TagIndex} {slots₀ :
 
   module _ {u : United} {now-index : TagIndex} {now-slots : List ℕ}
       (t : Taking first second n q c total.tag_count index used slots u now-index now-slots) where
-    counts_as : (b : Bool) → member used n ≡ b → united_by total u u.met ≡ united_by total u b
-    counts_as b is = ap (united_by total u) (t.told ∙ is)
+    counts_alone : member used n ≡ false → united_by total u u.first ≡ united_by total u None
+    counts_alone out = ap (united_by total u) (no_value u.first (t.told ∙ out))
 
-    pub step_bounds : (u.first ≤ u.all) × (u.all ≤ max_set_length + max_set_length)
+    counts_met : member used n ≡ true → united_by total u u.first ≡ united_by total u (Some (unwrap_or u.first 0))
+    counts_met met = ap (united_by total u) (its_value u.first (t.told ∙ met))
+
+    pub step_bounds : (unwrap_or u.first 0 ≤ u.all) × (u.all ≤ max_set_length + max_set_length)
     step_bounds =
         by_test (member used n)
         (λ met. let i = t.met met (found met).count (found met).place (there met) in (i.less, i.few))
@@ -153,7 +166,7 @@ module _ {first second used counts : List ℕ} {index₀ : TagIndex} {slots₀ :
     step_alone out =
         let unused : number_used A s ≡ false = missed_right ready.slotted.noted n small out s right refl in
         record {
-          one = subst (λ (l : Loaded). OneTaken (pooled A (p.seen ++ (s ∷ []))) l now-index) (sym (counts_as false out))
+          one = subst (λ (l : Loaded). OneTaken (pooled A (p.seen ++ (s ∷ []))) l now-index) (sym (counts_alone out))
               (alone_taken p.taken s (sym (same_side_lem Right side right)) (t.alone out) (pooled_new A p.seen s right unused));
           size = ap length (t.kept out) ∙ p.size;
           words = λ b w a split side-w.
@@ -178,7 +191,7 @@ module _ {first second used counts : List ℕ} {index₀ : TagIndex} {slots₀ :
         let i = subst (λ (l : List ℕ). TakenIn l (tags_at c second q) index total.tag_count u now-index)
         (sym (found met).tags) (t.met met (found met).count (found met).place (there met)) in
         record {
-          one = subst (λ (l : Loaded). OneTaken (pooled A (p.seen ++ (s ∷ []))) l now-index) (sym (counts_as true met))
+          one = subst (λ (l : Loaded). OneTaken (pooled A (p.seen ++ (s ∷ []))) l now-index) (sym (counts_met met))
               (met_taken p.taken w.this (sym (same_side_lem Right w.this.side w.right)) (tags_at c second q) i (grew met));
           size = ap length (t.noted met) ∙ length-set slots (number_slot used n) (pooled_mark + u.all) ∙ p.size;
           words = subst (λ (l : List ℕ). AtSlots (slot_word (p.seen ++ (s ∷ []))) A used l) (sym (written met w))

@@ -1,6 +1,6 @@
 // What the pass over the second of two pooled files counts: the sets, entries and tags of both files, their repeats, and the first set
 // that is too long as a union. A set of both files is counted once; its repeats by the second file's record alone.
-ghost use Rattle.std.specs.Prelude.{◌≡◌, ◌+◌, ◌≤◌, nat_lt, Err};
+ghost use Rattle.std.specs.Prelude.{◌≡◌, ◌+◌, ◌≤◌, nat_lt, unwrap_or, Err};
 ghost use Rattle.sets.specs.Limits.{max_set_length};
 ghost use Rattle.sets.specs.Refusals.{refuse_if, unless};
 ghost use Rattle.sets.specs.declared.Refusal.TheVariants.{Overlong};
@@ -40,25 +40,24 @@ pub fn count_from(before: Loaded, found: Repeats) -> Counted
 // The counts with one more right set of the second file.
 fn grown_by(total: Loaded, united: United) -> Loaded
     requires limited { Limited total }
-    requires first_le_all { (united.first ≤ united.all) × (united.all ≤ max_set_length + max_set_length) }
-    ensures { result ≡ united_by total united united.met }
+    requires first_le_all { (unwrap_or united.first 0 ≤ united.all) × (united.all ≤ max_set_length + max_set_length) }
+    ensures { result ≡ united_by total united united.first }
 {
-    if united.met {
-        Loaded {
+    match united.first {
+        Some(first) => Loaded {
             left_sets: total.left_sets,
             right_sets: total.right_sets,
             left_entries: total.left_entries,
-            right_entries: total.right_entries + (united.all - united.first),
+            right_entries: total.right_entries + (united.all - first),
             tag_count: united.tag_count,
-        }
-    } else {
-        Loaded {
+        },
+        None => Loaded {
             left_sets: total.left_sets,
             right_sets: total.right_sets + 1,
             left_entries: total.left_entries,
             right_entries: total.right_entries + united.all,
             tag_count: united.tag_count,
-        }
+        },
     }
 }
 

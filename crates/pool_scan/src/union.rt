@@ -15,14 +15,13 @@ use tag_index::own_tags::add_beside;
 use tag_index::tag_adding::{Added, SEEN_WORDS, add_tags};
 
 // The tags of a set of the second file: how many the index has with them, how many distinct ones the first file's set of its number had,
-// how many the second's record has, how many both have together, and whether there is one.
+// if there is one, how many the second's record has, and how many both have together.
 #[derive(Clone, Copy)]
 pub struct United {
     pub tag_count: usize,
-    pub first: usize,
+    pub first: Option<usize>,
     pub second: usize,
     pub all: usize,
-    pub met: bool,
 }
 
 // Adds the tags of the record at a place of the first file, the first of a set.
@@ -65,10 +64,9 @@ fn add_alone(second: &[u8], start: usize, count: usize, index: &mut TagIndex, n:
     let added = add_tags(second, index, &mut seen, start, count, sum);
     United {
         tag_count: added.tag_count,
-        first: 0,
+        first: None,
         second: added.distinct,
         all: added.distinct,
-        met: false,
     }
 }
 
@@ -92,10 +90,9 @@ fn add_both(
     let both = add_beside(second, index, &mut seen, start, count, before);
     United {
         tag_count: both.tag_count,
-        first: before.distinct,
+        first: Some(before.distinct),
         second: both.own,
         all: both.distinct,
-        met: true,
     }
 }
 

@@ -20,12 +20,12 @@ use Rattle.tag_file.proofs.ItemCount.{length-tag_bytes, length-numbers_of, lengt
 use Rattle.tag_file.proofs.AnswerLaws.{RoomForEach, room_each}
 use Rattle.tag_index.specs.Index.{table_of, Sorted, Ranked}
 use Rattle.tag_loader.specs.fill.Fill.{FillReady}
-use Rattle.tag_loader.specs.lent_lists.LentLists.{side_fits, room_in, has_room}
+use Rattle.tag_loader.specs.lent_lists.LentLists.{side_fits, side_room, room_in, has_room}
 use Rattle.tag_loader.specs.Passes.{Fillable}
 use Rattle.tag_index.specs.declared.TagIndex.{TagIndex}
 
 side_fits_lem : (side : Side) (rs : List TagRecord) (numbers ends items : List ℕ)
-    → side_fits (length (of_side side rs)) (entries_of side rs) (length numbers) (length ends) (length items)
+    → side_fits (length (of_side side rs)) (entries_of side rs) (side_room numbers ends items)
     ≡ (fits (numbers_of side rs) numbers && (fits (ends_of side rs) ends && fits (flat_items side rs) items))
 side_fits_lem side rs numbers ends items = rw (length-numbers_of side rs, length-ends_of side rs, length-flat_items side rs)
 

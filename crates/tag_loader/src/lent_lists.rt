@@ -6,11 +6,19 @@ ghost use Rattle.tag_loader.specs.lent_lists.LentLists.{side_fits, SideCleared, 
 
 use tag_file::{Loaded, TAG_LENGTH};
 
+// The lengths of the lists of a side.
+#[derive(Clone, Copy)]
+pub struct SideRoom {
+    pub numbers: usize,
+    pub ends: usize,
+    pub items: usize,
+}
+
 // Whether lists of these lengths hold the numbers, ends and items of a side.
-fn side_fits(sets: usize, entries: usize, numbers: usize, ends: usize, items: usize) -> bool
-    ensures { result ≡ side_fits sets entries numbers ends items }
+fn side_fits(sets: usize, entries: usize, room: SideRoom) -> bool
+    ensures { result ≡ side_fits sets entries room }
 {
-    sets <= numbers && (sets <= ends && entries <= items)
+    sets <= room.numbers && (sets <= room.ends && entries <= room.items)
 }
 
 // Fills the lists of a side with zeros.
@@ -46,12 +54,8 @@ pub fn clear_lists(
 #[derive(Clone, Copy)]
 pub struct LoadRoom {
     pub tags: usize,
-    pub left_numbers: usize,
-    pub left_ends: usize,
-    pub left_items: usize,
-    pub right_numbers: usize,
-    pub right_ends: usize,
-    pub right_items: usize,
+    pub left: SideRoom,
+    pub right: SideRoom,
 }
 
 // Whether lists of these lengths hold what was counted.
@@ -62,21 +66,9 @@ pub fn has_room(total: Loaded, room: LoadRoom) -> bool
     if room.tags < TAG_LENGTH * total.tag_count {
         return false;
     }
-    let left = side_fits(
-        total.left_sets,
-        total.left_entries,
-        room.left_numbers,
-        room.left_ends,
-        room.left_items,
-    );
+    let left = side_fits(total.left_sets, total.left_entries, room.left);
     if !left {
         return false;
     }
-    side_fits(
-        total.right_sets,
-        total.right_entries,
-        room.right_numbers,
-        room.right_ends,
-        room.right_items,
-    )
+    side_fits(total.right_sets, total.right_entries, room.right)
 }

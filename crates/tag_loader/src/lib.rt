@@ -8,7 +8,7 @@ ghost use Rattle.tag_file.specs.Loading.{lent_lists, returned_lists, lists_now, 
 ghost use Rattle.tag_loader.specs.Passes.{AllFilled, Fillable};
 
 use crate::fill::fill_side;
-use crate::lent_lists::{LoadRoom, clear_lists, has_room};
+use crate::lent_lists::{LoadRoom, SideRoom, clear_lists, has_room};
 use crate::tag_table::fill_tags;
 use sets::{Refusal, Side};
 use tag_file::{Loaded, Repeats};
@@ -97,12 +97,16 @@ pub fn load(
     };
     let room = LoadRoom {
         tags: tags.len(),
-        left_numbers: left_numbers.len(),
-        left_ends: left_ends.len(),
-        left_items: left_items.len(),
-        right_numbers: right_numbers.len(),
-        right_ends: right_ends.len(),
-        right_items: right_items.len(),
+        left: SideRoom {
+            numbers: left_numbers.len(),
+            ends: left_ends.len(),
+            items: left_items.len(),
+        },
+        right: SideRoom {
+            numbers: right_numbers.len(),
+            ends: right_ends.len(),
+            items: right_items.len(),
+        },
     };
     if !has_room(total, room) {
         clear_lists(

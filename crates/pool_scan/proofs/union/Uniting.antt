@@ -1,4 +1,5 @@
 -- The tags of one set taken in, from a record of the first file and then from one of the second: what the index and the counts have then.
+use Rattle.std.specs.Prelude.{unwrap_or}
 use Rattle.std.proofs.Common.{◌≡◌, ℕ, ◌+◌, ◌≤◌, true, List, [], ◌∷◌, ◌++◌, length, replicate, sym, ap, ◌∙◌, subst, ap₂, arith}
 use Rattle.lists.specs.Lists.{memb, rising}
 use Rattle.lists.proofs.Bools.{by_test}
@@ -58,7 +59,7 @@ module _ {index : TagIndex} {n : ℕ} (i : IndexReady index n) where
     added_few =
         omega (arith, a.adding.counted, length-insert_all_bound [] (tags_at count file start), length-tags_at count file start)
 
-    pub taken_alone : {u : United} → u.tag_count ≡ tagCount → u.first ≡ 0 → u.second ≡ distinct → u.all ≡ distinct
+    pub taken_alone : {u : United} → u.tag_count ≡ tagCount → unwrap_or u.first 0 ≡ 0 → u.second ≡ distinct → u.all ≡ distinct
         → TakenIn [] (tags_at count file start) index n u now-index
     unfolding insert_all
     taken_alone {u} is none new all =
@@ -104,8 +105,8 @@ module _ {index : TagIndex} {n : ℕ} (i : IndexReady index n) where
               added_few,
             )
 
-        pub taken_both : {u : United} → u.tag_count ≡ tagCount₂ → u.first ≡ distinct → u.second ≡ length (collapse (tags_at count₂ second start₂))
-            → u.all ≡ distinct₂
+        pub taken_both : {u : United} → u.tag_count ≡ tagCount₂ → unwrap_or u.first 0 ≡ distinct
+            → u.second ≡ length (collapse (tags_at count₂ second start₂)) → u.all ≡ distinct₂
             → TakenIn (tags_at count file start) (tags_at count₂ second start₂) index n u late-index
         taken_both {u} is own new all =
             record {

@@ -1,5 +1,5 @@
 -- Inner: the tags of one right set of the second of two pooled files, taken in as a union: what is asked and promised.
-use Rattle.std.specs.Prelude.{◌≡◌, ℕ, ◌+◌, ◌<◌, ◌≤◌, true, false, List, [], ◌++◌, length, slice_index, slice_set}
+use Rattle.std.specs.Prelude.{◌≡◌, ℕ, ◌+◌, ◌<◌, ◌≤◌, true, false, List, [], ◌++◌, length, is_some, unwrap_or, slice_index, slice_set}
 use Rattle.lists.specs.Lists.{memb}
 use Rattle.bit_sets.specs.BitSets.{member}
 use Rattle.sets.specs.Limits.{max_items, max_sets, max_set_length, half_words}
@@ -48,35 +48,35 @@ pub record UniteReady (first second : List ℕ) (number start count n : ℕ) (in
   pub slot : member used number ≡ true → number_slot used number < max_sets
   pub there : member used number ≡ true → KnownRecordAt first (slice_index slots (number_slot used number)) (table_of index n)
 
--- the tags of a set were taken in: new ones that are `tags`, behind those `own` of the first file
+-- the tags of a set were taken in: the `new` ones, behind those `own` of the first file, none where it has no such set
 pub record TakenIn (own new : List ℕ) (index : TagIndex) (n : ℕ) (r : United)
     (now-index : TagIndex) : Type 0 where
   pub sorted : Sorted now-index r.tag_count
   pub table : table_of now-index r.tag_count ≡ insert_all (table_of index n) new
-  pub own_counted : r.first ≡ length (collapse own)
+  pub own_counted : unwrap_or r.first 0 ≡ length (collapse own)
   pub new_counted : r.second ≡ length (collapse new)
   pub all_counted : r.all ≡ length (collapse (own ++ new))
-  pub less : r.first ≤ r.all
+  pub less : unwrap_or r.first 0 ≤ r.all
   pub few : r.all ≤ max_set_length + max_set_length
 
 -- by themselves
 pub record AddedAlone (new : List ℕ) (index : TagIndex) (n : ℕ) (r : United) (now-index : TagIndex)
     : Type 0 where
   pub taken : TakenIn [] new index n r now-index
-  pub told : r.met ≡ false
+  pub told : is_some r.first ≡ false
 
 -- behind those of the record at a place of the first file
 pub record AddedBoth (first : List ℕ) (at : ℕ) (new : List ℕ) (index : TagIndex) (n : ℕ) (r : United)
     (now-index : TagIndex) : Type 0 where
   pub taken : (count start : ℕ) → WholeRecordAt first at count start
       → TakenIn (tags_at count first start) new index n r now-index
-  pub told : r.met ≡ true
+  pub told : is_some r.first ≡ true
   pub few : r.all ≤ max_set_length + max_set_length
 
 -- those of a record of the second file: pooled with the record of its slot, or alone
 pub record Taking (first second : List ℕ) (number start count n : ℕ) (index : TagIndex) (used slots : List ℕ) (r : United)
     (now-index : TagIndex) (now-slots : List ℕ) : Type 0 where
-  pub told : r.met ≡ member used number
+  pub told : is_some r.first ≡ member used number
   pub alone : member used number ≡ false
       → TakenIn [] (tags_at count second start) index n r now-index
   pub kept : member used number ≡ false → now-slots ≡ slots

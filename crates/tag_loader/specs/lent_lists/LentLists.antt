@@ -4,30 +4,30 @@ use Rattle.tag_file.specs.declared.Loaded.{Loaded}
 use Rattle.tag_file.specs.Format.{tag_length}
 use Rattle.tag_file.specs.Loading.{Lists}
 use Rattle.tag_loader.specs.declared.lent_lists.LoadRoom.{LoadRoom}
+use Rattle.tag_loader.specs.declared.lent_lists.SideRoom.{SideRoom}
 
 -- whether lists of these lengths hold the numbers, ends and items of a side
-abbrev pub side_fits : ℕ → ℕ → ℕ → ℕ → ℕ → Bool
-side_fits sets entries numbers ends items = leb sets numbers && (leb sets ends && leb entries items)
+abbrev pub side_fits : ℕ → ℕ → SideRoom → Bool
+side_fits sets entries room = leb sets room.numbers && (leb sets room.ends && leb entries room.items)
+
+-- the lengths of the lists of a side
+abbrev pub side_room : List ℕ → List ℕ → List ℕ → SideRoom
+side_room numbers ends items = record { numbers = length numbers; ends = length ends; items = length items }
 
 -- the lengths of lists
 abbrev pub room_in : Lists → LoadRoom
 room_in lent =
     record {
       tags = length lent.tags;
-      left_numbers = length lent.left_numbers;
-      left_ends = length lent.left_ends;
-      left_items = length lent.left_items;
-      right_numbers = length lent.right_numbers;
-      right_ends = length lent.right_ends;
-      right_items = length lent.right_items;
+      left = side_room lent.left_numbers lent.left_ends lent.left_items;
+      right = side_room lent.right_numbers lent.right_ends lent.right_items;
     }
 
 -- whether lists of these lengths hold what was counted
 abbrev pub has_room : Loaded → LoadRoom → Bool
 has_room t room =
     leb (tag_length * t.tag_count) room.tags
-    && (side_fits t.left_sets t.left_entries room.left_numbers room.left_ends room.left_items
-    && side_fits t.right_sets t.right_entries room.right_numbers room.right_ends room.right_items)
+    && (side_fits t.left_sets t.left_entries room.left && side_fits t.right_sets t.right_entries room.right)
 
 -- the lists of a side are all zeros
 pub record SideCleared (numbers ends items now-numbers now-ends now-items : List ℕ) : Type 0 where

@@ -2,17 +2,17 @@
 use borrow.Author.Tests.{le-leb, lt-leb}
 use Rattle.tag_loader.proofs.lent_lists.side_fits.Goals as goal
 
-pub returns-then-sets-ends : goal.returns-then-sets-ends
-returns-then-sets-ends c =
+pub returns-then-sets-room-2 : goal.returns-then-sets-room-2
+returns-then-sets-room-2 c =
     let a = c.args in
-    rw (le-leb a.sets a.numbers c.if-sets-numbers.true, le-leb a.sets a.ends c.if-sets-ends.true)
+    rw (le-leb a.sets a.room.numbers c.if-sets-room.true, le-leb a.sets a.room.ends c.if-sets-room-2.true)
 
-pub returns-else-sets-ends : goal.returns-else-sets-ends
-returns-else-sets-ends c =
+pub returns-else-sets-room-2 : goal.returns-else-sets-room-2
+returns-else-sets-room-2 c =
     let a = c.args in
-    rw (le-leb a.sets a.numbers c.if-sets-numbers.true, lt-leb a.sets a.ends c.if-sets-ends.false)
+    rw (le-leb a.sets a.room.numbers c.if-sets-room.true, lt-leb a.sets a.room.ends c.if-sets-room-2.false)
 
-pub returns-else-sets-numbers : goal.returns-else-sets-numbers
-returns-else-sets-numbers c =
+pub returns-else-sets-room : goal.returns-else-sets-room
+returns-else-sets-room c =
     let a = c.args in
-    rw (lt-leb a.sets a.numbers c.if-sets-numbers.false)
+    rw (lt-leb a.sets a.room.numbers c.if-sets-room.false)
