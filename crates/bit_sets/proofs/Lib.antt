@@ -7,7 +7,7 @@ pub mod Members
 pub mod Draining
 -- how many members a word has, and a range of numbers
 pub mod Counted
--- a part of a list: all of it put in, and whether all of it are members
+-- a list: all of it put in, and whether all of it are members
 pub mod Parts
 -- the lowest digit 1 taken away, digits that two words share
 pub mod Lowest

@@ -30,11 +30,9 @@ pub record Claimed (was : List ℕ) (i : ℕ) (r : Bool) (is : List ℕ) : Type 
   pub before : r ≡ member was i
   pub noted : Inserted was i is
 
--- a part of a list whose numbers can be members
-pub record PartFits (words xs : List ℕ) (from to : ℕ) : Type 0 where
-  pub order : from ≤ to
-  pub within : to ≤ length xs
-  pub small : (k : ℕ) → from ≤ k → k < to → get_or xs k 0 < 64 * length words
+-- a list whose numbers can be members
+pub record PartFits (words xs : List ℕ) : Type 0 where
+  pub small : (k : ℕ) → k < length xs → get_or xs k 0 < 64 * length words
 
 -- numbers became members, and nothing else changed
 pub record InsertedAll (was new is : List ℕ) : Type 0 where

@@ -4,37 +4,25 @@ use Prim.Native.Nat.{ℕ, ◌+◌, ◌*◌, ◌<◌, ◌≤◌}
 use mathlib.Core.Path.{◌≡◌, refl, sym, ap, ap₂, ◌∙◌}
 use mathlib.Core.List.{List, [], ◌∷◌}
 use mathlib.Core.Bool.{Bool, true, false, cond, ◌&&◌, ◌||◌, or-false}
-use native.Mathlib.Nat.{sub-zero}
 use native.Mathlib.Numerals.{add-one}
 use native.Mathlib.Omega.{arith}
 use borrow.Author.Tests.{ltb-true, lt-ltb}
 use lib.Dec.{ltb, leb}
 use lib.ListN.{length, get_or, drop, drop_of_length-le, replicate}
-use lib.Seq.{drop-cons, take-length}
+use lib.Seq.{drop-cons}
 use Rattle.std.specs.Prelude.{None, Some}
-use Rattle.lists.specs.Lists.{all, memb, rising, slice}
+use Rattle.lists.specs.Lists.{all, memb, rising}
 use Rattle.lists.proofs.Bools.{and_left, and_right}
-use Rattle.lists.proofs.Slices.{slice_from, slice_past, length-slice}
 use Rattle.lists.proofs.Throughout.{all_at}
 use Rattle.bit_sets.specs.BitSets.{member, PartFits, InsertedAll}
 use Rattle.bit_sets.proofs.Members.{no_member}
 use Rattle.sets.specs.Limits.{max_set_length}
 use Rattle.sets.specs.Collections.{Collection, between, sets_from, good_items, first_bad_from, first_bad_in, contained}
-use Rattle.sets.proofs.Good.{good_step, good_next, set_item}
+use Rattle.sets.proofs.Good.{GoodSet, good_step, good_next}
 use Rattle.sets.proofs.Containment.{contained_none, contained-subset}
 use Rattle.first_search_spec.specs.First.{found_at, none_of, first_from, first_contained}
 use Rattle.first_search_spec.proofs.FirstLaws.{first_agree}
 use Rattle.first_search.specs.Searching.{CanSearch, is_marked, first_marked}
-
--- the left set from start to end: where it has items they decide, and where it is empty it is not marked
-module _ (marks items : List ℕ) {start end : ℕ} where
-  pub marked-some : end ≤ length items → start < end
-      → all (member marks) (slice start end items) ≡ is_marked marks (slice start end items)
-  marked-some within some =
-      rw (lt-ltb 0 (length (slice start end items)) (omega (arith, length-slice start end items within)))
-
-  pub marked_none : end ≤ start → false ≡ is_marked marks (slice start end items)
-  marked_none none = rw (slice_past start end items none)
 
 -- the walk over the sets of a collection, by the ends that are left
 module _ (test : List ℕ → Bool) (ends items : List ℕ) (k start : ℕ) where
@@ -69,52 +57,46 @@ module _ {left : Collection} {marks : List ℕ} {k start : ℕ} (s : Searching l
 
   module _ (more : k < length left.ends) where
     -- the set at k can be probed
-    pub searching_part : CanSearch left marks → PartFits marks left.items start (get_or left.ends k 0)
-    searching_part can =
-        let set = good_step can.T left.ends left.items k start more (s.good can.T can.good) in
-        record {
-          order = set.ordered;
-          within = set.within;
-          small = λ e low high. omega (arith, set_item can.T start (get_or left.ends k 0) left.items k set e low high, can.wide);
-        }
+    module _ (can : CanSearch left marks) where
+      pub searching_set : GoodSet can.T k start (get_or left.ends k 0) left.items
+      searching_set = good_step can.T left.ends left.items k start more (s.good can.T can.good)
 
-    probed : is_marked marks (slice start (get_or left.ends k 0) left.items)
-        ≡ is_marked marks (between start (get_or left.ends k 0) left.items)
-    probed = ap (is_marked marks) (slice_from start (get_or left.ends k 0) left.items)
+      pub searching_part : PartFits marks (between start (get_or left.ends k 0) left.items)
+      searching_part =
+          record {
+            small = λ e below.
+                let one = all_at (λ i. ltb i can.T) 0 (between start (get_or left.ends k 0) left.items) searching_set.below e below in
+                omega (arith, ltb-true (get_or (between start (get_or left.ends k 0) left.items) e 0) can.T one, can.wide);
+          }
 
-    pub searching_stop : true ≡ is_marked marks (slice start (get_or left.ends k 0) left.items)
+    pub searching_stop : true ≡ is_marked marks (between start (get_or left.ends k 0) left.items)
         → record { place = Some k; compared = k + 1 } ≡ first_marked left marks
     searching_stop All-there =
         rw (add-one k)
-        (sym (first_set-stop (is_marked marks) left.ends left.items k start more (sym probed ∙ sym All-there)) ∙ s.same)
+        (sym (first_set-stop (is_marked marks) left.ends left.items k start more (sym All-there)) ∙ s.same)
 
-    pub searching_next : false ≡ is_marked marks (slice start (get_or left.ends k 0) left.items)
+    pub searching_next : false ≡ is_marked marks (between start (get_or left.ends k 0) left.items)
         → Searching left marks (k + 1) (get_or left.ends k 0)
     searching_next one_out =
         record {
-          same = sym (first_set_next (is_marked marks) left.ends left.items k start more (sym probed ∙ sym one_out)) ∙ s.same;
+          same = sym (first_set_next (is_marked marks) left.ends left.items k start more (sym one_out)) ∙ s.same;
           good = λ T e. good_next T left.ends left.items k start more (s.good T e);
         }
 
 -- the items of a good right set can be marked
-pub right_fits : (T : ℕ) (right marks : List ℕ) → T ≤ 64 * length marks → good_items T right ≡ true → PartFits marks right 0 (length right)
+pub right_fits : (T : ℕ) (right marks : List ℕ) → T ≤ 64 * length marks → good_items T right ≡ true → PartFits marks right
 right_fits T right marks wide good =
     let rest = and_right (leb (length right) max_set_length) (all (λ i. ltb i T) right && rising right) good in
     let below = and_left (all (λ i. ltb i T) right) (rising right) rest in
-    record {
-      order = omega arith;
-      within = omega arith;
-      small = λ k low high. omega (arith, ltb-true (get_or right k 0) T (all_at (λ (i : ℕ). ltb i T) 0 right below k high));
-    }
+    record { small = λ k inside. omega (arith, ltb-true (get_or right k 0) T (all_at (λ (i : ℕ). ltb i T) 0 right below k inside)) }
 
 -- where the items of a right set were marked, and no others, the first that is marked is the first that it contains
 module _ (words : ℕ) (right : List ℕ) {marks : List ℕ}
-    (done : InsertedAll (replicate words 0) (slice 0 (length right) right) marks) where
+    (done : InsertedAll (replicate words 0) right marks) where
   marked_item : (x : ℕ) → member marks x ≡ memb x right
   marked_item x =
       done.holds x
-      ∙ ap₂ (λ (a b : Bool). a || b)
-      (ap (memb x) (slice_from 0 (length right) right ∙ rw (sub-zero (length right)) (take-length right))) (no_member words x)
+      ∙ ap (λ (b : Bool). memb x right || b) (no_member words x)
       ∙ or-false (memb x right)
 
   marked-set : (left : List ℕ) → is_marked marks left ≡ contained left right

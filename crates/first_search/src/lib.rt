@@ -11,7 +11,6 @@ use sets::{MAX_ITEMS, Refusal, Sets, Side};
 const ITEM_WORDS: usize = (MAX_ITEMS as usize) / 64;
 
 ghost use Rattle.std.specs.Prelude.{◌≡◌};
-ghost use Rattle.lists.specs.Lists.{slice};
 ghost use Rattle.bit_sets.specs.BitSets.{PartFits};
 ghost use Rattle.sets.specs.Collections.{lent_sets};
 ghost use Rattle.first_search_spec.specs.First.{first_test, first_answer};
@@ -26,12 +25,12 @@ fn test_first(t: u32, left: &Sets, right: &[u16]) -> Result<(), Refusal>
     test_lone(t, 0, right)
 }
 
-// Whether the left set from one end up to the next has items and all of them are marked.
-fn is_marked(marks: &[u64], items: &[u16], start: usize, end: usize) -> bool
-    requires { PartFits marks.now items.now start end }
-    ensures { result ≡ is_marked marks.now (slice start end items.now) }
+// Whether a left set has items and all of them are marked.
+fn is_marked(marks: &[u64], set: &[u16]) -> bool
+    requires { PartFits marks.now set.now }
+    ensures { result ≡ is_marked marks.now set.now }
 {
-    start < end && contains_part(marks, items, start, end)
+    !set.is_empty() && contains_part(marks, set)
 }
 
 // The first left set that has items and all of them marked.
@@ -43,7 +42,7 @@ fn search(left: &Sets, marks: &[u64]) -> Search
     let mut start: usize = 0;
     for (k, left_end) in left.ends.iter().enumerate() {
         let end = *left_end as usize;
-        if is_marked(marks, items, start, end) {
+        if is_marked(marks, &items[start..end]) {
             return Search {
                 place: Some(k),
                 compared: k + 1,
@@ -63,6 +62,6 @@ pub fn find_first(t: u32, left: &Sets, right: &[u16]) -> Result<Search, Refusal>
 {
     test_first(t, left, right)?;
     let mut marks = [0u64; ITEM_WORDS];
-    insert_part(&mut marks, right, 0, right.len());
+    insert_part(&mut marks, right);
     Ok(search(left, &marks))
 }

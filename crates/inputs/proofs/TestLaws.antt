@@ -1,17 +1,14 @@
 -- The tests one after the other: what each shows of an input, and what an input has that passed them.
 use Prim.Native.Nat.{ℕ, ◌≤◌, ◌<◌}
-use mathlib.Core.Path.{◌≡◌, refl, sym, ap, ◌∙◌}
+use mathlib.Core.Path.{◌≡◌, refl, sym, ap}
 use mathlib.Core.List.{List}
 use mathlib.Core.Bool.{Bool, true, false, not}
-use native.Mathlib.Nat.{sub-zero}
 use native.Mathlib.Omega.{arith}
 use borrow.Author.Tests.{ltb-false, lt-ltb, le-ltb}
 use lib.Dec.{ltb}
-use lib.ListN.{length}
-use lib.Seq.{take-length}
 use Rattle.std.specs.Prelude.{Option, None, Some, Result, Err, Ok, ⊤}
 use Rattle.sets.specs.Limits.{max_items}
-use Rattle.sets.specs.Collections.{Collection, between, good_items, first_bad}
+use Rattle.sets.specs.Collections.{Collection, good_items, first_bad}
 use Rattle.sets.specs.Refusals.{refuse_if, no_bad_set, unless, clears}
 use Rattle.sets.proofs.Testing.{both_passed, refuse_passed, failed_same}
 use Rattle.sets.proofs.Good.{good_places, good_entries}
@@ -92,20 +89,14 @@ work_keep i words why = go (ltb words (words_needed i))
     go true e = ap clears (sym (failed_same ShortWork why e))
     go false e = let z : ◌≡◌ {A = ℕ} 0 1 = cc in absurd (omega arith)
 
--- a lone set is judged as the part of its list from the start to the end
-whole_part : (set : List ℕ) → between 0 (length set) set ≡ set
-whole_part set = rw (sub-zero (length set)) (take-length set)
-
-pub lone_passed : (T place : ℕ) (set : List ℕ) → true ≡ good_items T (between 0 (length set) set) → Ok tt ≡ lone_test T place set
+-- a lone set
+pub lone_passed : (T place : ℕ) (set : List ℕ) → true ≡ good_items T set → Ok tt ≡ lone_test T place set
 unfolding lone_test
-lone_passed T place set e =
-    sym (ap (λ (b : Bool). refuse_if (not b) (BadSet Right place)) (ap (good_items T) (sym (whole_part set)) ∙ sym e))
+lone_passed T place set e = ap (λ (b : Bool). refuse_if (not b) (BadSet Right place)) e
 
-pub lone_failed : (T place : ℕ) (set : List ℕ) → false ≡ good_items T (between 0 (length set) set)
-    → Err (BadSet Right place) ≡ lone_test T place set
+pub lone_failed : (T place : ℕ) (set : List ℕ) → false ≡ good_items T set → Err (BadSet Right place) ≡ lone_test T place set
 unfolding lone_test
-lone_failed T place set e =
-    sym (ap (λ (b : Bool). refuse_if (not b) (BadSet Right place)) (ap (good_items T) (sym (whole_part set)) ∙ sym e))
+lone_failed T place set e = ap (λ (b : Bool). refuse_if (not b) (BadSet Right place)) e
 
 -- the work list
 pub words_for_lem : (i : Input) → words_needed i ≡ words_for i.T i.left.ends i.right.ends

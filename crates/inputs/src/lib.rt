@@ -53,8 +53,7 @@ pub fn test_sets(input: &Input) -> Result<(), Refusal>
 pub fn test_lone(t: u32, place: usize, set: &[u16]) -> Result<(), Refusal>
     ensures { result ≡ lone_test t place set.now }
 {
-    let n = set.len();
-    if good_items(t, 0, n, set) {
+    if good_items(t, set) {
         return Ok(());
     }
     Err(Refusal::BadSet(Side::Right, place))

@@ -7,30 +7,21 @@ ghost use Rattle.join_check.specs.Checks.{RangesThere, RangesChecked};
 ghost use Rattle.join_check.specs.Counters.{checks_in};
 
 use crate::keys::{key_at, longest_range, range_end};
-use crate::{Tally, check_row};
+use crate::{Scope, Tally, check_row};
 use join_index::Layout;
 use words::word_at;
 
-// Checks the left sets in left_order[lo..hi], after their first e ranks, against each right set listed in work[from..to].
-pub fn check_range(
-    work: &[u32],
-    lay: Layout,
-    e: usize,
-    lo: usize,
-    hi: usize,
-    from: usize,
-    to: usize,
-    tally: Tally,
-) -> Tally
-    requires some_query { SomeQuery (λ q. RangesThere lay q work.now e lo hi from to) }
-    requires from_bound { checks_in tally + (hi - lo) * (to - from) < full_words }
-    ensures { RangesChecked lay work.now e lo hi from to tally result }
+// Checks the left sets of a node, after their first e ranks, against each of its candidates.
+pub fn check_range(work: &[u32], lay: Layout, node: &Scope, e: usize, tally: Tally) -> Tally
+    requires some_query { let n = node.now in SomeQuery (λ q. RangesThere lay q work.now e n.lo n.hi n.from n.to) }
+    requires from_bound { let n = node.now in checks_in tally + (n.hi - n.lo) * (n.to - n.from) < full_words }
+    ensures { let n = node.now in RangesChecked lay work.now e n.lo n.hi n.from n.to tally result }
 {
     let order = lay.left_order;
     let mut r = tally;
-    for i in lo..hi {
+    for i in node.lo..node.hi {
         let k = word_at(work, order + i);
-        r = check_row(work, lay, k, e, from, to, r);
+        r = check_row(work, lay, k, e, node.from, node.to, r);
     }
     r
 }
@@ -57,63 +48,60 @@ pub fn gather(
     work: &[u32],
     lay: Layout,
     limit: usize,
-    d: usize,
+    node: &Scope,
     e: usize,
-    lo: usize,
-    hi: usize,
-    from: usize,
-    to: usize,
     tally: Tally,
 ) -> Tally
-    requires some_query { SomeQuery (λ q. RangesThere lay q work.now e lo hi from to) }
-    requires from_bound { checks_in tally + (hi - lo) * (to - from) < full_words }
-    ensures { RangesChecked lay work.now e lo hi from to tally result }
+    requires some_query { let n = node.now in SomeQuery (λ q. RangesThere lay q work.now e n.lo n.hi n.from n.to) }
+    requires from_bound { let n = node.now in checks_in tally + (n.hi - n.lo) * (n.to - n.from) < full_words }
+    ensures { let n = node.now in RangesChecked lay work.now e n.lo n.hi n.from n.to tally result }
 {
     let mut r = tally;
-    let mut f = d;
-    let mut i = lo;
-    let mut j = hi;
-    while i < j {
-        if limit <= f || j - i == 1 {
-            return check_range(work, lay, e, i, j, from, to, r);
+    let mut at = *node;
+    while at.lo < at.hi {
+        if limit <= at.depth || at.hi - at.lo == 1 {
+            return check_range(work, lay, &at, e, r);
         }
-        let longest = longest_range(work, lay, f, i, j);
-        let a = longest.lo;
-        let b = longest.hi;
-        r = gather_children(work, lay, limit, f, e, i, a, from, to, r);
-        r = gather_children(work, lay, limit, f, e, b, j, from, to, r);
-        f = child_depth(work, lay, limit, f, a, b);
-        i = a;
-        j = b;
+        let end = at.hi;
+        let longest = longest_range(work, lay, at.depth, at.lo, end);
+        at.hi = longest.lo;
+        r = gather_children(work, lay, limit, &at, e, r);
+        at.lo = longest.hi;
+        at.hi = end;
+        r = gather_children(work, lay, limit, &at, e, r);
+        at.depth = child_depth(work, lay, limit, at.depth, longest.lo, longest.hi);
+        at.lo = longest.lo;
+        at.hi = longest.hi;
     }
     r
 }
 
-// Gathers the children in left_order[lo..hi], whose left sets share their first d ranks.
+// Gathers the children of a node above the limit: its left sets share as many ranks as its depth.
 #[cycle(gather_gather_children)]
 fn gather_children(
     work: &[u32],
     lay: Layout,
     limit: usize,
-    d: usize,
+    node: &Scope,
     e: usize,
-    lo: usize,
-    hi: usize,
-    from: usize,
-    to: usize,
     tally: Tally,
 ) -> Tally
-    requires d_lt_limit { d < limit }
-    requires some_query { SomeQuery (λ q. RangesThere lay q work.now e lo hi from to) }
-    requires from_bound { checks_in tally + (hi - lo) * (to - from) < full_words }
-    ensures { RangesChecked lay work.now e lo hi from to tally result }
+    requires d_lt_limit { node.now.depth < limit }
+    requires some_query { let n = node.now in SomeQuery (λ q. RangesThere lay q work.now e n.lo n.hi n.from n.to) }
+    requires from_bound { let n = node.now in checks_in tally + (n.hi - n.lo) * (n.to - n.from) < full_words }
+    ensures { let n = node.now in RangesChecked lay work.now e n.lo n.hi n.from n.to tally result }
 {
     let mut r = tally;
-    let mut i = lo;
-    while i < hi {
-        let j = range_end(work, lay, d, i, hi);
-        let f = child_depth(work, lay, limit, d, i, j);
-        r = gather(work, lay, limit, f, e, i, j, from, to, r);
+    let mut i = node.lo;
+    while i < node.hi {
+        let j = range_end(work, lay, node.depth, i, node.hi);
+        let child = Scope {
+            depth: child_depth(work, lay, limit, node.depth, i, j),
+            lo: i,
+            hi: j,
+            ..*node
+        };
+        r = gather(work, lay, limit, &child, e, r);
         i = j;
     }
     r

@@ -29,6 +29,16 @@ pub struct Tally {
     pub false_drops: u32,
 }
 
+// What a node of the walk spans: its depth, its left sets in left_order[lo..hi], and its candidates in work[from..to].
+#[derive(Clone, Copy)]
+pub struct Scope {
+    pub depth: usize,
+    pub lo: usize,
+    pub hi: usize,
+    pub from: usize,
+    pub to: usize,
+}
+
 // From so many ranks on, a left set with none on the merged path is compared from its lowest rank up.
 const MANY_RANKS: usize = 16;
 

@@ -16,7 +16,7 @@ use Rattle.kept_rows.specs.Kept.{RowsKept}
 use Rattle.join_index.proofs.Orders.{range_none}
 use Rattle.join_nodes.specs.Narrowing.{SomePath}
 use Rattle.join_nodes.specs.Visiting.{Visited, RangeVisited}
-use Rattle.join_nodes.specs.declared.Progress.{Progress}
+use Rattle.kept_rows.specs.declared.Progress.{Progress}
 use Rattle.join_nodes.proofs.RangeLaws.{range_split}
 use Rattle.join_nodes.proofs.VisitLaws.{added_none, visited_some, kept_some, visited_then, visited_early}
 use Rattle.join_nodes.proofs.FrameLaws.{range_framed, framed_none, framed_then}

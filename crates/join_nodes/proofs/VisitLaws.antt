@@ -24,7 +24,7 @@ use Rattle.join_nodes.specs.Rows.{row, outcome_from}
 use Rattle.kept_rows.specs.Kept.{RowsKept}
 use Rattle.join_index.specs.declared.Layout.{Layout}
 use Rattle.join_nodes.specs.Visiting.{Underway, Added, Visited}
-use Rattle.join_nodes.specs.declared.Progress.{Progress}
+use Rattle.kept_rows.specs.declared.Progress.{Progress}
 use Rattle.join_nodes.specs.declared.WalkSettings.{WalkSettings}
 
 module _ (q : Query) (d : ℕ) where

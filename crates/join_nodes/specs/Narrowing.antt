@@ -9,7 +9,7 @@ use Rattle.join_index.specs.Grouping.{right_at}
 use Rattle.join_index.specs.Ground.{Listing, offset_of, asks_seen}
 use Rattle.join_index.specs.declared.Layout.{Layout}
 use Rattle.join_index.specs.Asking.{Index}
-use Rattle.join_nodes.specs.declared.narrow.Part.{Part}
+use Rattle.words.specs.declared.Part.{Part}
 
 -- there are a query and a path of which it holds
 pub record SomePath (P : Query → List ℕ → Type 0) : Type 0 where

@@ -5,10 +5,11 @@ ghost use Rattle.join_check.specs.Checks.{RangesThere};
 ghost use Rattle.join_check.specs.Counters.{checks_in};
 ghost use Rattle.join_nodes.specs.block_checks.BlockChecks.{Covered, Small, Blocked};
 
-use crate::{Progress, Scope, WalkSettings};
-use join_check::Tally;
+use crate::WalkSettings;
 use join_check::gather::gather;
+use join_check::{Scope, Tally};
 use join_index::Layout;
+use kept_rows::Progress;
 
 // Whether the budget covers so many more checks.
 pub fn covers(budget: u32, tally: Tally, checks: usize) -> bool
@@ -40,9 +41,7 @@ pub fn check_block(
     if !covers(st.budget, tally, checks) {
         return None;
     }
-    let r = gather(
-        work, lay, limit, node.depth, e, node.lo, node.hi, node.from, node.to, tally,
-    );
+    let r = gather(work, lay, limit, node, e, tally);
     Some(Progress {
         tally: r,
         top: p.top,

@@ -12,13 +12,13 @@ ghost use Rattle.join_nodes.specs.Narrowing.{SomePath};
 ghost use Rattle.join_nodes.specs.Visiting.{RangeVisited, Merged};
 ghost use Rattle.join_nodes.specs.blocks.Blocks.{MergedEnd, PairsKept, RowFinished, Going, AtLimit, Settles};
 
+use crate::WalkSettings;
 use crate::block_checks::{check_block, covers};
-use crate::{Progress, Scope, WalkSettings};
-use join_check::Tally;
 use join_check::keys::{key_at, range_end};
+use join_check::{Scope, Tally};
 use join_index::Layout;
 use kept_rows::checked::record_row;
-use kept_rows::keep_list;
+use kept_rows::{Progress, keep_list};
 use words::word_at;
 
 // The left sets before mid were paired by path.
@@ -63,7 +63,7 @@ fn pair_ended(work: &mut [u32], lay: Layout, node: &Scope, p: Progress) -> Progr
     ensures { let n = node.now in PairsKept lay work.old n.lo n.hi n.from n.to p work.new result }
 {
     let merged = add_paths(p.tally, node.hi - node.lo, node.to - node.from);
-    let top = keep_list(work, lay, node.lo, node.hi, node.from, node.to, p.top);
+    let top = keep_list(work, lay, node, p.top);
     Progress {
         tally: merged,
         top: top,
@@ -101,10 +101,7 @@ fn finish_row(
         return None;
     }
     let r = record_row(work, lay, k, node.depth, node.from, node.to, p.tally, p.top);
-    Some(Progress {
-        tally: r.tally,
-        top: r.top,
-    })
+    Some(r)
 }
 
 // One left set of a node at the limit, left_order[i]: paired by path if it ends there, else checked; its row is kept if there is room.

@@ -8,7 +8,7 @@ ghost use Rattle.join_spec.specs.Walk.{goes};
 ghost use Rattle.join_nodes.specs.Narrowing.{SomePath};
 ghost use Rattle.join_nodes.specs.Visiting.{OnPath, NodeAt};
 
-use crate::Scope;
+use join_check::Scope;
 use join_check::keys::{count_seen, key_at};
 use join_index::Layout;
 use join_spec::{Rule, Weights};

@@ -5,13 +5,14 @@ ghost use Rattle.words.specs.flags.Flags.{Clear};
 ghost use Rattle.join_nodes.specs.Narrowing.{SomePath};
 ghost use Rattle.join_nodes.specs.enter.Entering.{GoesOn, NodeEntered};
 
+use crate::WalkSettings;
 use crate::blocks::{finish, settle};
 use crate::decide::rank_on;
 use crate::lone::{is_lone, pair_lone};
 use crate::narrow::narrow;
-use crate::{Progress, Scope, WalkSettings};
+use join_check::Scope;
 use join_index::Layout;
-use kept_rows::keep_list;
+use kept_rows::{Progress, keep_list};
 
 // How far the walk came at a node before its children: the left sets from mid on go on to them, with the candidates listed in
 // work[from..to]. There are none if the visit is over.
@@ -50,7 +51,7 @@ pub fn enter_node(
     };
     if after.to <= after.from {
         let tally = p.tally;
-        let top = keep_list(work, lay, after.lo, after.hi, after.from, after.to, p.top);
+        let top = keep_list(work, lay, &after, p.top);
         return Some(Entered {
             at: Progress {
                 tally: tally,

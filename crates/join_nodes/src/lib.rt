@@ -3,7 +3,6 @@
 // budget; `lone` pairs a left set that is alone; `enter` takes a node up to its children.
 #![tactic(auto)]
 
-use join_check::Tally;
 use join_spec::Rule;
 
 // The settings that bear on the walk.
@@ -12,24 +11,6 @@ pub struct WalkSettings {
     pub limit: usize,
     pub rule: Rule,
     pub budget: u32,
-}
-
-// How far the walk has come: its counters, and where the kept rows end. A part of the walk answers it, or none where the next checks
-// would exceed the budget.
-#[derive(Clone, Copy)]
-pub struct Progress {
-    pub tally: Tally,
-    pub top: usize,
-}
-
-// What a node spans: its depth, its left sets in left_order[lo..hi], and its candidates in work[from..to].
-#[derive(Clone, Copy)]
-pub struct Scope {
-    pub depth: usize,
-    pub lo: usize,
-    pub hi: usize,
-    pub from: usize,
-    pub to: usize,
 }
 
 pub mod block_checks;

@@ -8,12 +8,13 @@ ghost use Rattle.join_nodes.specs.Visiting.{RangeVisited};
 ghost use Rattle.join_nodes.specs.blocks.Blocks.{Going};
 ghost use Rattle.join_nodes.specs.lone.Lone.{Lone};
 
+use crate::WalkSettings;
 use crate::blocks::add_paths;
-use crate::{Progress, Scope, WalkSettings};
-use join_check::Tally;
 use join_check::keys::key_at;
+use join_check::{Scope, Tally};
 use join_index::Layout;
 use join_spec::Rule;
+use kept_rows::Progress;
 use kept_rows::checked::record_row;
 use words::word_at;
 

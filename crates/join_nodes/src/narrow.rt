@@ -5,17 +5,10 @@ ghost use Rattle.join_spec.specs.Node.{last_of};
 ghost use Rattle.words.specs.flags.Flags.{Clear};
 ghost use Rattle.join_nodes.specs.Narrowing.{SomePath, Candidates, Narrowed};
 
-use crate::Scope;
+use join_check::Scope;
 use join_index::Layout;
 use words::shared::intersect;
-use words::word_at;
-
-// A part of the work list.
-#[derive(Clone, Copy)]
-pub struct Part {
-    pub from: usize,
-    pub to: usize,
-}
+use words::{Part, word_at};
 
 // The candidates that hold the last rank of the path too. At depth 1 they are that rank's inverted list; deeper they are put into the
 // rank's slot.

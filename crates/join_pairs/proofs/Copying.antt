@@ -1,14 +1,15 @@
 -- A left set whose row is kept: its row of the pair list is that of the places kept.
-use Prim.Native.Nat.{ℕ, ◌+◌, ◌<◌}
+use Prim.Native.Nat.{ℕ, ◌+◌, ◌-◌, ◌≤◌, ◌<◌}
 use mathlib.Core.Path.{◌≡◌, refl, sym, ap, ◌∙◌}
 use mathlib.Core.List.{List}
 use mathlib.Core.Bool.{true}
 use native.Mathlib.Omega.{arith}
 use lib.Dec.{ltb}
-use lib.ListN.{length}
+use lib.ListN.{length, take, drop}
 use borrow.Author.Tests.{lt-ltb, ltb-true}
-use Rattle.lists.specs.Lists.{all, slice, upto}
+use Rattle.lists.specs.Lists.{all, keep, upto}
 use Rattle.lists.specs.Writing.{Put}
+use Rattle.lists.proofs.Slices.{slice_from}
 use Rattle.lists.proofs.Throughout.{all_weaken}
 use Rattle.lists.proofs.Filtering.{all_keep}
 use Rattle.lists.proofs.Ranges.{all_upto}
@@ -39,31 +40,35 @@ module _ {lay : Layout} {q : Query} {w : List ℕ} {k at : ℕ} {was : List ℕ}
         row_moved (omega arith) first.is second.is (λ order high low. refl)
         (there.rows.row k there.left.below (omega (arith, first.is, some)))
 
-    same : row_at q k ≡ pairs_with k (slice from to w)
-    same = row-whole q k ∙ ap (pairs_with k) (sym row.is)
+    -- it lies within the list
+    pub row_within : (from ≤ to) × (to ≤ length w)
+    row_within = (row.order, omega (arith, row.high, there.rows.high, there.left.index.ground.end_within))
 
-    low : all (λ (s : ℕ). ltb s max_sets) (slice from to w) ≡ true
+    abbrev part : List ℕ
+    part = take (to - from) (drop from w)
+
+    is : part ≡ keep (contained_at q k) (upto (length q.rights))
+    is = sym (slice_from from to w) ∙ row.is
+
+    same : row_at q k ≡ pairs_with k part
+    same = row-whole q k ∙ ap (pairs_with k) (sym is)
+
+    low : all (λ (s : ℕ). ltb s max_sets) part ≡ true
     low =
         let rights = length q.rights in
-        ap (all (λ (s : ℕ). ltb s max_sets)) row.is
+        ap (all (λ (s : ℕ). ltb s max_sets)) is
         ∙ all_keep (λ (s : ℕ). ltb s max_sets) (contained_at q k) (upto rights)
         (all_weaken (λ (s : ℕ). ltb s rights) (λ (s : ℕ). ltb s max_sets) (upto rights)
         (λ s below. lt-ltb s max_sets (omega (arith, ltb-true s rights below, there.left.index.ground.right_few)))
         (all_upto rights))
 
-    pub kept_room : KeptRoom w from to k at was
+    pub kept_room : KeptRoom part k at was
     kept_room =
-        let g = there.left.index.ground in
         record {
-          left = omega (arith, there.left.below, g.left_few);
-          right =
-              record {
-                order = row.order;
-                within = omega (arith, row.high, there.rows.high, g.end_within);
-                below = low;
-              };
+          left = omega (arith, there.left.below, there.left.index.ground.left_few);
+          right = low;
           room = omega (arith, there.room, ap length same);
         }
 
-    pub kept_put : {r : ℕ} {u : List ℕ} → Put was at (pairs_with k (slice from to w)) r u → Put was at (row_at q k) r u
+    pub kept_put : {r : ℕ} {u : List ℕ} → Put was at (pairs_with k part) r u → Put was at (row_at q k) r u
     kept_put put = rw same put

@@ -28,7 +28,8 @@ pub fn search_left(
     if p.to <= p.from {
         return at;
     }
-    let r = pivot(work, lay, p.from, p.to);
+    let list = &work[..];
+    let r = pivot(list, lay, &list[p.from..p.to]);
     let c = find_candidates(work, flags, lay, p.from, p.to, r);
     let rest = Probe {
         signature: p.signature,

@@ -57,5 +57,5 @@ pub fn write_left(
         return search_left(work, flags, lay, k, pairs, at);
     }
     let to = word_at(work, ends + k);
-    write_kept(work, from, to, k, pairs, at)
+    write_kept(&work[from..to], k, pairs, at)
 }

@@ -28,20 +28,13 @@ fn push(pairs: &mut [u16], at: usize, k: usize, s: usize, paired: bool) -> usize
     at
 }
 
-// Writes the pairs of the left set k with the right sets of a kept row, work[from..to].
-pub fn write_kept(
-    work: &[u32],
-    from: usize,
-    to: usize,
-    k: usize,
-    pairs: &mut [u16],
-    at: usize,
-) -> usize
-    requires { KeptRoom work.now from to k at pairs.old }
-    ensures { Put pairs.old at (pairs_with k (slice from to work.now)) result pairs.new }
+// Writes the pairs of the left set k with the right sets of a kept row.
+pub fn write_kept(row: &[u32], k: usize, pairs: &mut [u16], at: usize) -> usize
+    requires { KeptRoom row.now k at pairs.old }
+    ensures { Put pairs.old at (pairs_with k row.now) result pairs.new }
 {
     let mut n = at;
-    for s in &work[from..to] {
+    for s in row {
         n = push(pairs, n, k, *s as usize, true);
     }
     n

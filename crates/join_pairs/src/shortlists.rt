@@ -1,14 +1,14 @@
 // The right sets that may contain a left set, found in the index: first its rank that fewest right sets hold, then the candidates from
 // there. The work list is read by its layout, and candidates go into its slots.
 ghost use Rattle.std.specs.Prelude.{◌≡◌, true};
-ghost use Rattle.lists.specs.Lists.{memb, slice};
+ghost use Rattle.lists.specs.Lists.{memb};
 ghost use Rattle.join_index.specs.Asking.{SomeQuery, RankThere};
 ghost use Rattle.join_pairs.specs.shortlists.Shortlists.{RanksThere, Located, SpanThere, RankMet, FindThere, Shortlisted};
 ghost use Rattle.words.specs.flags.Flags.{Clear};
 
 use join_index::Layout;
 use words::shared::intersect;
-use words::word_at;
+use words::{Part, word_at};
 
 // How many right sets hold a rank.
 pub fn count_holders(work: &[u32], lay: Layout, r: usize) -> usize
@@ -18,14 +18,14 @@ pub fn count_holders(work: &[u32], lay: Layout, r: usize) -> usize
     word_at(work, offsets + r + 1) - word_at(work, offsets + r)
 }
 
-// Of the ranks in work[from..to], one that fewest right sets hold.
-pub fn pivot(work: &[u32], lay: Layout, from: usize, to: usize) -> usize
-    requires { SomeQuery (λ q. RanksThere lay q work.now from to) }
-    ensures { memb result (slice from to work.now) ≡ true }
+// Of some ranks, one that fewest right sets hold.
+pub fn pivot(work: &[u32], lay: Layout, ranks: &[u32]) -> usize
+    requires { SomeQuery (λ q. RanksThere lay q work.now ranks.now) }
+    ensures { memb result ranks.now ≡ true }
 {
-    let mut rank = word_at(work, from);
+    let mut rank = word_at(ranks, 0);
     let mut least = count_holders(work, lay, rank);
-    for word in &work[from + 1..to] {
+    for word in &ranks[1..] {
         let next = *word as usize;
         let n = count_holders(work, lay, next);
         if n < least {
@@ -41,13 +41,6 @@ const FEW_RANKS: usize = 3;
 
 const FEW_CANDIDATES: usize = 16;
 
-// A part of the work list.
-#[derive(Clone, Copy)]
-pub struct Span {
-    pub from: usize,
-    pub to: usize,
-}
-
 // Candidates: places of right sets in a part of the work list, and where the ranks begin that not all of them need hold.
 #[derive(Clone, Copy)]
 pub struct Shortlist {
@@ -57,7 +50,7 @@ pub struct Shortlist {
 }
 
 // Where the inverted list of a rank lies.
-fn list_of(work: &[u32], lay: Layout, r: usize) -> Span
+fn list_of(work: &[u32], lay: Layout, r: usize) -> Part
     requires { SomeQuery (λ q. RankThere lay q work.now r) }
     ensures { Located lay work.now r result }
 {
@@ -65,7 +58,7 @@ fn list_of(work: &[u32], lay: Layout, r: usize) -> Span
     let index = lay.index;
     let from = index + word_at(work, offsets + r);
     let to = index + word_at(work, offsets + r + 1);
-    Span { from: from, to: to }
+    Part { from: from, to: to }
 }
 
 // Whether n candidates of a left set with so many ranks are better checked than cut down by the rank r.
@@ -93,21 +86,21 @@ fn meet(
     pivot: usize,
     from: usize,
     to: usize,
-) -> Span
+) -> Part
     requires some_query { SomeQuery (λ q. SpanThere lay q work.old r pivot from to) }
     requires clear_2 { Clear flags.old }
     ensures met { RankMet lay work.old r pivot from to work.new result }
     ensures clear { Clear flags.new }
 {
     if r == pivot {
-        return Span { from: from, to: to };
+        return Part { from: from, to: to };
     }
     let offsets = lay.offsets;
     let slots = lay.slots;
     let list = list_of(work, lay, r);
     let out = slots + word_at(work, offsets + r);
     let end = intersect(work, flags, from, to, list.from, list.to, out);
-    Span { from: out, to: end }
+    Part { from: out, to: end }
 }
 
 // Candidates for the left set whose ranks are work[from..to], the pivot among them.

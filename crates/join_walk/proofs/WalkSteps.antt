@@ -31,7 +31,7 @@ use Rattle.kept_rows.specs.Keeping.{Cleared}
 use Rattle.kept_rows.proofs.RowLaws.{index_kept}
 use Rattle.join_nodes.specs.Rows.{row}
 use Rattle.join_nodes.specs.Visiting.{beginners}
-use Rattle.join_nodes.specs.declared.Progress.{Progress}
+use Rattle.kept_rows.specs.declared.Progress.{Progress}
 use Rattle.join_nodes.specs.declared.WalkSettings.{WalkSettings}
 use Rattle.join_nodes.proofs.RangeLaws.{Cut}
 use Rattle.join_nodes.proofs.RowLaws.{MetOnly}

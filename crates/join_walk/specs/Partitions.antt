@@ -10,7 +10,7 @@ use Rattle.join_index.specs.Asking.{Index}
 use Rattle.join_check.specs.Counters.{counter}
 use Rattle.kept_rows.specs.Kept.{RowsKept}
 use Rattle.join_nodes.specs.Visiting.{Children, Framed}
-use Rattle.join_nodes.specs.declared.Progress.{Progress}
+use Rattle.kept_rows.specs.declared.Progress.{Progress}
 use Rattle.join_nodes.specs.declared.WalkSettings.{WalkSettings}
 
 -- partitions: the children of the path without ranks

@@ -12,9 +12,9 @@ use crate::partition::visit_partition;
 use join_check::Tally;
 use join_check::keys::range_end;
 use join_index::Layout;
+use join_nodes::WalkSettings;
 use join_nodes::blocks::merged_end;
-use join_nodes::{Progress, WalkSettings};
-use kept_rows::clear_rows;
+use kept_rows::{Progress, clear_rows};
 
 pub mod heaviest;
 pub mod partition;

@@ -6,10 +6,11 @@ ghost use Rattle.words.specs.flags.Flags.{Clear};
 ghost use Rattle.join_walk.specs.partition.Partition.{SomeRank, Partition, PartVisited};
 
 use crate::visit::visit_node;
+use join_check::Scope;
 use join_check::keys::{is_held, key_at};
 use join_index::{Layout, asks_seen};
-use join_nodes::{Progress, Scope, WalkSettings};
-use kept_rows::keep_list;
+use join_nodes::WalkSettings;
+use kept_rows::{Progress, keep_list};
 use words::word_at;
 
 // Visits the partition left_order[lo..hi]. The right sets with a least rank up to its rank are seen by now: they are first by least
@@ -47,18 +48,18 @@ pub fn visit_partition(
         };
         return visit_node(work, flags, lay, st, &node, p);
     }
+    let node = Scope {
+        depth: 1,
+        lo: lo,
+        hi: hi,
+        from: none,
+        to: none,
+    };
     if is_held(work, lay, key - 1) {
-        let node = Scope {
-            depth: 1,
-            lo: lo,
-            hi: hi,
-            from: none,
-            to: none,
-        };
         return visit_node(work, flags, lay, st, &node, p);
     }
     let tally = p.tally;
-    let top = keep_list(work, lay, lo, hi, none, none, p.top);
+    let top = keep_list(work, lay, &node, p.top);
     Some(Progress {
         tally: tally,
         top: top,

@@ -8,12 +8,14 @@ ghost use Rattle.join_nodes.specs.Narrowing.{SomePath};
 ghost use Rattle.join_nodes.specs.Visiting.{Node, NodeVisited, ChildrenAt, ChildrenVisited};
 
 use crate::heaviest::heaviest_range;
+use join_check::Scope;
 use join_check::keys::range_end;
 use join_index::Layout;
+use join_nodes::WalkSettings;
 use join_nodes::block_checks::check_block;
 use join_nodes::decide::decide;
 use join_nodes::enter::enter_node;
-use join_nodes::{Progress, Scope, WalkSettings};
+use kept_rows::Progress;
 
 // Visits a node: its left sets begin with its path, which has as many ranks as its depth. A child's slot is above everything that its
 // node still needs, and once the other children are done the node needs nothing more. If the heaviest child is the only one, no call is

@@ -6,17 +6,10 @@ ghost use Rattle.join_index.specs.Asking.{SomeQuery};
 ghost use Rattle.join_check.specs.Counters.{checks_in};
 ghost use Rattle.kept_rows.specs.checked.Recording.{RowRecordable, RowRecorded};
 
-use crate::keep_row;
+use crate::{Progress, keep_row};
 use join_check::{Tally, check_one, probe_left};
 use join_index::Layout;
 use words::word_at;
-
-// The counters after the checks of a row, and where the kept rows end.
-#[derive(Clone, Copy)]
-pub struct Recorded {
-    pub tally: Tally,
-    pub top: usize,
-}
 
 // Checks the left set k, after its first e ranks, against each right set listed in work[from..to], and keeps the confirmed ones at top
 // as its row. Every place is stored, and the end moves only past the confirmed ones.
@@ -29,7 +22,7 @@ pub fn record_row(
     to: usize,
     tally: Tally,
     top: usize,
-) -> Recorded
+) -> Progress
     requires some_query { SomeQuery (λ q. RowRecordable lay q work.old k e from to top) }
     requires from_bound { checks_in tally + (to - from) < full_words }
     ensures { RowRecorded lay work.old k e from to tally top work.new result }
@@ -45,5 +38,5 @@ pub fn record_row(
         n += (r.confirmed - before) as usize;
     }
     keep_row(work, lay, k, top, n);
-    Recorded { tally: r, top: n }
+    Progress { tally: r, top: n }
 }

@@ -6,11 +6,19 @@ ghost use Rattle.std.specs.Prelude.{◌≡◌};
 ghost use Rattle.join_index.specs.Asking.{SomeQuery};
 ghost use Rattle.kept_rows.specs.Keeping.{ClearThere, Cleared, WordsRoom, row_stored, ShareThere, Shared, ListThere, ListKept};
 
+use join_check::{Scope, Tally};
 use join_index::Layout;
 use words::copies::copy_words;
 use words::word_at;
 
 pub mod checked;
+
+// How far a walk has come: its counters, and where the kept rows end.
+#[derive(Clone, Copy)]
+pub struct Progress {
+    pub tally: Tally,
+    pub top: usize,
+}
 
 // No left set has a row.
 pub fn clear_rows(work: &mut [u32], lay: Layout, lefts: usize)
@@ -42,27 +50,19 @@ fn share_row(work: &mut [u32], lay: Layout, lo: usize, hi: usize, from: usize, t
     }
 }
 
-// The left sets in left_order[lo..hi] are contained in the right sets listed in work[from..to], and in no others: a copy of that part
-// at top is kept as the row of each, if it fits. Returns the new top.
-pub fn keep_list(
-    work: &mut [u32],
-    lay: Layout,
-    lo: usize,
-    hi: usize,
-    from: usize,
-    to: usize,
-    top: usize,
-) -> usize
-    requires { SomeQuery (λ q. ListThere lay q work.old lo hi from to top) }
-    ensures { ListKept lay work.old lo hi from to top work.new result }
+// The left sets of a node are contained in its candidates, and in no other right sets: a copy of their list at top is kept as the row
+// of each, if it fits. Returns the new top.
+pub fn keep_list(work: &mut [u32], lay: Layout, node: &Scope, top: usize) -> usize
+    requires { let n = node.now in SomeQuery (λ q. ListThere lay q work.old n.lo n.hi n.from n.to top) }
+    ensures { let n = node.now in ListKept lay work.old n.lo n.hi n.from n.to top work.new result }
 {
-    if hi <= lo {
+    if node.hi <= node.lo {
         return top;
     }
-    if lay.end - top < to - from {
+    if lay.end - top < node.to - node.from {
         return top;
     }
-    let end = copy_words(work, from, to, top);
-    share_row(work, lay, lo, hi, top, end);
+    let end = copy_words(work, node.from, node.to, top);
+    share_row(work, lay, node.lo, node.hi, top, end);
     end
 }

@@ -1,9 +1,9 @@
 // The records of a side as bytes of a tag file: the parts of one record, and the records of all sets, by place. One function writes a
 // record, whatever its side.
-ghost use Rattle.std.specs.Prelude.{◌≡◌, ◌+◌, ◌*◌, ◌-◌, ◌≤◌, length, take, drop};
+ghost use Rattle.std.specs.Prelude.{◌≡◌, ◌+◌, ◌*◌, ◌≤◌, length, take, drop};
 ghost use Rattle.std.proofs.lemmas.List.Edits.{sets};
 ghost use Rattle.sets.specs.Limits.{max_sets, max_entries, max_set_length};
-ghost use Rattle.sets.specs.Collections.{between, lent_sets, sets_in, entries};
+ghost use Rattle.sets.specs.Collections.{lent_sets, sets_in, entries};
 ghost use Rattle.tag_file.specs.Format.{tag_length, head_length, record_length, tag_bytes, mark, record_head, record_bytes};
 ghost use Rattle.tag_writer_spec.specs.Writer.{item_tags, records_of};
 ghost use Rattle.tag_writer_spec.specs.Inner.{ItemsFit, GoodSide};
@@ -66,40 +66,29 @@ fn put_head(side: Side, number: u16, count: u8, file: &mut [u8], at: usize)
     file[at + 4] = count;
 }
 
-// Writes the tags of items[start..end] to a place of the file.
-fn put_tags(tags: &[u8], items: &[u16], start: usize, end: usize, file: &mut [u8], at: usize)
-    requires items_fit { ItemsFit tags.now items.now start end }
-    requires start_in_bounds { at + tag_length * (end - start) ≤ length file.old }
-    ensures { file.new ≡ sets file.old at
-        (tag_bytes (item_tags tags.now (between start end items.now))) }
+// Writes the tags of a set's items to a place of the file.
+fn put_tags(tags: &[u8], set: &[u16], file: &mut [u8], at: usize)
+    requires items_fit { ItemsFit tags.now set.now }
+    requires in_bounds { at + tag_length * length set.now ≤ length file.old }
+    ensures { file.new ≡ sets file.old at (tag_bytes (item_tags tags.now set.now)) }
 {
     let mut to = at;
-    for item in &items[start..end] {
+    for item in set {
         let from = TAG_LENGTH * usize::from(*item);
         put_tag(tags, from, file, to);
         to += TAG_LENGTH;
     }
 }
 
-// Writes the record of the set items[start..end] to a place of the file.
-fn put_record(
-    side: Side,
-    number: u16,
-    tags: &[u8],
-    items: &[u16],
-    start: usize,
-    end: usize,
-    file: &mut [u8],
-    at: usize,
-)
-    requires items_fit { ItemsFit tags.now items.now start end }
-    requires start_bound { (end - start ≤ max_set_length) × (at + record_length (end - start) ≤ length file.old) }
-    ensures { file.new ≡ sets file.old at
-        (record_bytes side number (item_tags tags.now (between start end items.now))) }
+// Writes the record of a set to a place of the file.
+fn put_record(side: Side, number: u16, tags: &[u8], set: &[u16], file: &mut [u8], at: usize)
+    requires items_fit { ItemsFit tags.now set.now }
+    requires in_bounds { (length set.now ≤ max_set_length) × (at + record_length (length set.now) ≤ length file.old) }
+    ensures { file.new ≡ sets file.old at (record_bytes side number (item_tags tags.now set.now)) }
 {
-    let count = (end - start) as u8;
+    let count = set.len() as u8;
     put_head(side, number, count, file, at);
-    put_tags(tags, items, start, end, file, at + HEAD_LENGTH);
+    put_tags(tags, set, file, at + HEAD_LENGTH);
 }
 
 // The bytes of a record with so many tags.
@@ -124,7 +113,7 @@ pub fn put_side(side: Side, tags: &[u8], from: &NumberedSets, file: &mut [u8], a
     let mut to = at;
     for (k, end) in ends.iter().enumerate() {
         let end = *end as usize;
-        put_record(side, numbers[k], tags, items, start, end, file, to);
+        put_record(side, numbers[k], tags, &items[start..end], file, to);
         to += record_length(end - start);
         start = end;
     }

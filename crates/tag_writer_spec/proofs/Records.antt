@@ -2,9 +2,9 @@
 use mathlib.Core.Path.{◌≡◌, refl}
 use Prim.Native.Nat.{ℕ, ◌+◌, ◌*◌, ◌≤◌, ◌<◌}
 use mathlib.Core.List.{List, [], ◌∷◌, ◌++◌}
+use native.Mathlib.Numerals.{add-one}
 use lib.ListN.{length, take, drop, get_or, length-map}
-use Rattle.sets.specs.Collections.{between}
-use Rattle.sets.proofs.Between.{between_cons}
+use lib.Seq.{drop-cons}
 use Rattle.sets.specs.declared.Side.{Side}
 use Rattle.sets.specs.declared.Side.TheVariants.{Left, Right}
 use Rattle.tag_file.specs.Format.{tag_length, head_length, tag_bytes, mark, record_head}
@@ -23,10 +23,10 @@ pub length-item_tags : (tags set : List ℕ) → length (item_tags tags set) ≡
 length-item_tags tags set = length-map set (item_tag tags)
 
 -- the tags of the items from a place on: the first one's bytes in the table, then the others
-pub tags_run : (tags items : List ℕ) (i end : ℕ) → i < end → end ≤ length items
-    → tag_length * get_or items i 0 + tag_length ≤ length tags → ((k : ℕ) → get_or tags k 0 < 256)
-    → tag_bytes (item_tags tags (between i end items))
-    ≡ take tag_length (drop (tag_length * get_or items i 0) tags) ++ tag_bytes (item_tags tags (between (i + 1) end items))
+pub tags_run : (tags set : List ℕ) (i : ℕ) → i < length set
+    → tag_length * get_or set i 0 + tag_length ≤ length tags → ((k : ℕ) → get_or tags k 0 < 256)
+    → tag_bytes (item_tags tags (drop i set))
+    ≡ take tag_length (drop (tag_length * get_or set i 0) tags) ++ tag_bytes (item_tags tags (drop (i + 1) set))
 unfolding tag_bytes
-tags_run tags items i end more inside known low =
-    rw (between_cons i end items more inside, bytes_of-tag_at tags (tag_length * get_or items i 0) known low)
+tags_run tags set i more known low =
+    rw (drop-cons set i 0 more, add-one i, bytes_of-tag_at tags (tag_length * get_or set i 0) known low)

@@ -1,13 +1,13 @@
 -- Laws of a side without a bad set: what holds of the set at each place, its records one by one, and their length.
 use mathlib.Core.Path.{◌≡◌}
-use Prim.Native.Nat.{ℕ, suc, ◌+◌, ◌*◌, ◌-◌, ◌/◌, ◌≤◌, ◌<◌}
+use Prim.Native.Nat.{ℕ, suc, ◌+◌, ◌*◌, ◌/◌, ◌≤◌, ◌<◌}
 use mathlib.Core.List.{List, [], ◌∷◌, ◌++◌}
 use native.Mathlib.Numerals.{add-one}
 use native.Mathlib.Omega.{arith}
 use borrow.Author.Tests.{ltb-true}
 use lib.Dec.{ltb}
 use lib.ListN.{length, drop, get_or, length-append}
-use lib.Seq.{drop-cons, get_or-take, get_or-drop}
+use lib.Seq.{drop-cons}
 use Rattle.std.specs.Prelude.{None}
 use Rattle.lists.proofs.Throughout.{all_at}
 use Rattle.sets.specs.Collections.{between, sets_from, first_bad_from, last_end}
@@ -21,24 +21,15 @@ use Rattle.tag_writer_spec.specs.Writer.{item_tags, records_of}
 use Rattle.tag_writer_spec.proofs.Records.{length_head, length-item_tags}
 
 -- the item at a place of a set that is not bad is below the number of tags
-item_below : (T k start end : ℕ) (items : List ℕ) → GoodSet T k start end items → (i : ℕ) → start ≤ i → i < end
-    → get_or items i 0 < T
-item_below T k start end items so i above below =
-    let n = length-between start end items so.within in
-    let place : start + (i - start) ≡ i = omega arith in
-    let test = all_at (λ i. ltb i T) 0 (between start end items) so.below (i - start) (omega arith) in
-    let less : get_or (between start end items) (i - start) 0 < T = ltb-true _ _ test in
-    rw (get_or-take (end - start) (drop start items) (i - start) 0 (omega arith), get_or-drop, place) at less
+item_below : (T k start end : ℕ) (items : List ℕ) → GoodSet T k start end items
+    → (i : ℕ) → i < length (between start end items) → get_or (between start end items) i 0 < T
+item_below T k start end items so i below =
+    ltb-true (get_or (between start end items) i 0) T (all_at (λ i. ltb i T) 0 (between start end items) so.below i below)
 
 pub fit_items : (tags items : List ℕ) (k start end : ℕ) → GoodSet (length tags / tag_length) k start end items
-    → ItemsFit tags items start end
+    → ItemsFit tags (between start end items)
 fit_items tags items k start end so =
-    record { rise = so.ordered; inside = so.within; known = tag_there }
-  where
-    tag_there : (i : ℕ) → start ≤ i → i < end → tag_length * get_or items i 0 + tag_length ≤ length tags
-    tag_there i above below =
-        let low = item_below (length tags / tag_length) k start end items so i above below in
-        omega arith
+    record { known = λ i below. omega (arith, item_below (length tags / tag_length) k start end items so i below) }
 
 pub length_record : (side : Side) (number : ℕ) (tags set : List ℕ)
     → length (record_bytes side number (item_tags tags set)) ≡ record_length (length set)

@@ -4,11 +4,9 @@ use Rattle.sets.specs.Collections.{first_bad}
 use Rattle.tag_file.specs.Format.{tag_length}
 use Rattle.tag_file.specs.Loading.{Lists}
 
--- the items from start up to end are there, and the tag table has each one's tag
-pub record ItemsFit (tags items : List ℕ) (start end : ℕ) : Type 0 where
-  pub rise : start ≤ end
-  pub inside : end ≤ length items
-  pub known : (i : ℕ) → start ≤ i → i < end → tag_length * get_or items i 0 + tag_length ≤ length tags
+-- the tag table has the tag of each item of a set
+pub record ItemsFit (tags set : List ℕ) : Type 0 where
+  pub known : (i : ℕ) → i < length set → tag_length * get_or set i 0 + tag_length ≤ length tags
 
 -- a side has no fault: no bad set over the tags of the table, and as many numbers as sets
 pub record GoodSide (tags numbers ends items : List ℕ) : Type 0 where

@@ -1,5 +1,5 @@
 // The test of one set: its items, and its end beside the end before it.
-ghost use Rattle.std.specs.Prelude.{◌≡◌, ◌&&◌, ◌≤◌, ltb, length};
+ghost use Rattle.std.specs.Prelude.{◌≡◌, ◌&&◌, ltb};
 ghost use Rattle.lists.specs.Lists.{all, rising};
 ghost use Rattle.sets.specs.Collections.{between, good_items, good_end};
 
@@ -23,15 +23,14 @@ fn rises_below(t: u32, items: &[u16]) -> bool
     true
 }
 
-// Whether the items of a part can be those of a set: not too many, each below t, strictly rising.
-pub fn good_items(t: u32, start: usize, end: usize, items: &[u16]) -> bool
-    requires { (start ≤ end) × (end ≤ length items.now) }
-    ensures { result ≡ good_items t (between start end items.now) }
+// Whether items can be those of a set: not too many, each below t, strictly rising.
+pub fn good_items(t: u32, set: &[u16]) -> bool
+    ensures { result ≡ good_items t set.now }
 {
-    if MAX_SET_LENGTH < end - start {
+    if MAX_SET_LENGTH < set.len() {
         return false;
     }
-    rises_below(t, &items[start..end])
+    rises_below(t, set)
 }
 
 // Whether a set is in order, given the end before it and its own.
@@ -47,5 +46,5 @@ pub fn good_set(t: u32, start: usize, end: usize, items: &[u16]) -> bool
     if items.len() < end {
         return false;
     }
-    good_items(t, start, end, items)
+    good_items(t, &items[start..end])
 }

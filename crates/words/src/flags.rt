@@ -1,7 +1,7 @@
 // Tables of flags, one for each number below their length: flag the words of a part, keep the flagged words of another part, and take
 // the flags away again.
-ghost use Rattle.std.specs.Prelude.{length};
-ghost use Rattle.lists.specs.Lists.{slice};
+ghost use Rattle.std.specs.Prelude.{◌≡◌, length, ltb, true};
+ghost use Rattle.lists.specs.Lists.{all};
 ghost use Rattle.words.specs.flags.Flags.{Below, Flagged, FlagsSet, is_flagged, Clear, Behind, Kept};
 
 // How many flags a table has.
@@ -15,11 +15,11 @@ pub fn clear_flags() -> [u8; FLAG_ROOM]
 }
 
 // Makes the flag of each word of a part 1, to flag it, or 0, to take its flag away.
-pub fn set_flags(work: &[u32], a: usize, b: usize, flag: u8, flags: &mut [u8])
-    requires { Below (length flags.old) a b work.now }
-    ensures { FlagsSet flag (slice a b work.now) flags.old flags.new }
+pub fn set_flags(part: &[u32], flag: u8, flags: &mut [u8])
+    requires { all (λ s. ltb s (length flags.old)) part.now ≡ true }
+    ensures { FlagsSet flag part.now flags.old flags.new }
 {
-    for s in &work[a..b] {
+    for s in part {
         flags[*s as usize] = flag;
     }
 }

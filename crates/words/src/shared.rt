@@ -35,8 +35,8 @@ pub fn intersect(
     if is_far_shorter(e - c, b - a) {
         return keep_found(work, a, b, c, e, out);
     }
-    set_flags(work, a, b, 1, flags);
+    set_flags(&work[a..b], 1, flags);
     let r = keep_flagged(work, c, e, out, flags);
-    set_flags(work, a, b, 0, flags);
+    set_flags(&work[a..b], 0, flags);
     r
 }

@@ -1,4 +1,4 @@
--- `test_lone` meets its contract: the set is the whole of its list.
+-- `test_lone` meets its contract: the test of the items decides.
 use mathlib.Core.Path.{sym, ◌∙◌}
 use Rattle.inputs.proofs.TestLaws.{lone_passed, lone_failed}
 use Rattle.inputs.proofs.test_lone.Goals as goal

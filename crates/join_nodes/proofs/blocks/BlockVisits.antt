@@ -24,7 +24,7 @@ use Rattle.join_check.specs.declared.Tally.{Tally}
 use Rattle.join_check.proofs.Tallying.{tallied_same}
 use Rattle.join_nodes.specs.Rows.{row, path_pairs}
 use Rattle.join_nodes.specs.Visiting.{Added, Merged, Visited}
-use Rattle.join_nodes.specs.declared.Progress.{Progress}
+use Rattle.kept_rows.specs.declared.Progress.{Progress}
 use Rattle.join_nodes.proofs.RowLaws.{MetOnly}
 use Rattle.join_nodes.proofs.PathLaws.{sum_const}
 use Rattle.join_nodes.specs.block_checks.BlockChecks.{Blocked}

@@ -22,7 +22,7 @@ use Rattle.join_index.specs.Ranges.{lefts_in}
 use Rattle.join_check.specs.Checks.{RangesThere}
 use Rattle.join_nodes.specs.Rows.{path_pairs}
 use Rattle.join_nodes.specs.Narrowing.{candidate_list}
-use Rattle.join_nodes.specs.declared.Progress.{Progress}
+use Rattle.kept_rows.specs.declared.Progress.{Progress}
 use Rattle.join_nodes.specs.declared.WalkSettings.{WalkSettings}
 use Rattle.join_nodes.proofs.Narrowing.{listing_kept}
 use Rattle.join_nodes.proofs.FrameLaws.{rows_inside}

@@ -31,7 +31,7 @@ use Rattle.kept_rows.specs.Kept.{RowsKept}
 use Rattle.kept_rows.specs.Keeping.{ListThere}
 use Rattle.join_nodes.specs.Rows.{row, path_pairs}
 use Rattle.join_nodes.specs.Visiting.{RangeVisited}
-use Rattle.join_nodes.specs.declared.Progress.{Progress}
+use Rattle.kept_rows.specs.declared.Progress.{Progress}
 use Rattle.join_nodes.specs.declared.WalkSettings.{WalkSettings}
 use Rattle.join_nodes.proofs.RangeLaws.{range_length, range_split, range_one}
 use Rattle.join_nodes.proofs.RowLaws.{MetOnly, row_limit}

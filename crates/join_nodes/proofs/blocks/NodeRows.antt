@@ -23,7 +23,7 @@ use Rattle.join_index.proofs.Orders.{order_left, order_within, lead_pass, lead_f
 use Rattle.kept_rows.specs.Kept.{contained_at, containing}
 use Rattle.kept_rows.specs.Keeping.{ListThere}
 use Rattle.kept_rows.specs.checked.Recording.{RowRecordable}
-use Rattle.join_nodes.specs.declared.Progress.{Progress}
+use Rattle.kept_rows.specs.declared.Progress.{Progress}
 use Rattle.join_nodes.specs.declared.WalkSettings.{WalkSettings}
 use Rattle.join_nodes.proofs.Prefixes.{prefix-length}
 use Rattle.join_nodes.specs.blocks.Blocks.{Going, MergedEnd, PairsKept, Settles}

@@ -24,7 +24,7 @@ use Rattle.join_check.specs.Checks.{RangesThere}
 use Rattle.kept_rows.specs.Kept.{RowsKept}
 use Rattle.join_nodes.specs.Narrowing.{Candidates, slot_of}
 use Rattle.join_nodes.specs.Visiting.{Node, NodeAt, NodeVisited}
-use Rattle.join_nodes.specs.declared.Progress.{Progress}
+use Rattle.kept_rows.specs.declared.Progress.{Progress}
 use Rattle.join_nodes.specs.declared.WalkSettings.{WalkSettings}
 use Rattle.join_nodes.proofs.RangeLaws.{range_length}
 use Rattle.join_nodes.proofs.NodeFacts.{stop_asks}

@@ -29,8 +29,8 @@ use Rattle.kept_rows.specs.Keeping.{ListKept}
 use Rattle.join_nodes.specs.Rows.{row}
 use Rattle.join_nodes.specs.Narrowing.{candidate_list}
 use Rattle.join_nodes.specs.Visiting.{RangeVisited}
-use Rattle.join_nodes.specs.declared.narrow.Part.{Part}
-use Rattle.join_nodes.specs.declared.Progress.{Progress}
+use Rattle.kept_rows.specs.declared.Progress.{Progress}
+use Rattle.words.specs.declared.Part.{Part}
 use Rattle.join_nodes.specs.declared.WalkSettings.{WalkSettings}
 use Rattle.join_nodes.proofs.Narrowing.{listing_kept}
 use Rattle.join_nodes.proofs.Prefixes.{prefix-length}

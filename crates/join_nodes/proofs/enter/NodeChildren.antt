@@ -29,8 +29,8 @@ use Rattle.join_nodes.specs.Rows.{row, path_pairs}
 use Rattle.join_nodes.specs.Narrowing.{Candidates, slot_of}
 use Rattle.join_nodes.specs.Visiting.{ChildrenAt, NodeVisited, ChildrenVisited, Visited, Added, Merged}
 use Rattle.join_nodes.specs.Visiting.{Framed, beginners}
-use Rattle.join_nodes.specs.declared.narrow.Part.{Part}
-use Rattle.join_nodes.specs.declared.Progress.{Progress}
+use Rattle.kept_rows.specs.declared.Progress.{Progress}
+use Rattle.words.specs.declared.Part.{Part}
 use Rattle.join_nodes.specs.declared.WalkSettings.{WalkSettings}
 use Rattle.join_nodes.proofs.RangeLaws.{Cut, range_length, range_split}
 use Rattle.join_nodes.proofs.Narrowing.{listing_kept}

@@ -11,8 +11,8 @@ use Rattle.join_index.specs.Grouping.{key_at}
 use Rattle.join_index.specs.declared.Layout.{Layout}
 use Rattle.join_index.specs.Ranges.{lead}
 use Rattle.join_nodes.specs.Visiting.{Framed, ChildrenAt, NodeVisited, ChildrenVisited}
-use Rattle.join_nodes.specs.declared.narrow.Part.{Part}
-use Rattle.join_nodes.specs.declared.Progress.{Progress}
+use Rattle.kept_rows.specs.declared.Progress.{Progress}
+use Rattle.words.specs.declared.Part.{Part}
 use Rattle.join_nodes.specs.declared.WalkSettings.{WalkSettings}
 use Rattle.join_nodes.proofs.FrameLaws.{index_framed, range_framed}
 use Rattle.join_nodes.specs.blocks.Blocks.{MergedEnd, Settles}

@@ -19,8 +19,8 @@ use Rattle.kept_rows.proofs.RowLaws.{rows_framed}
 use Rattle.join_nodes.specs.Narrowing.{Candidates, Narrowed, candidate_list, slot_of}
 use Rattle.join_nodes.specs.Visiting.{OnPath, Node, NodeVisited, Visited}
 use Rattle.join_nodes.specs.Visiting.{Framed, RangeVisited}
-use Rattle.join_nodes.specs.declared.narrow.Part.{Part}
-use Rattle.join_nodes.specs.declared.Progress.{Progress}
+use Rattle.kept_rows.specs.declared.Progress.{Progress}
+use Rattle.words.specs.declared.Part.{Part}
 use Rattle.join_nodes.specs.declared.WalkSettings.{WalkSettings}
 use Rattle.join_nodes.proofs.NodeFacts.{last_read}
 use Rattle.join_nodes.proofs.FrameLaws.{index_framed, range_framed, framed_then, rows_inside, slot_low}

@@ -29,10 +29,9 @@ use Rattle.join_index.specs.Ranges.{lefts_in}
 use Rattle.join_check.specs.declared.Tally.{Tally}
 use Rattle.kept_rows.specs.Kept.{contained_at, containing}
 use Rattle.kept_rows.specs.checked.Recording.{RowRecordable, RowRecorded}
-use Rattle.kept_rows.specs.declared.checked.Recorded.{Recorded}
 use Rattle.join_nodes.specs.Rows.{row as counted, path_pairs}
 use Rattle.join_nodes.specs.Visiting.{Merged, RangeVisited}
-use Rattle.join_nodes.specs.declared.Progress.{Progress}
+use Rattle.kept_rows.specs.declared.Progress.{Progress}
 use Rattle.join_nodes.specs.declared.WalkSettings.{WalkSettings}
 use Rattle.join_nodes.proofs.Narrowing.{listing_kept}
 use Rattle.join_nodes.proofs.RangeLaws.{range_one}
@@ -94,7 +93,7 @@ module _ {lay : Layout} {st : WalkSettings} {q : Query} {path w : List ℕ} {d l
   pub lone_record : RowRecordable lay q w k d from to p.top
   lone_record = row_record going lo (omega arith) (omega arith) word.is lone.room
 
-  module _ {none : Tally} {w' : List ℕ} {row : Recorded} (recorded : RowRecorded lay w k d from to none p.top w' row) where
+  module _ {none : Tally} {w' : List ℕ} {row : Progress} (recorded : RowRecorded lay w k d from to none p.top w' row) where
     pairs : row.top - p.top ≡ length (containing q k)
     pairs = omega (arith, recorded.past q lone_record)
 

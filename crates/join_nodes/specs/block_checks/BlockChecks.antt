@@ -8,7 +8,7 @@ use Rattle.join_index.specs.Ranges.{lefts_in}
 use Rattle.join_check.specs.Counters.{checks_in, Tallied}
 use Rattle.join_check.specs.Checks.{range_count, RangesThere}
 use Rattle.join_check.specs.declared.Tally.{Tally}
-use Rattle.join_nodes.specs.declared.Progress.{Progress}
+use Rattle.kept_rows.specs.declared.Progress.{Progress}
 
 -- whether a budget covers so many checks after those that were made
 pub record Covered (budget : ℕ) (tally : Tally) (checks : ℕ) (r : Bool) : Type 0 where

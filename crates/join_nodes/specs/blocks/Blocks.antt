@@ -15,7 +15,7 @@ use Rattle.kept_rows.specs.Keeping.{ListKept}
 use Rattle.kept_rows.specs.checked.Recording.{RowRecordable}
 use Rattle.join_nodes.specs.Narrowing.{candidate_list}
 use Rattle.join_nodes.specs.Visiting.{Underway, Merged, Framed}
-use Rattle.join_nodes.specs.declared.Progress.{Progress}
+use Rattle.kept_rows.specs.declared.Progress.{Progress}
 use Rattle.join_nodes.specs.declared.WalkSettings.{WalkSettings}
 use Rattle.join_nodes.specs.declared.blocks.Settled.{Settled}
 

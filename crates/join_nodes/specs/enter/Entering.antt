@@ -4,7 +4,7 @@ use Rattle.join_spec.specs.Query.{Query}
 use Rattle.join_spec.specs.Walk.{goes}
 use Rattle.join_index.specs.declared.Layout.{Layout}
 use Rattle.join_nodes.specs.Visiting.{Node, ChildrenAt, NodeVisited, ChildrenVisited}
-use Rattle.join_nodes.specs.declared.Progress.{Progress}
+use Rattle.kept_rows.specs.declared.Progress.{Progress}
 use Rattle.join_nodes.specs.declared.WalkSettings.{WalkSettings}
 use Rattle.join_nodes.specs.declared.enter.Entered.{Entered}
 

@@ -5,7 +5,7 @@ use mathlib.Core.List.{List}
 use mathlib.Core.Bool.{Bool, true, false}
 use native.Mathlib.Omega.{arith}
 use lib.Dec.{ltb}
-use lib.ListN.{length, take}
+use lib.ListN.{length, take, drop}
 use lib.Seq.{drop-drop}
 use borrow.Author.Tests.{ltb-true}
 use Rattle.lists.specs.Lists.{all, memb, subset, rising, slice, upto}
@@ -15,7 +15,7 @@ use Rattle.lists.proofs.Throughout.{all_elim}
 use Rattle.lists.proofs.Filtering.{keep_agree}
 use Rattle.lists.proofs.Ranges.{range_upper}
 use Rattle.lists.proofs.Rising.{rising-drop}
-use Rattle.lists.proofs.Slices.{slice_past, frame-slice}
+use Rattle.lists.proofs.Slices.{slice_from, slice_past, length-slice, frame-slice}
 use Rattle.sets.proofs.Containment.{contained-subset}
 use Rattle.join_spec.specs.Query.{Query}
 use Rattle.join_index.specs.Grouping.{left_at, right_at}
@@ -51,19 +51,29 @@ module _ {lay : Layout} {w : List ℕ} {k : ℕ} {p : Probe} (found : Probed lay
   ranks_rise : (q : Query) → LeftThere lay q w k → rising (slice p.from p.to w) ≡ true
   ranks_rise q left = ap rising (ranks_are q left) ∙ left_rising q k
 
-  pub ranks_there : {q : Query} → LeftThere lay q w k → p.from < p.to → RanksThere lay q w p.from p.to
+  pub ranks_there : {q : Query} → LeftThere lay q w k → p.from < p.to
+      → RanksThere lay q w (take (p.to - p.from) (drop p.from w))
   ranks_there {q} left some =
+      let part = slice_from p.from p.to w in
       record {
         index = left.index;
-        some = some;
-        within = omega (arith, found.within, left.index.room);
-        below = ranks_below q left;
+        some = omega (arith, length-slice p.from p.to w ranks_within, ap length part, some);
+        below = ap (all (λ (r : ℕ). ltb r q.T)) (sym part) ∙ ranks_below q left;
       }
+    where
+      ranks_within : p.to ≤ length w
+      ranks_within = omega (arith, found.within, left.index.room)
 
-  pub find_there : {q : Query} → LeftThere lay q w k → {r : ℕ} → memb r (slice p.from p.to w) ≡ true
+  pub find_there : {q : Query} → LeftThere lay q w k → {r : ℕ} → memb r (take (p.to - p.from) (drop p.from w)) ≡ true
       → FindThere lay q w p.from p.to r
-  find_there {q} left there =
-      record { index = left.index; within = found.within; below = ranks_below q left; rise = ranks_rise q left; there = there }
+  find_there {q} left {r} there =
+      record {
+        index = left.index;
+        within = found.within;
+        below = ranks_below q left;
+        rise = ranks_rise q left;
+        there = ap (memb r) (slice_from p.from p.to w) ∙ there;
+      }
 
   -- a left set without ranks has no pair
   pub empty_put : {q : Query} {at : ℕ} {was : List ℕ} → LeftRoom lay q w k at was → p.to ≤ p.from → Put was at (row_at q k) at was
@@ -72,7 +82,7 @@ module _ {lay : Layout} {w : List ℕ} {k : ℕ} {p : Probe} (found : Probed lay
       rw row (record { written = refl; past = omega arith })
 
   -- the candidates
-  module _ {r : ℕ} {v : List ℕ} {c : Shortlist} (pivot : memb r (slice p.from p.to w) ≡ true)
+  module _ {r : ℕ} {v : List ℕ} {c : Shortlist} (pivot : memb r (take (p.to - p.from) (drop p.from w)) ≡ true)
       (listed : Shortlisted lay w p.from p.to r v c)
       {q : Query} {at : ℕ} {was : List ℕ} (there : LeftRoom lay q w k at was)
     where
@@ -83,7 +93,7 @@ module _ {lay : Layout} {w : List ℕ} {k : ℕ} {p : Probe} (found : Probed lay
       holding s = subset (slice p.from p.to w) (right_at q s)
 
       some : 0 < length (left_at q k)
-      some = memb-some r (left_at q k) (ap (memb r) (sym (ranks_are q there.left)) ∙ pivot)
+      some = memb-some r (left_at q k) (ap (memb r) (sym (ranks_are q there.left) ∙ slice_from p.from p.to w) ∙ pivot)
 
       same : (s : ℕ) → s < length q.rights → holding s ≡ contained_at q k s
       same s below =

@@ -5,14 +5,15 @@ use mathlib.Core.List.{List}
 use mathlib.Core.Bool.{true}
 use native.Mathlib.Omega.{arith}
 use lib.Dec.{ltb}
-use lib.ListN.{length, get_or, take, drop}
+use lib.ListN.{length, get_or}
 use borrow.Author.Tests.{ltb-true}
 use Rattle.lists.specs.Lists.{all, memb, rising, slice, upto}
 use Rattle.lists.proofs.Membership.{memb_at}
+use Rattle.lists.proofs.Throughout.{all_at}
 use Rattle.lists.proofs.Filtering.{all_keep}
 use Rattle.lists.proofs.Ranges.{all_upto}
 use Rattle.lists.proofs.Rising.{rising-keep, rising-range}
-use Rattle.lists.proofs.Slices.{slice_from, length-slice, get_d_slice, all_slice}
+use Rattle.lists.proofs.Slices.{length-slice, get_d_slice}
 use Rattle.join_spec.specs.Query.{Query}
 use Rattle.join_index.specs.Grouping.{right_at}
 use Rattle.join_index.specs.Ground.{inverted_list}
@@ -23,7 +24,7 @@ use Rattle.words.specs.Merges.{Rising}
 use Rattle.words.specs.flags.Flags.{flag_room, Below}
 use Rattle.join_index.specs.Asking.{RankThere, PlacesThere}
 use Rattle.join_index.proofs.Places.{places_below}
-use Rattle.join_pairs.specs.declared.shortlists.Span.{Span}
+use Rattle.words.specs.declared.Part.{Part}
 use Rattle.join_pairs.specs.shortlists.Shortlists.{Located, RanksThere}
 
 -- the inverted list of a rank lies between two offsets, and its slot below the rows
@@ -50,7 +51,7 @@ inverted_stored {lay} {q} {w} {r} there =
     }
 
 -- the inverted list where it was found: rising places of right sets
-module _ {lay : Layout} {q : Query} {w : List ℕ} {r : ℕ} {s : Span} (located : Located lay w r s)
+module _ {lay : Layout} {q : Query} {w : List ℕ} {r : ℕ} {s : Part} (located : Located lay w r s)
     (there : RankThere lay q w r) where
   pub list_part : slice s.from s.to w ≡ inverted_list q r
   list_part =
@@ -95,19 +96,11 @@ slice-memb {w} {i} word from to low high within =
     subst (λ (n : ℕ). memb n (slice from to w) ≡ true) (slice_at w from to i low high ∙ sym word.is)
     (memb_at (slice from to w) (i - from) 0 (omega (arith, length-slice from to w within)))
 
--- a word of a part, read from the part
-pub part_word : (from to i : ℕ) (w : List ℕ) → from + i < to → get_or w (from + i) 0 < 4294967296
-    → Word w (from + i) (get_or (take (to - from) (drop from w)) i 0)
-part_word from to i w more small =
-    let is = ap (λ (l : List ℕ). get_or l i 0) (sym (slice_from from to w)) ∙ get_d_slice 0 from to i w more in
-    record { is = is; small = omega (arith, is) }
-
--- a word of a part that holds ranks is a rank
-pub slice_rank : {lay : Layout} {q : Query} {w : List ℕ} {from to : ℕ} → RanksThere lay q w from to
-    → {i r : ℕ} → Word w i r → from ≤ i → i < to → RankThere lay q w r
-slice_rank {lay} {q} {w} {from} {to} there {i} {r} word low high =
-    let test = all_slice (λ (k : ℕ). ltb k q.T) from to w there.within there.below i low high in
+-- one of some ranks
+pub rank_of : {lay : Layout} {q : Query} {w ranks : List ℕ} → RanksThere lay q w ranks → (i : ℕ) → i < length ranks
+    → {r : ℕ} → r ≡ get_or ranks i 0 → RankThere lay q w r
+rank_of {q = q} {ranks = ranks} there i more is =
     record {
       index = there.index;
-      below = ltb-true r q.T (ap (λ (k : ℕ). ltb k q.T) word.is ∙ test);
+      below = omega (arith, is, ltb-true (get_or ranks i 0) q.T (all_at (λ (k : ℕ). ltb k q.T) 0 ranks there.below i more));
     }

@@ -17,7 +17,7 @@ use Rattle.join_index.specs.Grouping.{right_at}
 use Rattle.join_index.specs.declared.Layout.{Layout}
 use Rattle.words.specs.Words.{Word}
 use Rattle.words.specs.shared.Sharing.{Apart, Intersected}
-use Rattle.join_pairs.specs.declared.shortlists.Span.{Span}
+use Rattle.words.specs.declared.Part.{Part}
 use Rattle.join_pairs.specs.shortlists.Shortlists.{Located, SpanThere, RankMet}
 use Rattle.join_pairs.proofs.shortlists.Inverted.{inverted_stored, list_part}
 
@@ -44,7 +44,7 @@ module _ {lay : Layout} {q : Query} {w : List ℕ} {r pivot from to : ℕ} (ther
             ∙ keep_all (λ (s : ℕ). memb pivot (right_at p s)) (slice from to w) t.holding);
       }
 
-  module _ {list : Span} {start : ℕ} (located : Located lay w r list) (word : Word w (lay.offsets + r) start) where
+  module _ {list : Part} {start : ℕ} (located : Located lay w r list) (word : Word w (lay.offsets + r) start) where
     pub met_apart : Apart to list.from list.to (lay.slots + start) w
     met_apart =
         let s = inverted_stored there.rank in

@@ -22,7 +22,7 @@ use Rattle.join_index.proofs.GroundLaws.{offsets_rise}
 use Rattle.words.specs.Words.{Word}
 use Rattle.join_index.specs.Asking.{RankThere, PlacesThere}
 use Rattle.join_index.proofs.Reading.{index_frame}
-use Rattle.join_pairs.specs.declared.shortlists.Span.{Span}
+use Rattle.words.specs.declared.Part.{Part}
 use Rattle.join_pairs.specs.shortlists.Shortlists.{Located, SpanThere, RankMet, FindThere, ShortlistOf}
 use Rattle.join_pairs.proofs.shortlists.Inverted.{inverted_stored, list_part, list_places, list_rising, slice_at, slice-memb}
 
@@ -70,7 +70,7 @@ module _ {lay : Layout} {q : Query} {w : List ℕ} {from to pivot : ℕ} (there 
             (omega (arith, length-slice from to w within)),
       )
 
-  pub sifting_start : {s : Span} → Located lay w pivot s → Sifting lay q w from to pivot w s.from s.to from
+  pub sifting_start : {s : Part} → Located lay w pivot s → Sifting lay q w from to pivot w s.from s.to from
   sifting_start located =
       let part = list_part located pivot_there in
       let stored = inverted_stored pivot_there in
@@ -119,7 +119,7 @@ module _ {lay : Layout} {q : Query} {w : List ℕ} {from to pivot : ℕ} (there 
                 omega (arith, sifting.high more, same_offset r (omega (arith, rank_is)));
           }
 
-      module _ {u : List ℕ} {s : Span} (met : RankMet lay v r pivot a b u s) where
+      module _ {u : List ℕ} {s : Part} (met : RankMet lay v r pivot a b u s) where
         part : slice s.from s.to u ≡ keep (λ (x : ℕ). memb r (right_at q x)) (slice a b v)
         part = met.is q sifting_span
 

@@ -1,7 +1,7 @@
 -- `join_pairs::write_left` meets its contract: a row that is kept has all right sets that contain the left set.
 use native.Mathlib.Omega.{arith}
 use Rattle.lists.proofs.Slices.{changed_none}
-use Rattle.join_pairs.proofs.Copying.{row_words, kept_room, kept_put}
+use Rattle.join_pairs.proofs.Copying.{row_words, row_within, kept_room, kept_put}
 use Rattle.join_pairs.proofs.write_left.Goals as goal
 
 pub overflow_add-starts : goal.overflow_add-starts
@@ -27,6 +27,10 @@ overflow_add-ends c = omega (arith, (row_words c.requires.some_query.holds).1)
 
 pub word_at-to-requires : goal.word_at-to-requires
 word_at-to-requires c = (row_words c.requires.some_query.holds).1
+
+pub slice_bounds-write_kept-end : goal.slice_bounds-write_kept-end
+slice_bounds-write_kept-end c =
+    (row_within c.requires.some_query.holds c.word_at-from.ensures c.word_at-to.ensures (omega (arith, c.if-from-eq0.false))).1
 
 pub write_kept-requires : goal.write_kept-requires
 write_kept-requires c =

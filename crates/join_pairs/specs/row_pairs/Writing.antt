@@ -1,6 +1,6 @@
 -- Inner: pairs written into a list from a place on: what is asked of the room.
-use Rattle.std.specs.Prelude.{ℕ, ◌+◌, ◌≤◌, ◌<◌, ◌≡◌, List, [], Bool, true, length, get_or}
-use Rattle.lists.specs.Lists.{memb, subset, slice}
+use Rattle.std.specs.Prelude.{ℕ, ◌+◌, ◌≤◌, ◌<◌, ◌≡◌, List, [], Bool, true, ltb, length, get_or}
+use Rattle.lists.specs.Lists.{all, memb, subset, slice}
 use Rattle.sets.specs.Limits.{max_sets}
 use Rattle.sets.specs.Signatures.{signature}
 use Rattle.join_spec.specs.Query.{Query}
@@ -10,7 +10,6 @@ use Rattle.join_index.specs.declared.Layout.{Layout}
 use Rattle.join_check.specs.declared.Probe.{Probe}
 use Rattle.join_index.specs.Asking.{LeftThere, PlacesThere}
 use Rattle.words.specs.Merges.{Rising}
-use Rattle.words.specs.flags.Flags.{Below}
 use Rattle.kept_rows.specs.Kept.{contained_at}
 use Rattle.join_pairs.specs.row_pairs.Containing.{pairs_with, row_among}
 
@@ -20,11 +19,11 @@ pub record PushRoom (at k s : ℕ) (paired : Bool) (pairs : List ℕ) : Type 0 w
   pub right : s < max_sets
   pub room : at + length (onto_pair paired k s []) ≤ length pairs
 
--- room for the pairs of one left place with the right places in work[from..to]
-pub record KeptRoom (w : List ℕ) (from to k at : ℕ) (pairs : List ℕ) : Type 0 where
+-- room for the pairs of one left place with the right places of a row
+pub record KeptRoom (row : List ℕ) (k at : ℕ) (pairs : List ℕ) : Type 0 where
   pub left : k < max_sets
-  pub right : Below max_sets from to w
-  pub room : at + length (pairs_with k (slice from to w)) ≤ length pairs
+  pub right : all (λ s. ltb s max_sets) row ≡ true
+  pub room : at + length (pairs_with k row) ≤ length pairs
 
 -- p is the rest of the left set k, to be looked for in the right sets listed in work[from..to], and there is room for their pairs
 pub record RowRoom (lay : Layout) (q : Query) (w : List ℕ) (p : Probe) (k from to at : ℕ) (pairs : List ℕ) : Type 0 where

@@ -7,11 +7,11 @@ use Rattle.join_spec.specs.Query.{Query}
 use Rattle.join_index.specs.Grouping.{right_at}
 use Rattle.join_index.specs.declared.Layout.{Layout}
 use Rattle.join_index.specs.Asking.{Index, RankThere, PlacesThere}
-use Rattle.join_pairs.specs.declared.shortlists.Span.{Span}
+use Rattle.words.specs.declared.Part.{Part}
 use Rattle.join_pairs.specs.declared.shortlists.Shortlist.{Shortlist}
 
 -- the span lies between the offsets of the rank
-pub record Located (lay : Layout) (w : List ℕ) (r : ℕ) (s : Span) : Type 0 where
+pub record Located (lay : Layout) (w : List ℕ) (r : ℕ) (s : Part) : Type 0 where
   pub from : s.from ≡ lay.index + get_or w (lay.offsets + r) 0
   pub to : s.to ≡ lay.index + get_or w (lay.offsets + r + 1) 0
 
@@ -25,7 +25,7 @@ pub record SpanThere (lay : Layout) (q : Query) (w : List ℕ) (r pivot from to 
   pub high : to ≤ lay.slots + get_or w (lay.offsets + r) 0
 
 -- w became w': the span has those of the places whose right sets hold the rank; it ends with the slot at the latest
-pub record RankMet (lay : Layout) (w : List ℕ) (r pivot from to : ℕ) (w' : List ℕ) (s : Span) : Type 0 where
+pub record RankMet (lay : Layout) (w : List ℕ) (r pivot from to : ℕ) (w' : List ℕ) (s : Part) : Type 0 where
   pub changed : Changed lay.slots lay.row_starts w w'
   pub order : s.from ≤ s.to
   pub high : s.to ≤ lay.slots + get_or w (lay.offsets + r + 1) 0
@@ -33,12 +33,11 @@ pub record RankMet (lay : Layout) (w : List ℕ) (r pivot from to : ℕ) (w' : L
       (q : Query) → SpanThere lay q w r pivot from to
       → slice s.from s.to w' ≡ keep (λ x. memb r (right_at q x)) (slice from to w)
 
--- work[from..to] are ranks, and not none
-pub record RanksThere (lay : Layout) (q : Query) (w : List ℕ) (from to : ℕ) : Type 0 where
+-- these are ranks, and not none
+pub record RanksThere (lay : Layout) (q : Query) (w ranks : List ℕ) : Type 0 where
   pub index : Index lay q w
-  pub some : from < to
-  pub within : to ≤ length w
-  pub below : all (λ r. ltb r q.T) (slice from to w) ≡ true
+  pub some : 0 < length ranks
+  pub below : all (λ r. ltb r q.T) ranks ≡ true
 
 -- work[from..to], below the slots, are rising ranks, the pivot among them
 pub record FindThere (lay : Layout) (q : Query) (w : List ℕ) (from to pivot : ℕ) : Type 0 where

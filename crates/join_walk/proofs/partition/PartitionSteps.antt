@@ -25,7 +25,7 @@ use Rattle.join_index.proofs.Orders.{range_key}
 use Rattle.kept_rows.specs.Keeping.{ListThere, ListKept}
 use Rattle.join_nodes.specs.Narrowing.{slot_of}
 use Rattle.join_nodes.specs.Visiting.{Node, NodeVisited}
-use Rattle.join_nodes.specs.declared.Progress.{Progress}
+use Rattle.kept_rows.specs.declared.Progress.{Progress}
 use Rattle.join_nodes.specs.declared.WalkSettings.{WalkSettings}
 use Rattle.join_nodes.proofs.Narrowing.{listing_same, listing_few, narrow_first}
 use Rattle.join_nodes.proofs.NodeFacts.{on_key, unasked_goes}

@@ -27,7 +27,7 @@ use Rattle.join_index.specs.Ranges.{lefts_in, left_in, RangeEnd}
 use Rattle.join_nodes.specs.Narrowing.{candidate_list, slot_of}
 use Rattle.join_nodes.specs.Visiting.{Node, Children, After, ChildrenAt}
 use Rattle.join_nodes.specs.Visiting.{Visited, Framed, NodeVisited}
-use Rattle.join_nodes.specs.declared.Progress.{Progress}
+use Rattle.kept_rows.specs.declared.Progress.{Progress}
 use Rattle.join_nodes.specs.declared.WalkSettings.{WalkSettings}
 use Rattle.join_nodes.proofs.Prefixes.{prefix-take, prefix-length}
 use Rattle.join_nodes.proofs.Narrowing.{candidate_path, listing_kept, listing_few}

@@ -20,7 +20,7 @@ use Rattle.join_index.specs.Ranges.{left_in, RangeEnd}
 use Rattle.join_check.specs.declared.Tally.{Tally}
 use Rattle.join_nodes.specs.Visiting.{Underway, Children, beginners}
 use Rattle.join_nodes.specs.Visiting.{RangeVisited}
-use Rattle.join_nodes.specs.declared.Progress.{Progress}
+use Rattle.kept_rows.specs.declared.Progress.{Progress}
 use Rattle.join_nodes.specs.declared.WalkSettings.{WalkSettings}
 use Rattle.join_nodes.proofs.Groups.{FirstGroup}
 use Rattle.join_nodes.proofs.Prefixes.{keep-further}

@@ -11,7 +11,7 @@ use Rattle.join_spec.specs.Node.{last_of}
 use Rattle.join_index.specs.declared.Layout.{Layout}
 use Rattle.join_nodes.specs.Narrowing.{slot_of, SomePath}
 use Rattle.join_nodes.specs.Visiting.{Node, ChildrenAt, NodeVisited, ChildrenVisited}
-use Rattle.join_nodes.specs.declared.Progress.{Progress}
+use Rattle.kept_rows.specs.declared.Progress.{Progress}
 use Rattle.join_nodes.specs.declared.WalkSettings.{WalkSettings}
 use Rattle.join_nodes.proofs.PartLoop.{continuing_start, continuing_end}
 use Rattle.join_nodes.specs.enter.Entering.{NodeEntered}

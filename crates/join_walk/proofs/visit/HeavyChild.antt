@@ -22,7 +22,7 @@ use Rattle.kept_rows.specs.Kept.{RowsKept}
 use Rattle.join_nodes.specs.Narrowing.{slot_of}
 use Rattle.join_nodes.specs.Visiting.{Underway, Node, Children, ChildrenAt, beginners}
 use Rattle.join_nodes.specs.Visiting.{Visited, Framed, NodeVisited, ChildrenVisited}
-use Rattle.join_nodes.specs.declared.Progress.{Progress}
+use Rattle.kept_rows.specs.declared.Progress.{Progress}
 use Rattle.join_nodes.specs.declared.WalkSettings.{WalkSettings}
 use Rattle.join_nodes.proofs.RangeLaws.{range_length, range_split}
 use Rattle.join_nodes.proofs.VisitLaws.{added_none, visited_some, kept_some, underway_next, visited_then, visited_before, visited_early, visited_late}

@@ -7,7 +7,7 @@ use Rattle.join_index.specs.Asking.{Index}
 use Rattle.join_index.specs.Ranges.{lefts_in}
 use Rattle.kept_rows.specs.Kept.{RowsKept}
 use Rattle.join_nodes.specs.Visiting.{Underway, beginners}
-use Rattle.join_nodes.specs.declared.Progress.{Progress}
+use Rattle.kept_rows.specs.declared.Progress.{Progress}
 use Rattle.join_nodes.specs.declared.WalkSettings.{WalkSettings}
 
 -- the left sets in left_order[lo..hi] begin with a path of d ranks: those of a child, or of a partition

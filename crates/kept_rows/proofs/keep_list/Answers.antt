@@ -3,8 +3,8 @@ use native.Mathlib.Omega.{arith}
 use Rattle.kept_rows.proofs.Sharing.{list_same, copy_room, copy_shared, list_kept}
 use Rattle.kept_rows.proofs.keep_list.Goals as goal
 
-pub returns-then-hi-lo : goal.returns-then-hi-lo
-returns-then-hi-lo c = list_same
+pub returns-then-node : goal.returns-then-node
+returns-then-node c = list_same
 
 pub returns-then-lay-top : goal.returns-then-lay-top
 returns-then-lay-top c = list_same

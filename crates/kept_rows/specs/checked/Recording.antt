@@ -6,7 +6,7 @@ use Rattle.join_index.specs.declared.Layout.{Layout}
 use Rattle.join_check.specs.declared.Tally.{Tally}
 use Rattle.join_check.specs.Checks.{RowThere, RowChecked}
 use Rattle.kept_rows.specs.Kept.{contained_at, containing, RowsKept}
-use Rattle.kept_rows.specs.declared.checked.Recorded.{Recorded}
+use Rattle.kept_rows.specs.declared.Progress.{Progress}
 
 -- the left set k can be checked so; the places, in their order, miss no right set that contains it; and from top on there is room for
 -- all of them
@@ -18,7 +18,7 @@ pub record RowRecordable (lay : Layout) (q : Query) (w : List ℕ) (k e from to 
   pub complete : containing q k ≡ keep (contained_at q k) (slice from to w)
 
 -- w became w': the left set was checked, and its row is kept
-pub record RowRecorded (lay : Layout) (w : List ℕ) (k e from to : ℕ) (tally : Tally) (top : ℕ) (w' : List ℕ) (r : Recorded)
+pub record RowRecorded (lay : Layout) (w : List ℕ) (k e from to : ℕ) (tally : Tally) (top : ℕ) (w' : List ℕ) (r : Progress)
     : Type 0 where
   pub size : length w' ≡ length w
   pub frame : take lay.row_starts w' ≡ take lay.row_starts w

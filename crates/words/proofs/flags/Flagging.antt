@@ -10,7 +10,7 @@ use lib.ListN.{length, get_or, take, drop, set, replicate, length-set, length-re
 use lib.Seq.{get_or-set_same, get_or-set_other}
 use borrow.Author.Tests.{ltb-true, eqb-true, eqb-false}
 use Rattle.std.proofs.lemmas.List.{take_all, take_more}
-use Rattle.lists.specs.Lists.{one, all, memb, slice}
+use Rattle.lists.specs.Lists.{one, all, memb}
 use Rattle.lists.proofs.Counting.{one_bound}
 use Rattle.lists.proofs.Bools.{by_test, or_left_false, or_right_false}
 use Rattle.lists.proofs.Zeros.{get_d_zeros}
@@ -56,13 +56,17 @@ flagged_own f = record { is = λ s low. f.is s low ∙ ap one (sym (flag_tells f
 pub flag_small : {test : ℕ → Bool} {flags : List ℕ} → Flagged test flags → (s : ℕ) → s < length flags → get_or flags s 0 ≤ 1
 flag_small {test} {flags} f s low = subst (λ (n : ℕ). n ≤ 1) (sym (f.is s low)) (one_bound (test s))
 
+-- the same of the part alone
+pub part_below : {bound lo hi : ℕ} {w : List ℕ} (flags : List ℕ) → length flags ≡ bound → Below bound lo hi w
+    → all (λ s. ltb s (length flags)) (take (hi - lo) (drop lo w)) ≡ true
+part_below {lo = lo} {hi} {w} flags size p =
+    let test = λ (s : ℕ). ltb s (length flags) in
+    ap (all test) (sym (slice_from lo hi w)) ∙ (below_length flags size p).below
+
 -- a word of a part that is gone through
-pub item_below : {bound lo hi : ℕ} {w : List ℕ} → Below bound lo hi w
-    → (k : ℕ) → k < length (take (hi - lo) (drop lo w)) → get_or (take (hi - lo) (drop lo w)) k 0 < bound
-item_below {bound} {lo} {hi} {w} p k low =
-    let test = λ (s : ℕ). ltb s bound in
-    let part = take (hi - lo) (drop lo w) in
-    ltb-true (get_or part k 0) bound (all_at test 0 part (ap (all test) (sym (slice_from lo hi w)) ∙ p.below) k low)
+pub item_below : (part : List ℕ) {bound : ℕ} → all (λ s. ltb s bound) part ≡ true
+    → (k : ℕ) → k < length part → get_or part k 0 < bound
+item_below part {bound} p k low = ltb-true (get_or part k 0) bound (all_at (λ (s : ℕ). ltb s bound) 0 part p k low)
 
 -- the flags of the words passed are set: at the start, after one word more, and at the end
 pub setting_start : (flag : ℕ) (flags : List ℕ) → FlagsSet flag [] flags flags
@@ -93,11 +97,9 @@ setting_step {flag} list k {was} {flags} f below low =
           ∙ f.other s (or_left_false (memb s (take k list)) (eqb s x) neither);
     }
 
-pub setting_end : (lo hi : ℕ) (w : List ℕ) {flag k : ℕ} {was flags : List ℕ} → FlagsSet flag (take k (take (hi - lo) (drop lo w))) was flags
-    → length (take (hi - lo) (drop lo w)) ≤ k → FlagsSet flag (slice lo hi w) was flags
-setting_end lo hi w {flag} {k} {was} {flags} f past =
-    let part = take (hi - lo) (drop lo w) in
-    subst (λ (l : List ℕ). FlagsSet flag l was flags) (take_all k part past ∙ sym (slice_from lo hi w)) f
+pub setting_end : (part : List ℕ) {flag k : ℕ} {was flags : List ℕ} → FlagsSet flag (take k part) was flags
+    → length part ≤ k → FlagsSet flag part was flags
+setting_end part {flag} {k} {was} {flags} f past = subst (λ (l : List ℕ). FlagsSet flag l was flags) (take_all k part past) f
 
 -- where no number was flagged, the words of a list now are; and their flags are taken away again
 pub flags_put : {list was flags : List ℕ} → Flagged (λ s. false) was → FlagsSet 1 list was flags → Flagged (λ s. memb s list) flags

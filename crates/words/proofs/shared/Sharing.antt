@@ -1,17 +1,17 @@
 -- What is found of the second of two rising parts in the first, or kept of it by the flags of the first, is what they share.
-use Prim.Native.Nat.{ℕ, ◌≤◌}
+use Prim.Native.Nat.{ℕ, ◌-◌, ◌≤◌}
 use mathlib.Core.Path.{◌≡◌, sym, ap, ◌∙◌}
 use mathlib.Core.List.{List}
 use mathlib.Core.Bool.{true, and_comm}
 use native.Mathlib.Omega.{arith}
 use lib.Dec.{ltb}
-use lib.ListN.{length}
+use lib.ListN.{length, take, drop}
 use borrow.Author.Tests.{ltb-true}
 use Rattle.lists.specs.Lists.{all, keep, memb, rising, slice}
 use Rattle.lists.specs.Parts.{Changed}
 use Rattle.lists.proofs.Filtering.{keep_same_where, memb-keep}
 use Rattle.lists.proofs.Rising.{rising-keep, rising_same}
-use Rattle.lists.proofs.Slices.{frame-slice}
+use Rattle.lists.proofs.Slices.{slice_from, frame-slice}
 use Rattle.words.specs.Merges.{Rising}
 use Rattle.words.specs.flags.Flags.{Below, Flagged, is_flagged, Kept}
 use Rattle.words.proofs.flags.Flagging.{flag_tells, flagged_same}
@@ -65,5 +65,6 @@ module _ (a : ℕ) {b out hi : ℕ} {w w' : List ℕ} (low : b ≤ out) (changed
         below = ap (all (λ s. ltb s bound)) part_same ∙ p.below;
       }
 
-  pub flagged_changed : {flags : List ℕ} → Flagged (λ s. memb s (slice a b w)) flags → Flagged (λ s. memb s (slice a b w')) flags
-  flagged_changed f = flagged_same f (λ s. sym (ap (memb s) part_same))
+  pub flagged_changed : {flags : List ℕ} → Flagged (λ s. memb s (slice a b w)) flags
+      → Flagged (λ s. memb s (take (b - a) (drop a w'))) flags
+  flagged_changed f = flagged_same f (λ s. ap (memb s) (sym part_same ∙ slice_from a b w'))

@@ -1,9 +1,8 @@
--- Inner: where a word would be in a rising part of a list of words.
-use Rattle.std.specs.Prelude.{ℕ, ◌≤◌, ◌<◌, List, get_or}
+-- Inner: where a word would be in a rising list of words.
+use Rattle.std.specs.Prelude.{ℕ, ◌≤◌, ◌<◌, List, length, get_or}
 
--- work[a..r] is below x, and work[r..b] is not
-pub record Parted (a b x : ℕ) (w : List ℕ) (r : ℕ) : Type 0 where
-  pub low : a ≤ r
-  pub high : r ≤ b
-  pub under : (i : ℕ) → a ≤ i → i < r → get_or w i 0 < x
-  pub over : (i : ℕ) → r ≤ i → i < b → x ≤ get_or w i 0
+-- part[..r] is below x, and part[r..] is not
+pub record Parted (x : ℕ) (part : List ℕ) (r : ℕ) : Type 0 where
+  pub high : r ≤ length part
+  pub under : (i : ℕ) → i < r → get_or part i 0 < x
+  pub over : (i : ℕ) → r ≤ i → i < length part → x ≤ get_or part i 0

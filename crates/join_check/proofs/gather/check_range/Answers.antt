@@ -9,7 +9,7 @@ use Rattle.join_check.proofs.gather.check_range.Goals as goal
 pub check_row-r-requires : goal.check_row-r-requires
 check_row-r-requires c =
     let i = c.loop-i.i in
-    let rights = c.args.to - c.args.from in
+    let rights = c.args.node.now.to - c.args.node.now.from in
     let single : i + 1 - i ≡ 1 = omega arith in
     let times : (i + 1 - i) * rights ≡ rights = ap (λ (n : ℕ). n * rights) single ∙ one-mul rights in
     let room = left_room c.loop-i.invariant i (i + 1) (omega arith) (omega arith) (omega arith) c.requires.from_bound in

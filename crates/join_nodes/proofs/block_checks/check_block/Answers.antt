@@ -10,7 +10,7 @@ use Rattle.join_spec.specs.Query.{Query}
 use Rattle.join_index.specs.Ranges.{lefts_in}
 use Rattle.join_check.specs.Counters.{checks_in, Tallied}
 use Rattle.join_check.specs.Checks.{range_count, RangesThere}
-use Rattle.join_nodes.specs.declared.Progress.{Progress}
+use Rattle.kept_rows.specs.declared.Progress.{Progress}
 use Rattle.join_nodes.proofs.VisitLaws.{for_some}
 use Rattle.join_nodes.proofs.block_checks.check_block.Goals as goal
 

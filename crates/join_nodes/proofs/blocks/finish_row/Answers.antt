@@ -10,7 +10,7 @@ use Rattle.join_check.specs.Counters.{checks_in, Tallied}
 use Rattle.join_check.specs.Checks.{row_count}
 use Rattle.kept_rows.specs.Kept.{RowsKept}
 use Rattle.kept_rows.specs.checked.Recording.{RowRecordable}
-use Rattle.join_nodes.specs.declared.Progress.{Progress}
+use Rattle.kept_rows.specs.declared.Progress.{Progress}
 use Rattle.join_nodes.proofs.VisitLaws.{for_some}
 use Rattle.join_nodes.proofs.blocks.finish_row.Goals as goal
 

@@ -6,7 +6,7 @@ use Rattle.lists.proofs.Slices.{changed_none}
 use Rattle.join_spec.specs.Query.{Query}
 use Rattle.join_index.specs.declared.Layout.{Layout}
 use Rattle.words.specs.Words.{Word}
-use Rattle.join_pairs.specs.declared.shortlists.Span.{Span}
+use Rattle.words.specs.declared.Part.{Part}
 use Rattle.join_pairs.specs.shortlists.Shortlists.{SpanThere, RankMet, FindThere, Shortlisted}
 use Rattle.join_pairs.proofs.shortlists.Meeting.{changed_then}
 use Rattle.join_pairs.proofs.shortlists.Sifting.{some_ranks, pivot_there, sifting_start, sifting_span, sifting_step, sifting_end}
@@ -27,7 +27,7 @@ module _ {lay : Layout} {w : List ℕ} {from to pivot : ℕ} {v : List ℕ} {a b
     searching-span : {q : Query} → FindThere lay q w from to pivot → SpanThere lay q v r pivot a b
     searching-span {q} there = sifting_span there searching.changed.low (searching.sifting q there) searching.low more word
 
-    searching-step : {u : List ℕ} {s : Span} → RankMet lay v r pivot a b u s
+    searching-step : {u : List ℕ} {s : Part} → RankMet lay v r pivot a b u s
         → Searching lay w from to pivot u s.from s.to (i + 1)
     searching-step met =
         record {

@@ -25,7 +25,7 @@ putting_start side tags numbers ends items file at so =
 -- what a turn has: the set at place k is not bad, its tags are in the table, and its record has room
 record Turn (tags items file : List ℕ) (k start end to : ℕ) : Type 0 where
   set : GoodSet (length tags / tag_length) k start end items
-  fit : ItemsFit tags items start end
+  fit : ItemsFit tags (between start end items)
   room : to + record_length (end - start) ≤ length file
 
 module _ (side : Side) (tags numbers ends items file₀ : List ℕ) (at : ℕ) (file : List ℕ) (k start to : ℕ)
@@ -88,12 +88,26 @@ now_turn : (p : In-loop-k)
     p.loop-k.start (get_or p.args.from.now.sets.ends.now p.loop-k.k 0) p.loop-k.to
 now_turn p = turn _ _ _ _ _ _ _ _ _ _ _ p.requires.good_side p.requires.in_bounds p.loop-k-test.true p.loop-k.invariant
 
+pub offset_bounds-items-start : goal.offset_bounds-items-start
+offset_bounds-items-start c =
+    let set = (now_turn (goal.at.offset_bounds-items-start c).In-loop-k).set in omega (arith, set.ordered, set.entries)
+
+pub slice_bounds-put_record-count : goal.slice_bounds-put_record-count
+slice_bounds-put_record-count c = (now_turn (goal.at.slice_bounds-put_record-count c).In-loop-k).set.ordered
+
+pub slice_bounds-put_record-start : goal.slice_bounds-put_record-start
+slice_bounds-put_record-start c = (now_turn (goal.at.slice_bounds-put_record-start c).In-loop-k).set.ordered
+
+pub slice_bounds-put_record-end : goal.slice_bounds-put_record-end
+slice_bounds-put_record-end c = (now_turn (goal.at.slice_bounds-put_record-end c).In-loop-k).set.within
+
 pub put_record-requires : goal.put_record-requires
 put_record-requires c =
     let now = now_turn (goal.at.put_record-requires c).In-loop-k in
+    let n = length-between c.loop-k.start (get_or c.args.from.now.sets.ends.now c.loop-k.k 0) c.args.from.now.sets.items.now now.set.within in
     record {
       items_fit = now.fit;
-      start_bound = (now.set.short, now.room);
+      in_bounds = (omega (arith, now.set.short, n), omega (arith, now.room, n));
     }
 
 pub overflow_sub-end : goal.overflow_sub-end

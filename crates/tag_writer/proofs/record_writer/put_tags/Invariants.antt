@@ -3,23 +3,21 @@
 use mathlib.Core.Path.{◌≡◌}
 use mathlib.Core.List.{List}
 use Prim.Native.Nat.{ℕ, ◌+◌, ◌*◌, ◌-◌, ◌≤◌}
-use lib.ListN.{length}
-use Rattle.sets.specs.Collections.{between}
+use lib.ListN.{length, drop}
 use Rattle.tag_file.specs.Format.{tag_length, tag_bytes}
 use lib.Seq.{sets}
 use Rattle.tag_writer_spec.specs.Writer.{item_tags}
 use Rattle.tag_writer.proofs.record_writer.put_tags.Given as goal
 
--- the tags of the items from start up to end, as bytes
-abbrev pub run : List ℕ → List ℕ → ℕ → ℕ → List ℕ
-run tags items start end = tag_bytes (item_tags tags (between start end items))
+-- the tags of the items from a place on, as bytes
+abbrev pub run : List ℕ → List ℕ → ℕ → List ℕ
+run tags set i = tag_bytes (item_tags tags (drop i set))
 
-pub record PuttingTags (tags items : List ℕ) (start end : ℕ) (file₀ : List ℕ) (at : ℕ) (file : List ℕ) (i to : ℕ) : Type 0 where
-  pub above : start ≤ i
-  pub within : i ≤ end
+pub record PuttingTags (tags set file₀ : List ℕ) (at : ℕ) (file : List ℕ) (i to : ℕ) : Type 0 where
+  pub within : i ≤ length set
   pub long : length file ≡ length file₀
-  pub place : to + tag_length * (end - i) ≡ at + tag_length * (end - start)
-  pub together : sets file to (run tags items i end) ≡ sets file₀ at (run tags items start end)
+  pub place : to + tag_length * (length set - i) ≡ at + tag_length * length set
+  pub together : sets file to (run tags set i) ≡ sets file₀ at (run tags set 0)
 
 abbrev pub invariant-loop-item : goal.invariant-loop-item
-invariant-loop-item l = PuttingTags l.tags l.items l.start l.end l.initial.file l.at l.file (l.start + l.item-index) l.to
+invariant-loop-item l = PuttingTags l.tags l.set l.initial.file l.at l.file l.item-index l.to

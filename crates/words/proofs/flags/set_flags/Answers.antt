@@ -6,12 +6,12 @@ pub loop-s-init : goal.loop-s-init
 loop-s-init c = setting_start c.args.flag c.args.flags.now
 
 pub bounds-flags-s : goal.bounds-flags-s
-bounds-flags-s c = omega (arith, item_below c.requires c.loop-s.s-index c.loop-s-test.true, c.loop-s.invariant.size)
+bounds-flags-s c = omega (arith, item_below c.args.part.now c.requires c.loop-s.s-index c.loop-s-test.true, c.loop-s.invariant.size)
 
 pub loop-s-preserved : goal.loop-s-preserved
 loop-s-preserved c =
     setting_step _ c.loop-s.s-index c.loop-s.invariant c.loop-s-test.true
-    (omega (arith, item_below c.requires c.loop-s.s-index c.loop-s-test.true, c.loop-s.invariant.size))
+    (omega (arith, item_below c.args.part.now c.requires c.loop-s.s-index c.loop-s-test.true, c.loop-s.invariant.size))
 
 pub returns : goal.returns
-returns c = setting_end c.args.a c.args.b c.args.work.now c.loop-s.invariant c.loop-s-test.false
+returns c = setting_end c.args.part.now c.loop-s.invariant c.loop-s-test.false

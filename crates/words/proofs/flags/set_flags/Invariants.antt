@@ -4,4 +4,4 @@ use Rattle.words.specs.flags.Flags.{FlagsSet}
 use Rattle.words.proofs.flags.set_flags.Given as goal
 
 abbrev pub invariant-loop-s : goal.invariant-loop-s
-invariant-loop-s l = FlagsSet l.flag (take l.s-index l.s-items) l.initial.flags l.flags
+invariant-loop-s l = FlagsSet l.flag (take l.s-index l.part) l.initial.flags l.flags

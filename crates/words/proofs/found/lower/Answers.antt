@@ -6,12 +6,12 @@ use Rattle.words.proofs.found.lower.Goals as goal
 use Rattle.words.proofs.found.lower.Goals.{In-loop-lo}
 
 -- the places that are left lie within the list
-inside : (c : In-loop-lo) → c.loop-lo.hi ≤ length c.args.work.now
-inside c = omega (arith, c.loop-lo.invariant.high, c.requires.rising.within)
+inside : (c : In-loop-lo) → c.loop-lo.hi ≤ length c.args.part.now
+inside c = c.loop-lo.invariant.high
 
 pub loop-lo-init : goal.loop-lo-init
 loop-lo-init c =
-    halving_start c.args.a c.args.b c.args.x c.args.work.now c.requires.a_le_b
+    halving_start c.args.x c.args.part.now
 
 pub overflow_add-mid : goal.overflow_add-mid
 overflow_add-mid c = omega (arith, inside (goal.at.overflow_add-mid c).In-loop-lo, c.well_formed)
@@ -27,7 +27,7 @@ loop-lo-smaller-then-word_at-x c = omega (arith, c.loop-lo-test.true)
 
 pub loop-lo-preserved-then-word_at-x : goal.loop-lo-preserved-then-word_at-x
 loop-lo-preserved-then-word_at-x c =
-    halving_up c.requires.rising c.loop-lo.invariant (omega arith) (omega (arith, c.loop-lo-test.true))
+    halving_up c.requires c.loop-lo.invariant (omega arith) (omega (arith, c.loop-lo-test.true))
     (omega (arith, c.word_at.ensures.is, c.if-word_at-x.true))
 
 pub loop-lo-smaller : goal.loop-lo-smaller
@@ -35,7 +35,7 @@ loop-lo-smaller c = omega (arith, c.loop-lo-test.true)
 
 pub loop-lo-preserved : goal.loop-lo-preserved
 loop-lo-preserved c =
-    halving_down c.requires.rising c.loop-lo.invariant (omega arith) (omega (arith, c.loop-lo-test.true))
+    halving_down c.requires c.loop-lo.invariant (omega arith) (omega (arith, c.loop-lo-test.true))
     (omega (arith, c.word_at.ensures.is, c.if-word_at-x.false))
 
 pub returns : goal.returns

@@ -4,7 +4,7 @@ use Rattle.words.proofs.found.Halving.{Halving}
 use Rattle.words.proofs.found.lower.Given as goal
 
 abbrev pub invariant-loop-lo : goal.invariant-loop-lo
-invariant-loop-lo l = Halving l.a l.b l.x l.work l.lo l.hi
+invariant-loop-lo l = Halving l.x l.part l.lo l.hi
 
 abbrev pub decreases-loop-lo : goal.decreases-loop-lo
 decreases-loop-lo l = l.hi - l.lo

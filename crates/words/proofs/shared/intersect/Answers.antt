@@ -2,12 +2,13 @@
 -- flags of the first part keep of the second; the first part lies below what was written, so that its flags are found again and taken
 -- away.
 use Prim.Native.Nat.{ℕ}
-use mathlib.Core.Path.{◌≡◌, ◌∙◌}
+use mathlib.Core.Path.{◌≡◌, sym, ap, ◌∙◌}
 use lib.ListN.{length}
 use native.Mathlib.Omega.{arith}
 use Rattle.lists.specs.Lists.{memb, slice}
+use Rattle.lists.proofs.Slices.{slice_from}
 use Rattle.words.specs.flags.Flags.{flag_room, Flagged}
-use Rattle.words.proofs.flags.Flagging.{below_length, flagged_own, flags_put, flags_taken}
+use Rattle.words.proofs.flags.Flagging.{below_length, part_below, flagged_own, flagged_same, flags_put, flags_taken}
 use Rattle.words.proofs.shared.Sharing.{found_shared, kept_shared, below_changed, flagged_changed}
 use Rattle.words.proofs.shared.intersect.Goals as goal
 use Rattle.words.proofs.shared.intersect.Goals.{After-set_flags}
@@ -35,14 +36,16 @@ returns-then-is_far_shorter c =
     }
 
 pub set_flags-requires : goal.set_flags-requires
-set_flags-requires c = below_length c.args.flags.now c.requires.clear_2.size c.requires.below
+set_flags-requires c = part_below c.args.flags.now c.requires.clear_2.size c.requires.below
 
 -- the table is as long after the flagging, and has the flags of the first part
 flags_size : (c : After-set_flags) → length {A = ℕ} c.set_flags.new.flags ≡ flag_room
 flags_size c = c.set_flags.auto.flags ∙ c.requires.clear_2.size
 
 flags_are : (c : After-set_flags) → Flagged (λ s. memb s (slice c.args.a c.args.b c.args.work.now)) c.set_flags.new.flags
-flags_are c = flags_put c.requires.clear_2.none c.set_flags.ensures
+flags_are c =
+    let a = c.args in
+    flagged_same (flags_put c.requires.clear_2.none c.set_flags.ensures) (λ s. ap (memb s) (sym (slice_from a.a a.b a.work.now)))
 
 pub keep_flagged-r-requires : goal.keep_flagged-r-requires
 keep_flagged-r-requires c =
@@ -54,7 +57,7 @@ keep_flagged-r-requires c =
 
 pub set_flags-requires-2 : goal.set_flags-requires-2
 set_flags-requires-2 c =
-    below_length c.set_flags.new.flags (flags_size (goal.at.set_flags-requires-2 c).After-set_flags)
+    part_below c.set_flags.new.flags (flags_size (goal.at.set_flags-requires-2 c).After-set_flags)
     (below_changed c.args.a c.requires.apart.first c.keep_flagged-r.ensures.changed c.requires.below)
 
 pub returns : goal.returns
