@@ -27,23 +27,24 @@ pub struct Entered {
 // Enters a node: narrows its candidates and settles the left sets that have no child to visit. Then no candidate is left, and nothing
 // pairs below; or the limit is reached; or the only left set is paired at once; or those that end here are paired by path. None where
 // the budget is spent at the limit.
+#[inline(never)]
 pub fn enter_node(
     work: &mut [u32],
     flags: &mut [u8],
-    lay: Layout,
-    st: WalkSettings,
+    lay: &Layout,
+    st: &WalkSettings,
     node: &Scope,
     p: Progress,
 ) -> Option<Entered>
-    requires some_path { let n = node.now in SomePath (λ q path. GoesOn lay st q path work.old n.depth n.lo n.hi n.from n.to p) }
+    requires some_path { let n = node.now in SomePath (λ q path. GoesOn lay.now st.now q path work.old n.depth n.lo n.hi n.from n.to p) }
     requires clear_2 { Clear flags.old }
-    ensures entered { let n = node.now in (q : Query) (path : List ℕ) → GoesOn lay st q path work.old n.depth n.lo n.hi n.from n.to p
-        → NodeEntered lay st q path work.old work.new n.depth n.lo n.hi p result }
+    ensures entered { let n = node.now in (q : Query) (path : List ℕ) → GoesOn lay.now st.now q path work.old n.depth n.lo n.hi n.from n.to p
+        → NodeEntered lay.now st.now q path work.old work.new n.depth n.lo n.hi p result }
     ensures clear { Clear flags.new }
 {
     let limit = st.limit;
-    let rank = rank_on(work, lay, node.lo, node.depth - 1);
-    let part = narrow(work, flags, lay, node, rank);
+    let rank = rank_on(work, *lay, node.lo, node.depth - 1);
+    let part = narrow(work, flags, *lay, node, rank);
     let after = Scope {
         from: part.from,
         to: part.to,
@@ -51,7 +52,7 @@ pub fn enter_node(
     };
     if after.to <= after.from {
         let tally = p.tally;
-        let top = keep_list(work, lay, &after, p.top);
+        let top = keep_list(work, *lay, &after, p.top);
         return Some(Entered {
             at: Progress {
                 tally: tally,
@@ -63,7 +64,7 @@ pub fn enter_node(
         });
     }
     if limit <= after.depth {
-        let at = finish(work, lay, st, &after, p)?;
+        let at = finish(work, *lay, *st, &after, p)?;
         return Some(Entered {
             at: at,
             mid: after.hi,
@@ -71,8 +72,8 @@ pub fn enter_node(
             to: after.to,
         });
     }
-    if is_lone(work, lay, st, &after, p.top) {
-        let paired = pair_lone(work, lay, st, &after, p);
+    if is_lone(work, *lay, *st, &after, p.top) {
+        let paired = pair_lone(work, *lay, *st, &after, p);
         return Some(Entered {
             at: paired,
             mid: after.hi,
@@ -80,7 +81,7 @@ pub fn enter_node(
             to: after.to,
         });
     }
-    let settled = settle(work, lay, st, &after, p);
+    let settled = settle(work, *lay, *st, &after, p);
     let at = settled.at;
     Some(Entered {
         at: at,

@@ -46,7 +46,7 @@ pub fn visit_partition(
             from: first,
             to: first + seen,
         };
-        return visit_node(work, flags, lay, st, &node, p);
+        return visit_node(work, flags, &lay, &st, &node, p);
     }
     let node = Scope {
         depth: 1,
@@ -56,7 +56,7 @@ pub fn visit_partition(
         to: none,
     };
     if is_held(work, lay, key - 1) {
-        return visit_node(work, flags, lay, st, &node, p);
+        return visit_node(work, flags, &lay, &st, &node, p);
     }
     let tally = p.tally;
     let top = keep_list(work, lay, &node, p.top);

@@ -24,23 +24,23 @@ use kept_rows::Progress;
 pub fn visit_node(
     work: &mut [u32],
     flags: &mut [u8],
-    lay: Layout,
-    st: WalkSettings,
+    lay: &Layout,
+    st: &WalkSettings,
     node: &Scope,
     p: Progress,
 ) -> Option<Progress>
-    requires some_path { let n = node.now in SomePath (λ q path. Node lay st q path work.old n.depth n.lo n.hi n.from n.to p) }
+    requires some_path { let n = node.now in SomePath (λ q path. Node lay.now st.now q path work.old n.depth n.lo n.hi n.from n.to p) }
     requires clear_2 { Clear flags.old }
-    ensures visited { let n = node.now in (q : Query) (path : List ℕ) → Node lay st q path work.old n.depth n.lo n.hi n.from n.to p
-        → NodeVisited lay st q path work.old work.new n.depth n.lo n.hi p.tally result }
+    ensures visited { let n = node.now in (q : Query) (path : List ℕ) → Node lay.now st.now q path work.old n.depth n.lo n.hi n.from n.to p
+        → NodeVisited lay.now st.now q path work.old work.new n.depth n.lo n.hi p.tally result }
     ensures clear { Clear flags.new }
 {
     let rule = st.rule;
     let mut at = *node;
     let mut r = p;
     while at.lo < at.hi {
-        if !decide(work, lay, rule, &at) {
-            return check_block(work, lay, st, &at, at.depth - 1, r);
+        if !decide(work, *lay, rule, &at) {
+            return check_block(work, *lay, *st, &at, at.depth - 1, r);
         }
         let on = enter_node(work, flags, lay, st, &at, r)?;
         r = on.at;
@@ -48,7 +48,7 @@ pub fn visit_node(
             return Some(r);
         }
         let end = at.hi;
-        let heavy = heaviest_range(work, lay, at.depth, on.mid, end);
+        let heavy = heaviest_range(work, *lay, at.depth, on.mid, end);
         at.lo = on.mid;
         at.from = on.from;
         at.to = on.to;
@@ -71,21 +71,21 @@ pub fn visit_node(
 pub fn visit_children(
     work: &mut [u32],
     flags: &mut [u8],
-    lay: Layout,
-    st: WalkSettings,
+    lay: &Layout,
+    st: &WalkSettings,
     node: &Scope,
     p: Progress,
 ) -> Option<Progress>
-    requires some_path { let n = node.now in SomePath (λ q path. ChildrenAt lay st q path work.old n.depth n.lo n.hi n.from n.to p) }
+    requires some_path { let n = node.now in SomePath (λ q path. ChildrenAt lay.now st.now q path work.old n.depth n.lo n.hi n.from n.to p) }
     requires clear_2 { Clear flags.old }
-    ensures visited { let n = node.now in (q : Query) (path : List ℕ) → ChildrenAt lay st q path work.old n.depth n.lo n.hi n.from n.to p
-        → ChildrenVisited lay st q path work.old work.new n.depth n.lo n.hi p.tally result }
+    ensures visited { let n = node.now in (q : Query) (path : List ℕ) → ChildrenAt lay.now st.now q path work.old n.depth n.lo n.hi n.from n.to p
+        → ChildrenVisited lay.now st.now q path work.old work.new n.depth n.lo n.hi p.tally result }
     ensures clear { Clear flags.new }
 {
     let mut r = p;
     let mut i = node.lo;
     while i < node.hi {
-        let j = range_end(work, lay, node.depth, i, node.hi);
+        let j = range_end(work, *lay, node.depth, i, node.hi);
         let child = Scope {
             depth: node.depth + 1,
             lo: i,

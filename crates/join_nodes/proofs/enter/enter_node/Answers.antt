@@ -40,11 +40,11 @@ narrow-part-requires c =
 abbrev Begun : Start → Query → List ℕ → Type 0
 Begun s q path =
     let a = s.args in
-    GoesOn a.lay a.st q path a.work.now a.node.now.depth a.node.now.lo a.node.now.hi a.node.now.from a.node.now.to a.p
+    GoesOn a.lay.now a.st.now q path a.work.now a.node.now.depth a.node.now.lo a.node.now.hi a.node.now.from a.node.now.to a.p
 
 onward : (c : After-narrow-part) (q : Query) (path : List ℕ) → Begun (goal.at.After-narrow-part c).Start q path
     → let a = c.args in
-    Onward a.lay a.st q path a.work.now c.narrow-part.new.work a.node.now.depth a.node.now.lo a.node.now.hi a.node.now.from a.node.now.to a.p
+    Onward a.lay.now a.st.now q path a.work.now c.narrow-part.new.work a.node.now.depth a.node.now.lo a.node.now.hi a.node.now.from a.node.now.to a.p
     c.narrow-part.result a.p.top
 onward c q path going = onward_read going.node going.on c.rank_on-rank.ensures c.narrow-part.ensures.narrowed
 
@@ -107,9 +107,9 @@ pair_lone-paired-requires c =
     record {
       some_path = some_path c.requires.some_path
           (λ q path going.
-          subst (λ (n : ℕ). Going a.lay a.st q path w a.node.now.depth a.node.now.lo n p.from p.to a.p) lone.one
+          subst (λ (n : ℕ). Going a.lay.now a.st.now q path w a.node.now.depth a.node.now.lo n p.from p.to a.p) lone.one
           (onward_going (onward (goal.at.pair_lone-paired-requires c).After-narrow-part q path going)));
-      lone = subst (λ (n : ℕ). Lone a.lay a.st w a.node.now.lo n p.from p.to a.p.top) lone.one lone;
+      lone = subst (λ (n : ℕ). Lone a.lay.now a.st.now w a.node.now.lo n p.from p.to a.p.top) lone.one lone;
     }
 
 pub returns-then-is_lone : goal.returns-then-is_lone
@@ -124,11 +124,11 @@ returns-then-is_lone c =
           entered_over refl
           (limit_visited so
           (subst
-          (λ (n : ℕ). RangeVisited a.lay q a.st.budget a.lay.row_starts a.node.now.depth w c.pair_lone-paired.new.work a.node.now.lo n
+          (λ (n : ℕ). RangeVisited a.lay.now q a.st.now.budget a.lay.now.row_starts a.node.now.depth w c.pair_lone-paired.new.work a.node.now.lo n
           a.p.tally (Some c.pair_lone-paired.result))
           (sym lone.one)
           (c.pair_lone-paired.ensures q path
-          (subst (λ (n : ℕ). Going a.lay a.st q path w a.node.now.depth a.node.now.lo n p.from p.to a.p) lone.one
+          (subst (λ (n : ℕ). Going a.lay.now a.st.now q path w a.node.now.depth a.node.now.lo n p.from p.to a.p) lone.one
           (onward_going so)))));
       clear = c.narrow-part.ensures.clear;
     }

@@ -13,10 +13,10 @@ use Rattle.join_walk.proofs.visit.Descents.{Descending}
 use Rattle.join_walk.proofs.visit.+visit_children_visit_node.Given as goal
 
 abbrev pub decreases-visit_children : goal.decreases-visit_children
-decreases-visit_children l = 2 * (l.st.limit - l.node.now.depth)
+decreases-visit_children l = 2 * (l.st.now.limit - l.node.now.depth)
 
 abbrev pub decreases-visit_node : goal.decreases-visit_node
-decreases-visit_node l = 2 * (l.st.limit - l.node.now.depth) + 1
+decreases-visit_node l = 2 * (l.st.now.limit - l.node.now.depth) + 1
 
 abbrev pub invariant-visit_children-loop-i : goal.invariant-visit_children-loop-i
 invariant-visit_children-loop-i l =
