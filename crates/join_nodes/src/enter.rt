@@ -26,7 +26,7 @@ pub struct Entered {
 
 // Enters a node: narrows its candidates and settles the left sets that have no child to visit. Then no candidate is left, and nothing
 // pairs below; or the limit is reached; or the only left set is paired at once; or those that end here are paired by path. None where
-// the budget is spent at the limit.
+// the budget is spent at the limit. It is never inlined, so that its locals take stack once and not for each nested visit (D-53).
 #[inline(never)]
 pub fn enter_node(
     work: &mut [u32],
